@@ -21,8 +21,8 @@ use Rattle.overlap_law.specs.Reached.{Hosts}
 use Rattle.overlap_law.specs.Packets.{Wire}
 use Rattle.overlap_law.specs.Fates.{AttemptsAreOfIncarnations}
 use Rattle.overlap_law.specs.OpenWorks.{IsTheSame}
-use Rattle.overlap_law.specs.Sessions.{WorksAreApart}
-use Rattle.overlap_law.specs.Writers.{OnlyTheWriterWrites}
+use Rattle.overlap_law.specs.Sessions.{MakersAreApart}
+use Rattle.overlap_law.specs.Writers.{WorksMayWrite}
 use Rattle.overlap_law.specs.Grants.{writer_of}
 use Rattle.overlap_law.specs.Traffic.{IsBegunBy, OpenAttemptsHaveMessages}
 use Rattle.overlap_law.proofs.OpenAttempts.{WasOpen, open_of}
@@ -32,9 +32,9 @@ abbrev node_of_holder : Option Holder → ℕ
 node_of_holder None = 0
 node_of_holder (Some holder) = holder.node.0
 
-module _ (log : List Entry) (hosts hosts_after : Hosts) (wire : Wire) (attempts after : List AttemptRecord)
-    (of_incarnations : AttemptsAreOfIncarnations hosts wire attempts) (have : OpenAttemptsHaveMessages hosts_after) (apart : WorksAreApart hosts_after)
-    (writes : OnlyTheWriterWrites log hosts_after after) where
+module _ (log : List Entry) (hosts hosts_after : Hosts) (wire : Wire) (attempts : List AttemptRecord)
+    (of_incarnations : AttemptsAreOfIncarnations hosts wire attempts) (have : OpenAttemptsHaveMessages hosts_after) (apart : MakersAreApart hosts_after)
+    (writes : WorksMayWrite log hosts_after) where
   -- a create or write is open at a host that is up
   pub record IsOpenAt (n req : ℕ) (work : Work) (current : gateways.Attempt) : Type 0 where
     pub host : Host
@@ -81,10 +81,7 @@ module _ (log : List Entry) (hosts hosts_after : Hosts) (wire : Wire) (attempts 
       → tree.get one.host.node.gateway.works other ≡ Some second → is_making second.work ≡ true → oid_of work.work ≡ oid_of second.work
       → req ≢ other → ⊥
   one_request n req other work second current another one got making same differs =
-      let reads = apart.objects n one.host one.there one.up req other work second
-      (record { first_one = one.got; second_one = got; apart = differs }) same one.making in
-      let reading = reads.0 in
-      cc (reading, making)
+      apart n one.host one.there one.up req other work second (record { first_one = one.got; second_one = got; apart = differs }) one.making making same
 
   -- what stays open has smaller numbers than what begins
   not_begun : (n req : ℕ) (work : Work) (current : gateways.Attempt) → (stays : StaysOpen n req work current) → (k : ℕ)

@@ -19,8 +19,8 @@ use Rattle.overlap_law.specs.Packets.{Wire}
 use Rattle.overlap_law.specs.Fates.{FatesAreOfTheWire, AttemptsAreOfIncarnations, AttemptsAreOrdered}
 use Rattle.overlap_law.specs.Flight.{FatesAreTold}
 use Rattle.overlap_law.specs.OpenWorks.{IsTheSame, IsLast, OpenAttemptsAreLatest}
-use Rattle.overlap_law.specs.Sessions.{WorksAreApart}
-use Rattle.overlap_law.specs.Writers.{OnlyTheWriterWrites}
+use Rattle.overlap_law.specs.Sessions.{MakersAreApart}
+use Rattle.overlap_law.specs.Writers.{WorksMayWrite}
 use Rattle.overlap_law.specs.StepMoments.{attempts_with_loss}
 use Rattle.overlap_law.specs.MomentChanges.{MomentChange, RunsAreInRange}
 use Rattle.overlap_law.specs.Traffic.{IsBegunBy, BeginsInTurn, OpenAttemptsHaveMessages, Traffic, NothingMoves, MessageIsLost, ReplyIsReceived, RequestIsAnswered, RequestsAreSent, AttemptBegins, RepliesGo}
@@ -119,7 +119,7 @@ module _ (script : List Statement) (range : RunsAreInRange script) (start before
       traffic_ordered before.world.hosts after.world.hosts before.world.wire before.past.attempts of_incarnations (traffic script range start began change) begins.in_turn ordered
 
   pub keeps_latest : AttemptsAreOfIncarnations before.world.hosts before.world.wire before.past.attempts → OpenAttemptsHaveMessages after.world.hosts
-      → WorksAreApart after.world.hosts → OnlyTheWriterWrites after.world.log after.world.hosts after.past.attempts
+      → MakersAreApart after.world.hosts → WorksMayWrite after.world.log after.world.hosts
       → OpenAttemptsAreLatest before.world.hosts before.past.attempts → OpenAttemptsAreLatest after.world.hosts after.past.attempts
   keeps_latest of_incarnations have works_apart writes latest = record {
     each = λ n host there up req work current got making stage. ⊎_elim
@@ -129,7 +129,7 @@ module _ (script : List Statement) (range : RunsAreInRange script) (start before
         let (j, attempt, last, opened) = latest.each n old was_there was_up req w.was w.before w.there was_making w.stage in
         let (fates, still) = still_last before.world.hosts after.world.hosts before.world.wire after.world.wire before.past.attempts after.past.attempts (traffic script range start began change) j attempt last
         (λ k sends new begun same.
-        begins_alone after.world.log before.world.hosts after.world.hosts before.world.wire before.past.attempts after.past.attempts of_incarnations have works_apart writes
+        begins_alone after.world.log before.world.hosts after.world.hosts before.world.wire before.past.attempts of_incarnations have works_apart writes
         n req work current
         (record {
           now = record { host = host; there = there; up = up; got = got; making = making; stage = stage };

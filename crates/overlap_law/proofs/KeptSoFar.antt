@@ -28,6 +28,9 @@ use Rattle.overlap_law.proofs.CoursesOfScript.{requests-in_run}
 use Rattle.overlap_law.proofs.WholeInRuns.{whole-on_the_way}
 use Rattle.overlap_law.proofs.WaitedInRuns.{waited-in_run}
 use Rattle.overlap_law.proofs.RefusedInRuns.{refused_in_run}
+use Rattle.overlap_law.proofs.LatestInRuns.{latest-in_run}
+use Rattle.overlap_law.proofs.OrderedInRuns.{ordered-in_run}
+use Rattle.overlap_law.proofs.MakersApart.{sessions_apart-in_run, makers_apart-in_run}
 use Rattle.overlap_law.proofs.OneInodeWork.{one_inode_work-in_run}
 use Rattle.overlap_law.proofs.ApartInRuns.{begun_apart-in_run}
 use Rattle.overlap_law.proofs.GrantsOfCommands.{grants-in_run}
@@ -63,6 +66,8 @@ kept_so_far script range events moment is = record {
   epochs = terms-in_run script range events moment is;
   tied = run-kept script IsTied (kept_tied script range) events moment is;
   shaped = run-kept script AreShaped (kept_shaped script range) events moment is;
+  ordered = ordered-in_run script range events moment moment is moments.Still;
+  latest = latest-in_run script range events moment moment is moments.Still;
   whole = whole-on_the_way script range events moment moment is moments.Still;
   fates = worked-in_run script range events moment is;
   works = awaited-in_run script range events moment is;
@@ -76,6 +81,8 @@ kept_so_far script range events moment is = record {
   unanswered = without_reply-in_run script range events moment is;
   asked = requests-in_run script range events moment is;
   refused = refused_in_run script events moment is;
+  works_apart = sessions_apart-in_run script range events moment moment is moments.Still;
+  makers_apart = makers_apart-in_run script range events moment moment is moments.Still;
   inodes = one_inode_work-in_run script range events moment is;
   apart = begun_apart-in_run script range events moment is;
   may_write = works_may-in_run script range events moment moment is moments.Still;

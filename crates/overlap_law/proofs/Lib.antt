@@ -178,6 +178,10 @@ pub mod WorksInMoments
 pub mod WritersOfWorks
 pub mod WritersEnd
 pub mod TurnsInRuns
+pub mod LatestInRuns
+pub mod GatewaysCame
+pub mod QuietAsOneBegins
+pub mod OrderedInRuns
 pub mod RowsInTurn
 pub mod RecoveryViews
 pub mod StoredRows
@@ -213,6 +217,11 @@ pub mod ObjectsInRuns
 pub mod RangeOfFewObjects
 pub mod AskedMakers
 pub mod MakersInTraffic
+pub mod CoveredPieces
+pub mod CoveredCourses
+pub mod QueuesInMoments
+pub mod SessionsApart
+pub mod MakersApart
 pub mod UnitPieces
 pub mod ReadingLaws
 pub mod OwedAttempts

@@ -68,12 +68,15 @@ module _ (script : List Statement) where
       let (member, own, is) = opening_found script n host there in
       (first_empty script member.node).asked req request (ap (λ (h : Host). tree.get h.node.requests req) is ∙ got)
 
+  -- a script opens without works
+  pub no_works : (n : ℕ) (host : Host) → tree.get (first_moment script).world.hosts n ≡ Some host → (req : ℕ) (work : Work)
+      → tree.get host.node.gateway.works req ≡ Some work → ⊥
+  no_works n host there req work got =
+      no_request n host there req (tree.get host.node.requests req) refl
+      (((opening-together script).1 n host there).driven.open_works req work got)
+
   pub opening_has : OpenAttemptsHaveMessages (first_moment script).world.hosts
-  opening_has = record {
-    each = λ n host there up req work current got making stage.
-        absurd (no_request n host there req (tree.get host.node.requests req) refl
-        (((opening-together script).1 n host there).driven.open_works req work got));
-  }
+  opening_has = record { each = λ n host there up req work current got making stage. absurd (no_works n host there req work got) }
 
 module _ (script : List Statement) (range : RunsAreInRange script) where
   module _ (world : World) (began : Began script world) where

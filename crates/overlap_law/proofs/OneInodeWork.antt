@@ -15,7 +15,7 @@ use Rattle.overlap_law.proofs.NoRecoveredDue.{began-with_past}
 use Rattle.overlap_law.proofs.RoomOfSessions.{guests_sound}
 
 -- a line has one request in front
-one_on_inode : (node : Node) → HasOpenLines node → (session req other : ℕ) (work second : Work) (request another : Request)
+pub one_on_inode : (node : Node) → HasOpenLines node → (session req other : ℕ) (work second : Work) (request another : Request)
     → AreOpen node req work other second → AreOfOneSession node session req request other another
     → is_on_inode work.work ≡ true → is_on_inode second.work ≡ false
 one_on_inode node lines session req other work second request another are of_one on = by_kind (is_on_inode second.work) refl

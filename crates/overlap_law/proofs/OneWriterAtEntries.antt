@@ -19,7 +19,7 @@ use Rattle.overlap_law.proofs.DatedEffects.{last_epoch-push, last_epoch-most, ep
 use Rattle.overlap_law.proofs.WriterChanges.{entry_keeps_writer, entry_gives_writer, entry_gives_taken}
 
 -- what stands in a list stands in a longer one
-got_longer : {X : Type 0} (xs more : List X) (place : ℕ) (x : X) → slice_get xs place ≡ Some x → slice_get (xs ++ more) place ≡ Some x
+pub got_longer : {X : Type 0} (xs more : List X) (place : ℕ) (x : X) → slice_get xs place ≡ Some x → slice_get (xs ++ more) place ≡ Some x
 got_longer [] more place x got = absurd (cc (got))
 got_longer (y ∷ ys) more zero x got = got
 got_longer (y ∷ ys) more (suc place) x got = got_longer ys more place x got

@@ -48,7 +48,7 @@ use Rattle.overlap_law.proofs.WritersOfWorks.{works_may-after}
 pushed : {X : Type 0} (xs : List X) (x y : X) → xs ++ x ∷ [] ≡ xs ++ y ∷ [] → x ≡ y
 pushed xs x y same = same_Some x y (sym (at_push xs x) ∙ ap (λ all. slice_get all (length xs)) same ∙ at_push xs y)
 
-never_pushed : {X : Type 0} (xs : List X) (x : X) → xs ≡ xs ++ x ∷ [] → ⊥
+pub never_pushed : {X : Type 0} (xs : List X) (x : X) → xs ≡ xs ++ x ∷ [] → ⊥
 never_pushed xs x same =
     let some = at_push xs x in
     let none = at_end xs in
@@ -156,6 +156,21 @@ module _ (script : List Statement) (range : RunsAreInRange script) (start : Mome
   ends {before} {after} (moments.PhaseEnds event made happened h) tied awaited =
       none_put before after (ap (λ (m : EventOutcome). m.world.log) (sym h.made_so))
 
+  -- where the log is as the event began with, it was so before the change
+  log_before : {before after : MomentWithPast} → MomentChange script start before after → after.world.log ≡ start.world.log
+      → after.world.log ≡ before.world.log
+  log_before (moments.StepBegins stepping is by) same = same
+  log_before (moments.StepGoesOn stepping so_far next is by within) same = refl
+  log_before (moments.StepIsMade stepping is by) same = same
+  log_before (moments.LossIsUntold event made happened h) same = same
+  log_before (moments.DeliveryIsUnread event made happened h) same = same
+  log_before (moments.NodeIsLost event made happened h) same = same
+  log_before (moments.NodeLeaves event made happened h) same = same
+  log_before (moments.NodeIsReweighted event made happened h) same = same
+  log_before (moments.NodeJoins event made happened h) same = same
+  log_before (moments.NodeComesBack event made happened h) same = same
+  log_before (moments.PhaseEnds event made happened h) same = same
+
   -- ---- an attempt that begins
 
   module _ {before after : MomentWithPast} (change : MomentChange script start before after) where
@@ -177,16 +192,29 @@ module _ (script : List Statement) (range : RunsAreInRange script) (start : Mome
           since = omega (arith, since, epoch);
         })
 
-    begins : (attempt : AttemptRecord) → after.past.attempts ≡ before.past.attempts ++ attempt ∷ []
-        → IsUnderTheGrant after.world.log attempt (vid_of (object_of attempt))
-    begins attempt more = ⊎_elim
+    pub opened_at : (attempt : AttemptRecord) → after.past.attempts ≡ before.past.attempts ++ attempt ∷ [] → IsOpened script start after attempt
+    opened_at attempt more = ⊎_elim
         (λ (was : WasAttempt before (length before.past.attempts) attempt).
         let some = was.at in
         let none = at_end before.past.attempts in
         absurd (cc (none, some)))
-        (λ (opened : IsOpened script start after attempt). opened_writes attempt opened)
+        (λ (opened : IsOpened script start after attempt). opened)
         (come_from script range start began change (length before.past.attempts) attempt
         (ap (λ (all : List AttemptRecord). slice_get all (length before.past.attempts)) more ∙ at_push before.past.attempts attempt))
+
+    begins : (attempt : AttemptRecord) → after.past.attempts ≡ before.past.attempts ++ attempt ∷ []
+        → IsUnderTheGrant after.world.log attempt (vid_of (object_of attempt))
+    begins attempt more = opened_writes attempt (opened_at attempt more)
+
+    -- by then the log is as it was
+    opened_log : (attempt : AttemptRecord) → IsOpened script start after attempt → after.world.log ≡ start.world.log
+    opened_log attempt o = ap (λ (m : MomentWithPast). m.world.log) o.moment_so ∙ log-by_changes o.stepping.cause start.world.log o.by
+
+    pub begins_before : (attempt : AttemptRecord) → after.past.attempts ≡ before.past.attempts ++ attempt ∷ []
+        → IsUnderTheGrant before.world.log attempt (vid_of (object_of attempt))
+    begins_before attempt more =
+        subst (λ (log : List Entry). IsUnderTheGrant log attempt (vid_of (object_of attempt)))
+        (log_before change (opened_log attempt (opened_at attempt more))) (begins attempt more)
 
     pub turns_taken : IsTied before → PacketsAreOfOpenWorks before.world.hosts before.world.wire before.past.attempts
         → WritersTakeTurns before.world.log after.world.log before.world.wire before.past.attempts after.past.attempts
@@ -194,14 +222,14 @@ module _ (script : List Statement) (range : RunsAreInRange script) (start : Mome
 
 -- ---- every run
 
-record HasOneWriter (moment : MomentWithPast) : Type 0 where
-  tied : IsTied moment
-  awaited : PacketsAreOfOpenWorks moment.world.hosts moment.world.wire moment.past.attempts
-  begun : AttemptsHaveBegun moment.world.log moment.past.attempts
-  one : ThereIsOneWriter moment.world.log moment.world.wire moment.past.attempts
+pub record HasOneWriter (moment : MomentWithPast) : Type 0 where
+  pub tied : IsTied moment
+  pub awaited : PacketsAreOfOpenWorks moment.world.hosts moment.world.wire moment.past.attempts
+  pub begun : AttemptsHaveBegun moment.world.log moment.past.attempts
+  pub one : ThereIsOneWriter moment.world.log moment.world.wire moment.past.attempts
 
 module _ (script : List Statement) (range : RunsAreInRange script) where
-  kept_one : KeptByChanges script HasOneWriter
+  pub kept_one : KeptByChanges script HasOneWriter
   kept_one = record {
     opens = record {
       tied = (awaited_kept script range).opens.0;

@@ -5,13 +5,13 @@ use Rattle.vdi_directory.specs.Decisions.{log_effects}
 use Rattle.overlap_law.specs.Past.{MomentWithPast}
 use Rattle.overlap_law.specs.Groups.{FlightIsKept, TermsAreKept}
 use Rattle.overlap_law.specs.TiedAttempts.{IsTied}
-use Rattle.overlap_law.specs.Fates.{AttemptsAreWhole}
+use Rattle.overlap_law.specs.Fates.{AttemptsAreWhole, AttemptsAreOrdered}
 use Rattle.overlap_law.specs.ShapedAttempts.{AreShaped}
 use Rattle.overlap_law.specs.OpenWorks.{WorksKnowTheirFates, PacketsAreOfOpenWorks, ServedRequestsAreTouched, LosersAreTouched}
-use Rattle.overlap_law.specs.OpenWorks.{RefusedRequestsAreMute}
+use Rattle.overlap_law.specs.OpenWorks.{RefusedRequestsAreMute, OpenAttemptsAreLatest}
 use Rattle.overlap_law.specs.Traffic.{OpenAttemptsHaveMessages}
 use Rattle.overlap_law.specs.Writers.{WorksMayWrite, ThereIsOneWriter, AttemptsHaveBegun}
-use Rattle.overlap_law.specs.Sessions.{SessionsHaveOneInodeWork, BegunRequestsAreApart, OpenDisksAreHeld}
+use Rattle.overlap_law.specs.Sessions.{SessionsWorkApart, MakersAreApart, SessionsHaveOneInodeWork, BegunRequestsAreApart, OpenDisksAreHeld}
 use Rattle.overlap_law.specs.Courses.{WorksAreWaitedFor, CommandsKeepTheirGrants}
 use Rattle.overlap_law.specs.RequestsOfScript.{RequestsAreWithoutReply, RequestsAreTheScripts, AttemptsAreTheScripts, TheRefusedAreAnswered}
 use Rattle.overlap_law.specs.Holders.{is_live_object, targets_by}
@@ -25,6 +25,8 @@ pub record IsKeptSoFar (script : List Statement) (moment : MomentWithPast) : Typ
   pub epochs : TermsAreKept moment.world.log moment.world.hosts
   pub tied : IsTied moment
   pub shaped : AreShaped moment
+  pub ordered : AttemptsAreOrdered moment.world.wire moment.past.attempts
+  pub latest : OpenAttemptsAreLatest moment.world.hosts moment.past.attempts
   pub whole : AttemptsAreWhole (log_effects moment.world.log) moment.past.attempts
   pub fates : WorksKnowTheirFates moment.world.hosts moment.world.wire moment.past.attempts
   pub works : PacketsAreOfOpenWorks moment.world.hosts moment.world.wire moment.past.attempts
@@ -38,6 +40,8 @@ pub record IsKeptSoFar (script : List Statement) (moment : MomentWithPast) : Typ
   pub unanswered : RequestsAreWithoutReply script moment.world
   pub asked : RequestsAreTheScripts script moment.world
   pub refused : TheRefusedAreAnswered script moment.world moment.past.refused
+  pub works_apart : SessionsWorkApart moment.world.hosts
+  pub makers_apart : MakersAreApart moment.world.hosts
   pub inodes : SessionsHaveOneInodeWork moment.world.hosts
   pub apart : BegunRequestsAreApart moment.world.hosts
   pub may_write : WorksMayWrite moment.world.log moment.world.hosts

@@ -67,6 +67,18 @@ pub record HaveBegun (node : Node) (session : Session) (number : ℕ) (one two :
   pub driving : tree.get node.requests one.req ≡ Some (record { session = number; course = Driving first })
   pub driving_too : tree.get node.requests two.req ≡ Some (record { session = number; course = Driving second })
 
+-- no two open works of a session are on one object
+abbrev pub SessionsWorkApart : Hosts → Type 0
+SessionsWorkApart hosts =
+    EachUp hosts (λ n node. (session req other : ℕ) (work second : Work) (request another : Request) → AreOpen node req work other second
+    → AreOfOneSession node session req request other another → oid_of work.work ≢ oid_of second.work)
+
+-- no two open creates or writes of a node are on one object
+abbrev pub MakersAreApart : Hosts → Type 0
+MakersAreApart hosts =
+    EachUp hosts (λ n node. (req other : ℕ) (work second : Work) → AreOpen node req work other second → is_making work.work ≡ true
+    → is_making second.work ≡ true → oid_of work.work ≢ oid_of second.work)
+
 -- a session has one open work on its inode
 abbrev pub SessionsHaveOneInodeWork : Hosts → Type 0
 SessionsHaveOneInodeWork hosts =

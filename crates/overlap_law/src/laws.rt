@@ -35,8 +35,6 @@ ghost use Rattle.overlap_law.specs.Fates.{AttemptsAreOrdered};
 ghost use Rattle.overlap_law.specs.OpenWorks.{OpenAttemptsAreLatest, WorksKnowTheirFates, PacketsAreOfOpenWorks};
 ghost use Rattle.overlap_law.specs.OpenWorks.{MessagesTouchOrAreAwaited, ServedRequestsAreTouched, LosersAreTouched};
 ghost use Rattle.overlap_law.specs.OpenWorks.{RefusedRequestsAreMute};
-ghost use Rattle.overlap_law.specs.Sessions.{WorksAreApart};
-ghost use Rattle.overlap_law.specs.Writers.{OnlyTheWriterWrites};
 ghost use Rattle.overlap_law.specs.Flight.{FlyInThePast, RequestsAreOfThePast, PacketsAreAwaited, RepliersHaveCome, RepliesAreOfTheirEpoch};
 ghost use Rattle.overlap_law.specs.Flight.{TheGoneAreFenced};
 ghost use Rattle.overlap_law.specs.NodeEpochs.{TheUpAreMembers, NodesHaveRead, SettledIsRead, TheUpHaveStayed, LeaversAreBeyond};
@@ -157,16 +155,15 @@ pub fn the_wire_and_the_attempts_stay_tied()
         → run_with_past script events ≡ Some moment → IsTied moment }
 {}
 
-/// Two more conjuncts are kept by each change at which the attempts are tied, if the group of writers gives what is asked here. The
-/// attempts on an object stay in order, if one that begins does so in its turn. And open attempts stay the latest, if after the change
-/// each open create or write has a message, works are apart, and only the writer of an id has one on it.
+/// Two more conjuncts are kept by each change at which the attempts are tied. The attempts on an object stay in order, if one that begins
+/// does so in its turn. And open attempts stay the latest, if after the change each open create or write has a message. That they do holds
+/// of runs (`attempts_are_in_order`, `open_attempts_are_the_latest`).
 pub fn the_attempts_stay_in_order()
     ensures ordered { (script : List Statement) (start before after : MomentWithPast) → RunsAreInRange script → Began script start.world
         → MomentChange script start before after → IsTied before → BeginsInTurn before after
         → AttemptsAreOrdered before.world.wire before.past.attempts → AttemptsAreOrdered after.world.wire after.past.attempts }
     ensures latest { (script : List Statement) (start before after : MomentWithPast) → RunsAreInRange script → Began script start.world
         → MomentChange script start before after → IsTied before → OpenAttemptsHaveMessages after.world.hosts
-        → WorksAreApart after.world.hosts → OnlyTheWriterWrites after.world.log after.world.hosts after.past.attempts
         → OpenAttemptsAreLatest before.world.hosts before.past.attempts → OpenAttemptsAreLatest after.world.hosts after.past.attempts }
 {}
 

@@ -76,11 +76,12 @@ pub use with_asks::{
 };
 pub use works::{requests_of_nodes_are_the_scripts, the_attempts_are_whole, works_are_waited_for};
 pub use writers::{
-    a_session_has_one_inode_work, attempts_are_of_epochs_that_began, begun_requests_are_apart,
-    claims_of_sessions_are_kept, commands_keep_their_grants, each_attempt_is_for_a_request,
-    entries_of_commands_are_awaited, few_effects_change_the_writer,
-    grants_are_of_epochs_that_began, open_disks_are_held, open_disks_fit_commands,
-    open_works_may_write, requests_of_nodes_are_without_reply, scripts_of_a_text_have_room,
+    a_session_has_one_inode_work, attempts_are_in_order, attempts_are_of_epochs_that_began,
+    begun_requests_are_apart, claims_of_sessions_are_kept, commands_keep_their_grants,
+    each_attempt_is_for_a_request, entries_of_commands_are_awaited, few_effects_change_the_writer,
+    grants_are_of_epochs_that_began, makers_are_apart, open_attempts_are_the_latest,
+    open_disks_are_held, open_disks_fit_commands, open_works_may_write,
+    requests_of_nodes_are_without_reply, scripts_of_a_text_have_room,
     scripts_of_few_controls_have_room, the_refused_are_answered, the_writer_begins_in_turn,
-    there_is_one_writer, there_stays_one_writer,
+    there_is_one_writer, there_stays_one_writer, works_of_sessions_are_apart,
 };

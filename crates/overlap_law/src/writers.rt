@@ -14,15 +14,17 @@ ghost use Rattle.sheep_world.specs.World.{World};
 ghost use Rattle.sheep_world.specs.LogHolds.{MayGrow};
 ghost use Rattle.sheep_world.specs.HoldsTogether.{MessagesAreInRange};
 ghost use Rattle.overlap_law.specs.Attempts.{AttemptRecord};
-ghost use Rattle.overlap_law.specs.Grants.{gives, reserved_in, granted_in, published_in, given_to};
-ghost use Rattle.overlap_law.specs.Grants.{writer_of, takes_writer, may_take_writer};
+ghost use Rattle.overlap_law.specs.Grants.{gives, reserved_in, granted_in, published_in};
+ghost use Rattle.overlap_law.specs.Grants.{writer_of, takes_writer, may_take_writer, given_to};
 ghost use Rattle.overlap_law.specs.Packets.{Wire};
 ghost use Rattle.overlap_law.specs.Past.{MomentWithPast, run_with_past};
 ghost use Rattle.overlap_law.specs.MomentChanges.{MomentChange, MomentTrail, RunsAreInRange};
 ghost use Rattle.overlap_law.specs.Traffic.{IsInTurn};
-ghost use Rattle.overlap_law.specs.Sessions.{SessionsHaveOneInodeWork, BegunRequestsAreApart, OpenDisksAreHeld};
+ghost use Rattle.overlap_law.specs.Sessions.{SessionsWorkApart, MakersAreApart, SessionsHaveOneInodeWork};
+ghost use Rattle.overlap_law.specs.Sessions.{BegunRequestsAreApart, OpenDisksAreHeld};
 ghost use Rattle.overlap_law.specs.Writers.{WorksMayWrite, ThereIsOneWriter, AttemptsHaveBegun, WritersTakeTurns, IsInOwnTurn};
-ghost use Rattle.overlap_law.specs.OpenWorks.{PacketsAreOfOpenWorks};
+ghost use Rattle.overlap_law.specs.Fates.{AttemptsAreOrdered};
+ghost use Rattle.overlap_law.specs.OpenWorks.{PacketsAreOfOpenWorks, OpenAttemptsAreLatest};
 ghost use Rattle.overlap_law.specs.RequestsOfScript.{RequestsAreWithoutReply, AttemptsAreTheScripts, TheRefusedAreAnswered};
 ghost use Rattle.overlap_law.specs.TiedAttempts.{IsTied};
 ghost use Rattle.overlap_law.specs.RoomOfScripts.{HasFewControls};
@@ -190,9 +192,9 @@ pub fn open_works_may_write()
 {}
 
 /// There is one writer of each id: in each run in range an attempt is the writer's under its grant, or has nothing in flight and is of no
-/// later epoch than the grant, or its gateway's incarnation left before the grant. For an attempt that begins is of a session that may
-/// write the id; and at an entry by which a session loses an id nothing is in flight of its attempts on it, or the entry is the leave of
-/// its node. So it is at each moment on the way of an event, and at its end.
+/// later epoch than the bound, or its gateway's incarnation left in an epoch no later than that. For an attempt that begins is of a session
+/// that may write the id; and at an entry by which a session loses an id nothing is in flight of its attempts on it, or the entry is the
+/// leave of its node. So it is at each moment on the way of an event, and at its end.
 pub fn there_is_one_writer()
     ensures turns { (script : List Statement) (start before after : MomentWithPast) → RunsAreInRange script → Began script start.world
         → MomentChange script start before after → IsTied before
@@ -201,4 +203,38 @@ pub fn there_is_one_writer()
     ensures run { (script : List Statement) (events : List Event) (start moment : MomentWithPast) → RunsAreInRange script
         → run_with_past script events ≡ Some start → MomentTrail script start moment
         → ThereIsOneWriter moment.world.log moment.world.wire moment.past.attempts }
+{}
+
+/// In each run in range no two open works of a session are on one object: it has one work open on an inode, and its reads and writes that
+/// have begun are on indexes apart. So it is after each change of a moment: at each on the way of an event, and at its end.
+pub fn works_of_sessions_are_apart()
+    ensures change { (script : List Statement) (start before after : MomentWithPast) → RunsAreInRange script → Began script start.world
+        → MomentChange script start before after → SessionsWorkApart after.world.hosts }
+    ensures run { (script : List Statement) (events : List Event) (start moment : MomentWithPast) → RunsAreInRange script
+        → run_with_past script events ≡ Some start → MomentTrail script start moment → SessionsWorkApart moment.world.hosts }
+{}
+
+/// In each run in range no two open creates or writes of a node are on one object, as one session may write it. So it is after each change
+/// of a moment: at each on the way of an event, and at its end.
+pub fn makers_are_apart()
+    ensures change { (script : List Statement) (start before after : MomentWithPast) → RunsAreInRange script → Began script start.world
+        → MomentChange script start before after → MakersAreApart after.world.hosts }
+    ensures run { (script : List Statement) (events : List Event) (start moment : MomentWithPast) → RunsAreInRange script
+        → run_with_past script events ≡ Some start → MomentTrail script start moment → MakersAreApart moment.world.hosts }
+{}
+
+/// In each run in range the attempt that a create or write has open is the last on its object. So it is at each moment on the way of an
+/// event, and at its end.
+pub fn open_attempts_are_the_latest()
+    ensures { (script : List Statement) (events : List Event) (start moment : MomentWithPast) → RunsAreInRange script
+        → run_with_past script events ≡ Some start → MomentTrail script start moment
+        → OpenAttemptsAreLatest moment.world.hosts moment.past.attempts }
+{}
+
+/// In each run in range the attempts on an object are in order: what is in flight as one begins is of another object, or of earlier numbers
+/// of the same node's. So it is at each moment on the way of an event, and at its end.
+pub fn attempts_are_in_order()
+    ensures { (script : List Statement) (events : List Event) (start moment : MomentWithPast) → RunsAreInRange script
+        → run_with_past script events ≡ Some start → MomentTrail script start moment
+        → AttemptsAreOrdered moment.world.wire moment.past.attempts }
 {}
