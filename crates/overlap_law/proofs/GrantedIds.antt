@@ -274,7 +274,7 @@ module _ (log outbox : List Entry) (me : NodeId) (session epoch : ℕ) (old vid 
   abbrev snaps : Entry
   snaps = Snapshot me old vid
 
-  replaced_effect : (outcome (log_effects log) (Snapshot me old vid)).effect
+  pub replaced_effect : (outcome (log_effects log) (Snapshot me old vid)).effect
       ≡ effects.Snapped (record {
         old = old;
         vid = has.has.reservation.vid;

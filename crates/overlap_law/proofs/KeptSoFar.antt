@@ -35,7 +35,7 @@ use Rattle.overlap_law.proofs.OneInodeWork.{one_inode_work-in_run}
 use Rattle.overlap_law.proofs.ApartInRuns.{begun_apart-in_run}
 use Rattle.overlap_law.proofs.GrantsOfCommands.{grants-in_run}
 use Rattle.overlap_law.proofs.HeldDisks.{held-in_run}
-use Rattle.overlap_law.proofs.WritersOfWorks.{works_may-in_run}
+use Rattle.overlap_law.proofs.GrantedAttempts.{only_writer-in_run}
 use Rattle.overlap_law.proofs.TurnsInRuns.{one_writer-in_run}
 use Rattle.overlap_law.proofs.EpochLemmas.{run-changes_nothing}
 use Rattle.overlap_law.proofs.TurnsOfRows.{ends-in_run, one_open-in_run, apart-in_run}
@@ -85,7 +85,7 @@ kept_so_far script range events moment is = record {
   makers_apart = makers_apart-in_run script range events moment moment is moments.Still;
   inodes = one_inode_work-in_run script range events moment is;
   apart = begun_apart-in_run script range events moment is;
-  may_write = works_may-in_run script range events moment moment is moments.Still;
+  may_write = only_writer-in_run script range events moment moment is moments.Still;
   one_writer = one_writer-in_run script range events moment moment is moments.Still;
   held = held-in_run script range events moment moment is moments.Still;
   waited_for = waited-in_run script range events moment is;

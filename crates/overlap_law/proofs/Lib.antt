@@ -240,6 +240,11 @@ pub mod SinceInSteps
 pub mod SinceAtEntries
 pub mod SinceAtReadings
 pub mod ServedUnits
+pub mod CoveredPieces
+pub mod CoveredCourses
+pub mod QueuesInMoments
+pub mod SessionsApart
+pub mod MakersApart
 pub mod FewerObjects
 mod BornStays
 pub mod BornInRuns
@@ -287,3 +292,15 @@ pub mod PlacedInMoments
 pub mod ServedCreates
 pub mod BegunRows
 pub mod BegunInMoments
+pub mod GivenByEntries
+pub mod GrantsAtPuts
+pub mod MakingCourses
+pub mod GrantedAttempts
+pub mod ClosedSnapshots
+pub mod OpenInSteps
+pub mod GatewayEpochs
+pub mod ReadsApart
+pub mod LastReads
+pub mod MadeEffects
+pub mod SnapshotChains
+pub mod WorksApart

@@ -32,7 +32,7 @@ module _ (log : List Entry) (entry : Entry) where
   does = (outcome (log_effects log) entry).effect
 
   -- a leave that stands in the log stays there
-  leave_stays : (node incarnation left : ℕ) → leave_of log node incarnation ≡ Some left → leave_of longer node incarnation ≡ Some left
+  pub leave_stays : (node incarnation left : ℕ) → leave_of log node incarnation ≡ Some left → leave_of longer node incarnation ≡ Some left
   leave_stays node incarnation left is =
       ap (λ (all : List ℕ). slice_get all (incarnation - 1)) (leaves-push log entry node)
       ∙ got_longer (leaves_of log node)
@@ -75,7 +75,7 @@ module _ (log : List Entry) (entry : Entry) where
         inr (kept.0, kept.2, (kept.1, grant_as_before kept.3)))
         (newest_if (gives vid does) refl (writer_of (log_effects longer) vid) refl)
 
-    bound_most : bound_of log vid ≤ epoch_of log
+    pub bound_most : bound_of log vid ≤ epoch_of log
     bound_most = by_writer (writer_of (log_effects log) vid)
       where
         by_writer : (o : Option Holder) → cond (is_some o) (granted_in log vid) (epoch_of log) ≤ epoch_of log

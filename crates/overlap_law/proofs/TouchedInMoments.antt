@@ -44,7 +44,7 @@ use Rattle.overlap_law.proofs.UnansweredInMoments.{IsNewer, newer_joined, newer_
 
 -- ---- what leaves the requests as they are
 
-received_requests : (cause : NodeCause) (node : Node) → StepsByChanges cause → (input_received (input_of_cause cause) (at_first node)).node.requests ≡ node.requests
+pub received_requests : (cause : NodeCause) (node : Node) → StepsByChanges cause → (input_received (input_of_cause cause) (at_first node)).node.requests ≡ node.requests
 unfolding entry_read
 received_requests (GuestAsks session req ask) node by = refl
 received_requests (RequestComes name to request) node by = absurd by
@@ -67,7 +67,7 @@ put_requests : (outbox : List Entry) (node : Node) → (on_put outbox (at_first 
 put_requests [] node = refl
 put_requests (entry ∷ later) node = refl
 
-made_requests : (cause : NodeCause) (node : Node) → StepsAtOnce cause → (node_step (input_of_cause cause) node).node.requests ≡ node.requests
+pub made_requests : (cause : NodeCause) (node : Node) → StepsAtOnce cause → (node_step (input_of_cause cause) node).node.requests ≡ node.requests
 unfolding node_step on_input on_request on_recover_tick
 made_requests (GuestAsks session req ask) node by = absurd by
 made_requests (RequestComes name to request) node by = due_requests (on_request request (at_first node))

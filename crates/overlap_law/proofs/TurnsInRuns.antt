@@ -45,7 +45,7 @@ use Rattle.overlap_law.proofs.WritersEnd.{ends_put}
 use Rattle.overlap_law.proofs.WritersOfWorks.{works_may-after}
 
 -- what is pushed
-pushed : {X : Type 0} (xs : List X) (x y : X) → xs ++ x ∷ [] ≡ xs ++ y ∷ [] → x ≡ y
+pub pushed : {X : Type 0} (xs : List X) (x y : X) → xs ++ x ∷ [] ≡ xs ++ y ∷ [] → x ≡ y
 pushed xs x y same = same_Some x y (sym (at_push xs x) ∙ ap (λ all. slice_get all (length xs)) same ∙ at_push xs y)
 
 pub never_pushed : {X : Type 0} (xs : List X) (x : X) → xs ≡ xs ++ x ∷ [] → ⊥
@@ -112,7 +112,7 @@ module _ (script : List Statement) (range : RunsAreInRange script) (start : Mome
 
   -- ---- each change
 
-  up_not_lost : (host : Host) → is_host_up host ≡ true → host.is_lost ≡ false
+  pub up_not_lost : (host : Host) → is_host_up host ≡ true → host.is_lost ≡ false
   up_not_lost host up = not-true host.is_lost (and_parts (not host.is_lost) (has_numbers host.node) up).0
 
   stepped_ends : PacketsAreOfOpenWorks start.world.hosts start.world.wire start.past.attempts → (n : ℕ) (host : Host)
@@ -174,7 +174,7 @@ module _ (script : List Statement) (range : RunsAreInRange script) (start : Mome
   -- ---- an attempt that begins
 
   module _ {before after : MomentWithPast} (change : MomentChange script start before after) where
-    opened_writes : (attempt : AttemptRecord) → IsOpened script start after attempt → IsUnderTheGrant after.world.log attempt (vid_of (object_of attempt))
+    pub opened_writes : (attempt : AttemptRecord) → IsOpened script start after attempt → IsUnderTheGrant after.world.log attempt (vid_of (object_of attempt))
     opened_writes attempt o =
         let then = host_with_node o.stepping.host o.next.node in
         let at : tree.get after.world.hosts o.stepping.n ≡ Some then

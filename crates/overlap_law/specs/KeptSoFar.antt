@@ -10,7 +10,8 @@ use Rattle.overlap_law.specs.ShapedAttempts.{AreShaped}
 use Rattle.overlap_law.specs.OpenWorks.{WorksKnowTheirFates, PacketsAreOfOpenWorks, ServedRequestsAreTouched, LosersAreTouched}
 use Rattle.overlap_law.specs.OpenWorks.{RefusedRequestsAreMute, OpenAttemptsAreLatest}
 use Rattle.overlap_law.specs.Traffic.{OpenAttemptsHaveMessages}
-use Rattle.overlap_law.specs.Writers.{WorksMayWrite, ThereIsOneWriter, AttemptsHaveBegun}
+use Rattle.overlap_law.specs.Writers.{WorksMayWrite, ThereIsOneWriter, AttemptsHaveBegun, OnlyTheWriterWrites}
+use Rattle.overlap_law.specs.Fates.{AttemptsAreOrdered}
 use Rattle.overlap_law.specs.Sessions.{SessionsWorkApart, MakersAreApart, SessionsHaveOneInodeWork, BegunRequestsAreApart, OpenDisksAreHeld}
 use Rattle.overlap_law.specs.Courses.{WorksAreWaitedFor, CommandsKeepTheirGrants}
 use Rattle.overlap_law.specs.RequestsOfScript.{RequestsAreWithoutReply, RequestsAreTheScripts, AttemptsAreTheScripts, TheRefusedAreAnswered}
@@ -44,7 +45,7 @@ pub record IsKeptSoFar (script : List Statement) (moment : MomentWithPast) : Typ
   pub makers_apart : MakersAreApart moment.world.hosts
   pub inodes : SessionsHaveOneInodeWork moment.world.hosts
   pub apart : BegunRequestsAreApart moment.world.hosts
-  pub may_write : WorksMayWrite moment.world.log moment.world.hosts
+  pub may_write : OnlyTheWriterWrites moment.world.log moment.world.hosts moment.past.attempts
   pub one_writer : ThereIsOneWriter moment.world.log moment.world.wire moment.past.attempts
   pub held : OpenDisksAreHeld moment.world.log moment.world.hosts
   pub waited_for : WorksAreWaitedFor (log_effects moment.world.log) (λ (id : ℕ). false) moment.world.hosts moment.past.attempts

@@ -48,3 +48,5 @@ pub mod WriterClaims
 pub mod RowsInRange
 pub mod BornObjects
 pub mod HeldLevels
+pub mod GrantedAttempts
+pub mod LastReads

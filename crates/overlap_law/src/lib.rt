@@ -35,53 +35,104 @@ mod with_asks;
 mod works;
 mod writers;
 
-pub use bytes::{
-    copies_stay_of_attempts, rows_have_what_they_owe_as_attempts_begin,
-    rows_have_what_they_owe_as_entries_are_read, served_rows_have_what_they_owe,
-    what_a_node_passed_by_is_doomed,
-};
-pub use heart::{
-    a_finished_list_is_complete, attempts_stay_carried, no_row_is_of_an_earlier_level,
-    no_search_has_passed_what_is_made, recovered_rows_stay_kept, what_is_good_has_targets,
-    what_is_made_is_held, what_was_passed_lacks_rows,
-};
+pub use bytes::copies_stay_of_attempts;
+pub use bytes::rows_have_what_they_owe_as_attempts_begin;
+pub use bytes::rows_have_what_they_owe_as_entries_are_read;
+pub use bytes::served_rows_have_what_they_owe;
+pub use bytes::what_a_node_passed_by_is_doomed;
+pub use heart::a_finished_list_is_complete;
+pub use heart::attempts_stay_carried;
+pub use heart::no_row_is_of_an_earlier_level;
+pub use heart::no_search_has_passed_what_is_made;
+pub use heart::recovered_rows_stay_kept;
+pub use heart::what_is_good_has_targets;
+pub use heart::what_is_made_is_held;
+pub use heart::what_was_passed_lacks_rows;
 pub use kept_event::keeps_overlap;
-pub use laws::{
-    a_base_is_made, an_attempt_begins_where_one_opens, an_event_is_a_trail_of_changes,
-    attempts_of_the_refused_are_mute, each_change_is_of_a_kind_of_traffic,
-    each_target_has_its_fate, epochs_and_nodes_are_kept, gateways_know_the_fates,
-    members_stay_until_they_are_lost, messages_touch_their_requests,
-    no_read_of_what_was_borne_is_left_out, nodes_have_rows_of_few_objects,
-    nodes_step_on_what_they_may, open_works_have_messages, other_attempts_hear_nothing,
-    packets_are_of_open_works, peers_of_another_epoch_change_nothing,
-    recoveries_are_of_members_that_came, refused_requests_make_nothing,
-    runs_of_few_controls_are_in_range, the_attempts_are_shaped, the_attempts_stay_in_order,
-    the_past_follows_the_run, the_recovered_have_all, the_wire_and_the_attempts_stay_tied,
-    the_wire_is_kept, the_wire_is_linked, units_follow_each_other, what_becomes_of_an_attempt,
-    what_is_asked_is_of_the_past, what_is_doomed_stays_doomed, what_is_made_stays_made,
-    what_nodes_have_read_is_of_the_log, who_joins_is_new,
-};
-pub use overlap::{
-    a_script_opens_with_the_overlap, the_messages_of_the_gone_are_fenced,
-    the_overlap_gives_complete_lists, the_overlap_gives_holders, the_overlap_gives_legal_replies,
-    the_overlap_holds_of_fewer, the_overlap_makes_attempts_stand, the_settled_have_recovered,
-};
-pub use rows::{
-    requests_are_of_attempts, rows_are_at_targets, rows_are_begun, rows_are_whole,
-    rows_stand_in_turn, served_rows_stay, what_nodes_have_was_born,
-};
-pub use with_asks::{
-    a_clients_read_makes_nothing, a_run_with_asks_has_its_past, what_a_clients_read_keeps,
-    what_is_owed_gives_the_headline, what_runs_with_asks_keep,
-};
-pub use works::{requests_of_nodes_are_the_scripts, the_attempts_are_whole, works_are_waited_for};
-pub use writers::{
-    a_session_has_one_inode_work, attempts_are_in_order, attempts_are_of_epochs_that_began,
-    begun_requests_are_apart, claims_of_sessions_are_kept, commands_keep_their_grants,
-    each_attempt_is_for_a_request, entries_of_commands_are_awaited, few_effects_change_the_writer,
-    grants_are_of_epochs_that_began, makers_are_apart, open_attempts_are_the_latest,
-    open_disks_are_held, open_disks_fit_commands, open_works_may_write,
-    requests_of_nodes_are_without_reply, scripts_of_a_text_have_room,
-    scripts_of_few_controls_have_room, the_refused_are_answered, the_writer_begins_in_turn,
-    there_is_one_writer, there_stays_one_writer, works_of_sessions_are_apart,
-};
+pub use laws::a_base_is_made;
+pub use laws::an_attempt_begins_where_one_opens;
+pub use laws::an_event_is_a_trail_of_changes;
+pub use laws::attempts_of_the_refused_are_mute;
+pub use laws::each_change_is_of_a_kind_of_traffic;
+pub use laws::each_target_has_its_fate;
+pub use laws::epochs_and_nodes_are_kept;
+pub use laws::gateways_know_the_fates;
+pub use laws::members_stay_until_they_are_lost;
+pub use laws::messages_touch_their_requests;
+pub use laws::no_read_of_what_was_borne_is_left_out;
+pub use laws::nodes_have_rows_of_few_objects;
+pub use laws::nodes_step_on_what_they_may;
+pub use laws::open_works_have_messages;
+pub use laws::other_attempts_hear_nothing;
+pub use laws::packets_are_of_open_works;
+pub use laws::peers_of_another_epoch_change_nothing;
+pub use laws::recoveries_are_of_members_that_came;
+pub use laws::refused_requests_make_nothing;
+pub use laws::runs_of_few_controls_are_in_range;
+pub use laws::the_attempts_are_shaped;
+pub use laws::the_attempts_stay_in_order;
+pub use laws::the_past_follows_the_run;
+pub use laws::the_recovered_have_all;
+pub use laws::the_wire_and_the_attempts_stay_tied;
+pub use laws::the_wire_is_kept;
+pub use laws::the_wire_is_linked;
+pub use laws::units_follow_each_other;
+pub use laws::what_becomes_of_an_attempt;
+pub use laws::what_is_asked_is_of_the_past;
+pub use laws::what_is_doomed_stays_doomed;
+pub use laws::what_is_made_stays_made;
+pub use laws::what_nodes_have_read_is_of_the_log;
+pub use laws::who_joins_is_new;
+pub use overlap::a_script_opens_with_the_overlap;
+pub use overlap::the_messages_of_the_gone_are_fenced;
+pub use overlap::the_overlap_gives_complete_lists;
+pub use overlap::the_overlap_gives_holders;
+pub use overlap::the_overlap_gives_legal_replies;
+pub use overlap::the_overlap_holds_of_fewer;
+pub use overlap::the_overlap_makes_attempts_stand;
+pub use overlap::the_settled_have_recovered;
+pub use rows::requests_are_of_attempts;
+pub use rows::rows_are_at_targets;
+pub use rows::rows_are_begun;
+pub use rows::rows_are_whole;
+pub use rows::rows_stand_in_turn;
+pub use rows::served_rows_stay;
+pub use rows::what_nodes_have_was_born;
+pub use with_asks::a_clients_read_makes_nothing;
+pub use with_asks::a_run_with_asks_has_its_past;
+pub use with_asks::what_a_clients_read_keeps;
+pub use with_asks::what_is_owed_gives_the_headline;
+pub use with_asks::what_runs_with_asks_keep;
+pub use works::requests_of_nodes_are_the_scripts;
+pub use works::the_attempts_are_whole;
+pub use works::works_are_waited_for;
+pub use writers::a_session_has_one_inode_work;
+pub use writers::attempts_are_in_order;
+pub use writers::attempts_are_of_epochs_that_began;
+pub use writers::attempts_are_of_the_past;
+pub use writers::attempts_are_under_the_grant;
+pub use writers::begun_requests_are_apart;
+pub use writers::claims_of_sessions_are_kept;
+pub use writers::commands_keep_their_grants;
+pub use writers::each_attempt_is_for_a_request;
+pub use writers::entries_of_commands_are_awaited;
+pub use writers::few_effects_change_the_writer;
+pub use writers::grants_are_of_epochs_that_began;
+pub use writers::makers_are_apart;
+pub use writers::only_the_writer_writes;
+pub use writers::open_attempts_are_the_latest;
+pub use writers::open_disks_are_held;
+pub use writers::open_disks_fit_commands;
+pub use writers::open_reads_are_the_last;
+pub use writers::open_works_may_write;
+pub use writers::requests_of_nodes_are_without_reply;
+pub use writers::scripts_of_a_text_have_room;
+pub use writers::scripts_of_few_controls_have_room;
+pub use writers::snapshots_are_closed;
+pub use writers::snapshots_stay;
+pub use writers::the_refused_are_answered;
+pub use writers::the_writer_begins_in_turn;
+pub use writers::there_is_one_writer;
+pub use writers::there_stays_one_writer;
+pub use writers::works_are_apart;
+pub use writers::works_of_sessions_are_apart;

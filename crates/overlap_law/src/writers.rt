@@ -20,9 +20,9 @@ ghost use Rattle.overlap_law.specs.Packets.{Wire};
 ghost use Rattle.overlap_law.specs.Past.{MomentWithPast, run_with_past};
 ghost use Rattle.overlap_law.specs.MomentChanges.{MomentChange, MomentTrail, RunsAreInRange};
 ghost use Rattle.overlap_law.specs.Traffic.{IsInTurn};
-ghost use Rattle.overlap_law.specs.Sessions.{SessionsWorkApart, MakersAreApart, SessionsHaveOneInodeWork};
+ghost use Rattle.overlap_law.specs.Sessions.{SessionsWorkApart, MakersAreApart, SessionsHaveOneInodeWork, WorksAreApart, ReadsAreLast};
 ghost use Rattle.overlap_law.specs.Sessions.{BegunRequestsAreApart, OpenDisksAreHeld};
-ghost use Rattle.overlap_law.specs.Writers.{WorksMayWrite, ThereIsOneWriter, AttemptsHaveBegun, WritersTakeTurns, IsInOwnTurn};
+ghost use Rattle.overlap_law.specs.Writers.{WorksMayWrite, ThereIsOneWriter, AttemptsHaveBegun, WritersTakeTurns, IsInOwnTurn, OnlyTheWriterWrites};
 ghost use Rattle.overlap_law.specs.Fates.{AttemptsAreOrdered};
 ghost use Rattle.overlap_law.specs.OpenWorks.{PacketsAreOfOpenWorks, OpenAttemptsAreLatest};
 ghost use Rattle.overlap_law.specs.RequestsOfScript.{RequestsAreWithoutReply, AttemptsAreTheScripts, TheRefusedAreAnswered};
@@ -32,6 +32,10 @@ ghost use Rattle.overlap_law.specs.AwaitedEntries.{CommandEntriesAreAwaited, Com
 ghost use Rattle.overlap_law.specs.CommandDisks.{OpenDisksFitCommands};
 ghost use Rattle.overlap_law.specs.WriterClaims.{ClaimsAreKept};
 ghost use Rattle.overlap_law.specs.Courses.{CommandsKeepTheirGrants};
+ghost use Rattle.vdi_directory.specs.Chains.{is_above};
+ghost use Rattle.vdi_directory.specs.States.{state_of, is_live_state};
+ghost use Rattle.overlap_law.specs.GrantedAttempts.{AttemptsAreUnderTheGrant};
+ghost use Rattle.overlap_law.specs.LastReads.{was_snapped, snapped_in, SnapshotsAreClosed, AttemptsAreOfThePast, ReadsAreKnown};
 
 /// In each world that a run of a script with few controls reaches there is room for one epoch more: an epoch begins only by a control, or
 /// by the leave of a member, which was there at first or came by a control.
@@ -237,4 +241,66 @@ pub fn attempts_are_in_order()
     ensures { (script : List Statement) (events : List Event) (start moment : MomentWithPast) → RunsAreInRange script
         → run_with_past script events ≡ Some start → MomentTrail script start moment
         → AttemptsAreOrdered moment.world.wire moment.past.attempts }
+{}
+
+/// In each run in range the attempts of a request that may still make something are of the grant's epoch or later, on each id that its
+/// session may write. For an entry that gives a session an id is asked for by the session's command before its first work, or is its last
+/// entry; so no attempt of a request is older than a grant that the request finds. So it is at each moment on the way of an event, and at
+/// its end.
+pub fn attempts_are_under_the_grant()
+    ensures { (script : List Statement) (events : List Event) (start moment : MomentWithPast) → RunsAreInRange script
+        → run_with_past script events ≡ Some start → MomentTrail script start moment
+        → AttemptsAreUnderTheGrant moment.world.log moment.world.hosts moment.past.attempts }
+{}
+
+/// Only the writer of an id has creates and writes open on it: in each run in range an open create or write is of a request whose session
+/// is the writer of the object's id, has no unlock of it to put, and whose node has read the grant; and the attempts of that work are of
+/// the grant's epoch or later. So it is at each moment on the way of an event, and at its end.
+pub fn only_the_writer_writes()
+    ensures { (script : List Statement) (events : List Event) (start moment : MomentWithPast) → RunsAreInRange script
+        → run_with_past script events ≡ Some start → MomentTrail script start moment
+        → OnlyTheWriterWrites moment.world.log moment.world.hosts moment.past.attempts }
+{}
+
+/// Of whatever log: a disk becomes a snapshot once, and stays one. An id above another that is published and not deleted is a snapshot's.
+pub fn snapshots_stay()
+    ensures once { (log more : List Entry) (vid : ℕ) → was_snapped log vid ≡ true
+        → (was_snapped (log ++ more) vid ≡ true) × (snapped_in (log ++ more) vid ≡ snapped_in log vid) }
+    ensures above { (log : List Entry) (elder vid : ℕ) → is_above (log_effects log) elder vid ≡ true
+        → is_live_state (state_of (log_effects log) vid) ≡ true → was_snapped log elder ≡ true }
+{}
+
+/// Nothing begins on a disk that became a snapshot: in each run in range an attempt on one has ended in an epoch no later than that in
+/// which it became one, or is of a gateway that left before. So it is at each moment on the way of an event, and at its end.
+pub fn snapshots_are_closed()
+    ensures { (script : List Statement) (events : List Event) (start moment : MomentWithPast) → RunsAreInRange script
+        → run_with_past script events ≡ Some start → MomentTrail script start moment
+        → SnapshotsAreClosed moment.world.log moment.world.wire moment.past.attempts }
+{}
+
+/// In each run in range an attempt is of an epoch that its gateway came to, at each moment on the way of an event, and at its end.
+pub fn attempts_are_of_the_past()
+    ensures { (script : List Statement) (events : List Event) (start moment : MomentWithPast) → RunsAreInRange script
+        → run_with_past script events ≡ Some start → MomentTrail script start moment
+        → AttemptsAreOfThePast moment.world.hosts moment.past.attempts }
+{}
+
+/// In each run in range no attempt on an object is of a later epoch than an open read of it by a session, nor of the same epoch while
+/// something of it is in flight, if after each change of a moment each such read is on an id that its session may write, or on a disk that
+/// became a snapshot by what the node has read. So it is at each moment on the way of an event, and at its end.
+pub fn open_reads_are_the_last()
+    ensures { (script : List Statement) (events : List Event) (start moment : MomentWithPast) → RunsAreInRange script
+        → ((first before after : MomentWithPast) → Began script first.world → MomentChange script first before after
+        → ReadsAreKnown after.world.log after.world.hosts)
+        → run_with_past script events ≡ Some start → MomentTrail script start moment
+        → ReadsAreLast moment.world.hosts moment.world.wire moment.past.attempts }
+{}
+
+/// In each run in range beside an open create or write a node has on its object no other open work but what a client reads, a session has
+/// one open work on its inode, and its reads and writes that have begun have no index in common, if each open read of a session is on an id
+/// that its session may write, or on a disk that became a snapshot by what the node has read.
+pub fn works_are_apart()
+    ensures { (script : List Statement) (events : List Event) (moment : MomentWithPast) → RunsAreInRange script
+        → run_with_past script events ≡ Some moment → ReadsAreKnown moment.world.log moment.world.hosts
+        → WorksAreApart moment.world.hosts }
 {}

@@ -1,0 +1,283 @@
+-- Over a change of a moment a request that hasn't made all that it makes was there before, of the same session, and hadn't made all then; or the
+-- event begins with it.
+use Rattle.std.proofs.Common.{◌≡◌, ◌≢◌, ◌⊎◌, inl, inr, ⊎_elim, ℕ, Bool, true, false, List, Option, Some, None, refl, sym, ap, subst, ◌∙◌}
+use Rattle.std.specs.FinMap as tree
+use Rattle.std.proofs.lemmas.Bool.{cases_eq}
+use Rattle.proof_tools.proofs.FiniteMaps.{get-remove_same, get-remove_other, get-insert_same, get-insert_cases, insert-insert}
+use Rattle.object_id.specs.declared.cause.Cause.{Cause}
+use Rattle.object_id.specs.declared.cause.Cause.TheVariants.{Halt}
+use Rattle.inode.specs.Layout.{Content}
+use Rattle.cluster_script.specs.declared.statement.Statement.{Statement}
+use Rattle.peer_proto.specs.declared.guest.GuestRsp.{GuestRsp}
+use Rattle.peer_proto.specs.declared.guest.VdiAsk.TheVariants as disk_commands
+use Rattle.vdi_directory.specs.declared.decision.Decision.{Decision}
+use Rattle.vdi_directory.specs.declared.effect.Effect.{Effect}
+use Rattle.peer_service.specs.State.{effects_of}
+use Rattle.peer_service.specs.LogReading.{decision_on}
+use Rattle.gateway.specs.Work.{zones_for}
+use Rattle.gateway.specs.State.{Work}
+use Rattle.guest_driver.specs.Driver as drivers
+use Rattle.disk_check.specs.Check.{begin_check}
+use Rattle.vdi_ops.specs.Op as ops
+use Rattle.vdi_ops.specs.Op.{Op, OpStage, Asked, Working, Publishing, Answered}
+use Rattle.vdi_ops.specs.Steps.{done_at, decided_at, op_on_done, on_decision}
+use Rattle.sheep_node.specs.declared.ask.Ask.{Ask}
+use Rattle.sheep_node.specs.declared.ask.Ask.TheVariants as asks
+use Rattle.sheep_node.specs.declared.course.Course.{Course}
+use Rattle.sheep_node.specs.declared.course.Request.{Request}
+use Rattle.sheep_node.specs.declared.course.Course.TheVariants.{Waiting, Driving, Commanding, Checking, DoingWork, AwaitingDecision}
+use Rattle.sheep_node.specs.declared.input.Input.{Input}
+use Rattle.sheep_node.specs.declared.input.Input.TheVariants as inputs
+use Rattle.sheep_node.specs.State.{Node}
+use Rattle.sheep_node.specs.StepState.{StepState, session_in, request_ended}
+use Rattle.sheep_node.specs.Courses.{inode_open}
+use Rattle.sheep_node.specs.Changes as changes
+use Rattle.sheep_node.specs.Changes.{HasRequest, without_ended_work, Outcome, ToWork, ToEntry, ToReply, without_denied_work, zones_of_members, RequestSteps, DiskBegins, DiskGoesOn, CommandBegins, CommandGoesOn, CommandDecided, CheckBegins, CheckGoesOn, ObjectBegins, ObjectIsDone, EntryBegins, EntryDecided, WorkIsNext, AtOnce, InTurn, Again, AgainAlone, Change}
+use Rattle.sheep_node.proofs.OneWorkParts.{Requests}
+use Rattle.sheep_node.proofs.RefusedCourses.{course_refused-keeps, request_refused-keeps}
+use Rattle.sheep_world.specs.Began.{Began}
+use Rattle.sheep_world.specs.EventKinds.{log_after_return}
+use Rattle.sheep_world.specs.HostChanges.{host_after_return, joined_host}
+use Rattle.sheep_world.specs.MembershipChanges.{lost_host}
+use Rattle.sheep_world.specs.NodeCauses.{input_of_cause, host_with_node}
+use Rattle.sheep_world.specs.Step.{EventOutcome}
+use Rattle.sheep_world.specs.World.{Host}
+use Rattle.overlap_law.specs.GrantedAttempts.{is_past_works, has_made_all}
+use Rattle.overlap_law.specs.MomentChanges as moments
+use Rattle.overlap_law.specs.MomentChanges.{MomentChange, RunsAreInRange}
+use Rattle.overlap_law.specs.Past.{MomentWithPast}
+use Rattle.overlap_law.specs.Reached.{Hosts}
+use Rattle.overlap_law.specs.StepMoments.{first_in_step, last_in_step, moment_in_step}
+use Rattle.overlap_law.proofs.TouchedInMoments.{BeginsWith, begins, received_requests, made_requests}
+use Rattle.overlap_law.proofs.TouchedStay.{Arrives}
+use Rattle.overlap_law.proofs.UnansweredInMoments.{IsNewer, newer_joined, newer_returned}
+
+-- ---- courses
+
+-- a command whose work was done hadn't made all by then
+done_before : (bytes : List ℕ) (op : Op) (stage : OpStage) (step : ops.OpStep) → done_at bytes op stage ≡ Some step → is_past_works stage ≡ false
+done_before bytes op (Asked entry) step is = absurd (cc (is))
+done_before bytes op (Working vid task) step is = refl
+done_before bytes op (Publishing entry made) step is = absurd (cc (is))
+done_before bytes op (Answered change) step is = absurd (cc (is))
+
+went_before : (bytes : List ℕ) (op : Op) (step : ops.OpStep) → op_on_done bytes op ≡ Some step → is_past_works op.stage ≡ false
+unfolding op_on_done
+went_before bytes op step is = done_before bytes op op.stage step is
+
+-- one whose last entry is decided has made all still
+decided_before : (known : List Effect) (disk : Option Content) (decision : Decision) (op : Op) (stage : OpStage) (step : ops.OpStep)
+    → decided_at known disk decision op stage ≡ Some step → is_past_works step.op.stage ≡ false → is_past_works stage ≡ false
+decided_before known disk decision op (Asked entry) step is making = refl
+decided_before known disk decision op (Working vid task) step is making = refl
+decided_before known disk decision op (Publishing entry made) step is making =
+    let past : true ≡ is_past_works step.op.stage = ap (λ (o : Option ops.OpStep). past_of o) is in
+    absurd (cc (past, making))
+  where
+    past_of : Option ops.OpStep → Bool
+    past_of None = true
+    past_of (Some step) = is_past_works step.op.stage
+decided_before known disk decision op (Answered change) step is making = absurd (cc (is))
+
+went_on_before : (known : List Effect) (disk : Option Content) (decision : Decision) (op : Op) (step : ops.OpStep)
+    → on_decision known disk decision op ≡ Some step → is_past_works step.op.stage ≡ false → is_past_works op.stage ≡ false
+unfolding on_decision
+went_on_before known disk decision op step is making = decided_before known disk decision op op.stage step is making
+
+-- ---- a change of a node
+
+-- a request was there, of the same session, and hadn't made all
+pub record WasMaking (q : ℕ) (now : Request) (requests : Requests) : Type 0 where
+  pub request : Request
+  pub there : tree.get requests q ≡ Some request
+  pub session : request.session ≡ now.session
+  pub making : has_made_all request.course ≡ false
+
+module _ (q : ℕ) (input : Input) (node : Node) where
+  abbrev pub WasOrArrives : Request → StepState → Type 0
+  WasOrArrives now so_far = WasMaking q now so_far.node.requests ⊎ Arrives q input node so_far
+
+  module _ (origin : StepState) where
+    abbrev AreFrom : Requests → Type 0
+    AreFrom requests = (r : Request) → tree.get requests q ≡ Some r → has_made_all r.course ≡ false → WasOrArrives r origin
+
+    abbrev From : StepState → Type 0
+    From so_far = AreFrom so_far.node.requests
+
+    ended_from : (session req : ℕ) (reply : GuestRsp) (so_far : StepState) → From so_far → From (request_ended session req reply so_far)
+    unfolding request_ended
+    ended_from session req reply so_far from r got making = ⊎_elim
+        (λ (own : q ≡ req).
+        let none = ap (tree.get (tree.remove so_far.node.requests req)) own ∙ get-remove_same so_far.node.requests req in absurd (cc (none, got)))
+        (λ (other : q ≢ req). from r (sym (get-remove_other so_far.node.requests req q other) ∙ got) making)
+        (cases_eq q req)
+
+    put_from : (requests : Requests) (session req : ℕ) (course : Course)
+        → (q ≡ req → has_made_all course ≡ false → WasOrArrives (record { session = session; course = course }) origin) → AreFrom requests
+        → AreFrom (tree.insert requests req (record { session = session; course = course }))
+    put_from requests session req course own from r got making = ⊎_elim
+        (λ (here : (q ≡ req) × (record { session = session; course = course } ≡ r)).
+        subst (λ (r : Request). WasOrArrives r origin) here.1 (own here.0 (ap (λ (r : Request). has_made_all r.course) here.1 ∙ making)))
+        (λ (other : (q ≢ req) × (tree.get requests q ≡ Some r)). from r other.1 making)
+        (get-insert_cases requests req (record { session = session; course = course }) q r got)
+
+  from_itself : (so_far : StepState) → From so_far so_far
+  from_itself so_far r got making = inl (record { request = r; there = got; session = refl; making = making })
+
+  put_new : (so_far : StepState) (session req : ℕ) (course : Course) (ask : Ask) (refusal : Option Cause) → changes.Arrival input node so_far session req ask refusal
+      → AreFrom so_far (tree.insert so_far.node.requests req (record { session = session; course = course }))
+  put_new so_far session req course ask refusal arrival =
+      put_from so_far so_far.node.requests session req course
+      (λ own making. inr (record {
+        session = session;
+        ask = ask;
+        from = subst (λ (k : ℕ). input ≡ inputs.Guest k session ask) (sym own) arrival.from;
+        first = arrival.first;
+      })) (from_itself so_far)
+
+  -- one that goes on
+  put_on : (so_far : StepState) (session req : ℕ) (course next : Course) → HasRequest session req course so_far
+      → (has_made_all next ≡ false → has_made_all course ≡ false)
+      → AreFrom so_far (tree.insert so_far.node.requests req (record { session = session; course = next }))
+  put_on so_far session req course next there before =
+      put_from so_far so_far.node.requests session req next
+      (λ own making. inl (record {
+        request = record { session = session; course = course };
+        there = ap (tree.get so_far.node.requests) own ∙ there;
+        session = refl;
+        making = before making;
+      })) (from_itself so_far)
+
+  steps_from : (so_far : StepState) (session req : ℕ) (next : Outcome) (moved : StepState) → RequestSteps input node so_far session req next moved → From so_far moved
+  steps_from so_far session req next moved (DiskBegins ask disk there on may) =
+      put_on so_far session req (Waiting ask) (Driving (drivers.begin_driver disk ask).driver) there (λ making. refl)
+  steps_from so_far session req next moved (DiskGoesOn number work attempt status bytes driver disk step ends on is) =
+      put_on so_far session req (Driving driver) (Driving step.driver) ends.ends.request (λ making. refl)
+  steps_from so_far session req next moved (CommandBegins ask step arrival is) = put_new so_far session req (Commanding step.op) (asks.Vdi ask) None arrival
+  steps_from so_far session req next moved (CommandGoesOn number work attempt status bytes op step ends is) =
+      put_on so_far session req (Commanding op) (Commanding step.op) ends.ends.request (λ making. went_before bytes op step is)
+  steps_from so_far session req next moved (CommandDecided entry op step from read there waits is) =
+      put_on so_far session req (Commanding op) (Commanding step.op) there
+      (λ making. went_on_before (effects_of so_far.node.peer) (inode_open (session_in session so_far).disk) (decision_on entry node.peer) op step is making)
+  steps_from so_far session req next moved (CheckBegins inode arrival on) =
+      put_new so_far session req (Checking (begin_check inode).check) (asks.Vdi disk_commands.Check) None arrival
+  steps_from so_far session req next moved (CheckGoesOn number work attempt status bytes check step ends is) =
+      put_on so_far session req (Checking check) (Checking step.check) ends.ends.request (λ making. refl)
+  steps_from so_far session req next moved (ObjectBegins asked arrival) = put_new so_far session req (DoingWork asked) (asks.Object asked) None arrival
+  steps_from so_far session req next moved (ObjectIsDone number work attempt status bytes asked ends) = from_itself so_far
+  steps_from so_far session req next moved (EntryBegins entry arrival) = put_new so_far session req (AwaitingDecision entry) (asks.Entry entry) None arrival
+  steps_from so_far session req next moved (EntryDecided entry wanted from read there waits) = from_itself so_far
+
+  next_from : (so_far : StepState) (session req : ℕ) (asked : Work) (lined : StepState) → WorkIsNext input node so_far session req asked lined → From so_far lined
+  next_from so_far session req asked lined (AtOnce work moved steps begins) = steps_from so_far session req (ToWork work) moved steps
+  next_from so_far session req asked lined (InTurn work later none is) = from_itself so_far
+  next_from so_far session req asked lined (Again work course from next there request) = from_itself so_far
+  next_from so_far session req asked lined (AgainAlone work from next there none) = from_itself so_far
+
+  pub making_from : (so_far next : StepState) → Change input node so_far next → From so_far next
+  making_from so_far next (changes.Marks req number work attempt status learns over) = from_itself so_far
+  making_from so_far next (changes.Fails session req number work attempt status course ends done why) = from_itself so_far
+  making_from so_far next (changes.Stops session req number work attempt status course bytes ends over) = from_itself so_far
+  making_from so_far next (changes.Refuses session req number work attempt status course cause ends done why) =
+      course_refused-keeps (From so_far) (ended_from so_far) (λ entry before now. now) session req cause course (without_ended_work session req work status so_far)
+      (from_itself so_far)
+  making_from so_far next (changes.Opens session req asked lined comes enough) = next_from so_far session req asked lined comes
+  making_from so_far next (changes.Holds session req asked lined comes short touched) = next_from so_far session req asked lined comes
+  making_from so_far next (changes.Denies session req asked lined request comes short untouched there own) =
+      request_refused-keeps (From so_far) (ended_from so_far) (λ entry before now. now) req (Halt (zones_of_members lined.node) (zones_for asked.work)) request
+      (without_denied_work session req asked lined) (next_from so_far session req asked lined comes)
+  making_from so_far next (changes.Strays req work gateway there none apart) = from_itself so_far
+  making_from so_far next (changes.Lines session req work moved steps waits) = steps_from so_far session req (ToWork work) moved steps
+  making_from so_far next (changes.Appends session req entry moved steps) = steps_from so_far session req (ToEntry entry) moved steps
+  making_from so_far next (changes.Replies session req reply moved steps) =
+      ended_from so_far session req reply moved (steps_from so_far session req (ToReply reply) moved steps)
+  making_from so_far next (changes.Arrives session req ask disk arrival on) = put_new so_far session req (Waiting ask) (asks.Disk ask) None arrival
+  making_from so_far next (changes.Rejects session req ask cause arrival) = from_itself so_far
+  making_from so_far next (changes.Recovers due) = from_itself so_far
+
+-- ---- a change of a moment
+
+-- what was there of a node's requests that haven't made all
+pub record HadMaking (script : List Statement) (start before : MomentWithPast) (n : ℕ) (host : Host) : Type 0 where
+  pub old : Host
+  pub there : tree.get before.world.hosts n ≡ Some old
+  pub up : old.is_lost ≡ false
+  pub requests : (req : ℕ) (request : Request) → tree.get host.node.requests req ≡ Some request → has_made_all request.course ≡ false
+      → WasMaking req request old.node.requests ⊎ BeginsWith script start before req
+
+module _ (script : List Statement) (start : MomentWithPast) where
+  abbrev pub EachHadMaking : MomentWithPast → MomentWithPast → Type 0
+  EachHadMaking before after = (n : ℕ) (host : Host) → tree.get after.world.hosts n ≡ Some host → host.is_lost ≡ false
+      → HadMaking script start before n host ⊎ IsNewer before n host
+
+  same_requests : (before : MomentWithPast) (n : ℕ) (old host : Host) → tree.get before.world.hosts n ≡ Some old → old.is_lost ≡ false
+      → host.node.requests ≡ old.node.requests → HadMaking script start before n host
+  same_requests before n old host there up same = record {
+    old = old;
+    there = there;
+    up = up;
+    requests = λ req request got making. inl (record {
+      request = request;
+      there = ap (λ (all : Requests). tree.get all req) (sym same) ∙ got;
+      session = refl;
+      making = making;
+    });
+  }
+
+  same_hosts : (before after : MomentWithPast) → after.world.hosts ≡ before.world.hosts → EachHadMaking before after
+  same_hosts before after same n host there up = inl (same_requests before n host host (ap (λ (held : Hosts). tree.get held n) (sym same) ∙ there) up refl)
+
+  one_host : (before after : MomentWithPast) (k : ℕ) (new : Host) → after.world.hosts ≡ tree.insert before.world.hosts k new
+      → (new.is_lost ≡ false → HadMaking script start before k new ⊎ IsNewer before k new) → EachHadMaking before after
+  one_host before after k new hosts own n host there up = ⊎_elim
+      (λ (here : (n ≡ k) × (new ≡ host)).
+      subst (λ (q : ℕ). HadMaking script start before q host ⊎ IsNewer before q host) (sym here.0)
+      (subst (λ (h : Host). HadMaking script start before k h ⊎ IsNewer before k h) here.1 (own (ap (λ (h : Host). h.is_lost) here.1 ∙ up))))
+      (λ (other : (n ≢ k) × (tree.get before.world.hosts n ≡ Some host)). inl (same_requests before n host host other.1 up refl))
+      (get-insert_cases before.world.hosts k new n host (ap (λ (held : Hosts). tree.get held n) (sym hosts) ∙ there))
+
+module _ (script : List Statement) (range : RunsAreInRange script) (start : MomentWithPast) (began : Began script start.world) where
+  pub each_had_making : {before after : MomentWithPast} → MomentChange script start before after → EachHadMaking script start before after
+  each_had_making (moments.StepBegins stepping is by) =
+      let now = host_with_node stepping.host (first_in_step stepping).node in
+      let after = moment_in_step script stepping start (first_in_step stepping) in
+      one_host script start start after stepping.n now refl
+      (λ up. inl (same_requests script start start stepping.n stepping.host now is.there up (received_requests stepping.cause stepping.host.node by)))
+  each_had_making (moments.StepGoesOn stepping so_far next is by within) =
+      let was = host_with_node stepping.host so_far.node in
+      let now = host_with_node stepping.host next.node in
+      let before = moment_in_step script stepping start so_far in
+      one_host script start before (moment_in_step script stepping start next) stepping.n now (sym (insert-insert start.world.hosts stepping.n was now))
+      (λ up. inl (record {
+        old = was;
+        there = get-insert_same start.world.hosts stepping.n was;
+        up = up;
+        requests = λ req request got making. ⊎_elim
+            (λ (had : WasMaking req request so_far.node.requests). inl had)
+            (λ (arrives : Arrives req (input_of_cause stepping.cause) stepping.host.node so_far).
+            inr (begins script range start began stepping so_far is by req arrives))
+            (making_from req (input_of_cause stepping.cause) stepping.host.node so_far next within.change request got making);
+      }))
+  each_had_making (moments.StepIsMade stepping is by) =
+      let now = host_with_node stepping.host (last_in_step stepping).node in
+      let after = moment_in_step script stepping start (last_in_step stepping) in
+      one_host script start start after stepping.n now refl
+      (λ up. inl (same_requests script start start stepping.n stepping.host now is.there up (made_requests stepping.cause stepping.host.node by)))
+  each_had_making {before} {after} (moments.LossIsUntold event made happened h) =
+      same_hosts script start before after (ap (λ (m : EventOutcome). m.world.hosts) (sym h.made_so))
+  each_had_making {before} {after} (moments.DeliveryIsUnread event made happened h) =
+      same_hosts script start before after (ap (λ (m : EventOutcome). m.world.hosts) (sym h.made_so))
+  each_had_making {before} {after} (moments.NodeIsLost event made happened h) =
+      one_host script start before after h.n (lost_host h.host) (ap (λ (m : EventOutcome). m.world.hosts) (sym h.made_so)) (λ up. absurd (cc (up)))
+  each_had_making {before} {after} (moments.NodeLeaves event made happened h) =
+      same_hosts script start before after (ap (λ (m : EventOutcome). m.world.hosts) (sym h.made_so))
+  each_had_making {before} {after} (moments.NodeIsReweighted event made happened h) =
+      same_hosts script start before after (ap (λ (m : EventOutcome). m.world.hosts) (sym h.made_so))
+  each_had_making {before} {after} (moments.NodeJoins event made happened h) =
+      one_host script start before after h.n (joined_host script h.n) (ap (λ (m : EventOutcome). m.world.hosts) (sym h.made_so))
+      (λ up. inr (newer_joined script range start began h.n h.control))
+  each_had_making {before} {after} (moments.NodeComesBack event made happened h) =
+      one_host script start before after h.n (host_after_return (log_after_return script h.n start.world) h.host) (ap (λ (m : EventOutcome). m.world.hosts) (sym h.made_so))
+      (λ up. inr (newer_returned script range start began h.n h.host h.there))
+  each_had_making {before} {after} (moments.PhaseEnds event made happened h) =
+      same_hosts script start before after (ap (λ (m : EventOutcome). m.world.hosts) (sym h.made_so))
