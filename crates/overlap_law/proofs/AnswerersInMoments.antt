@@ -247,7 +247,7 @@ member_recovery : (script : List Statement) (member : Member) → (initial_membe
 unfolding entry_read
 member_recovery script member = step_recovery (inputs.LogEntry (format_entry script)) (nodes.initial_node member.node (tries_of script))
 
-opening_recovery : (script : List Statement) (n : ℕ) (host : Host) → tree.get (first_moment script).world.hosts n ≡ Some host
+pub opening_recovery : (script : List Statement) (n : ℕ) (host : Host) → tree.get (first_moment script).world.hosts n ≡ Some host
     → (member : Member) × (host.node.recovery ≡ recoveries.initial_recovery member.node)
 unfolding initial_world
 opening_recovery script n host there =

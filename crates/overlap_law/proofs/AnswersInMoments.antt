@@ -148,11 +148,11 @@ ticked_sends node message among =
     = Contains-map (λ (m : Message). (m.to, m.request)) (tick_messages node.sends (recovery_state_of node)) message among in
     cond_either (λ (so_far : StepState). Contains so_far.outputs.sends (message.to, message.request)) (is_due ticked.node) (with_recovered ticked) ticked sent sent
 
-abbrev receiver_or : NodeId → Packet → NodeId
+abbrev pub receiver_or : NodeId → Packet → NodeId
 receiver_or none (Request to bytes) = to
 receiver_or none (Reply from bytes) = none
 
-abbrev bytes_or : Packet → List ℕ
+abbrev pub bytes_or : Packet → List ℕ
 bytes_or (Request to bytes) = bytes
 bytes_or (Reply from bytes) = bytes
 
@@ -259,7 +259,7 @@ module _ (script : List Statement) (range : RunsAreInRange script) (start : Mome
         among = subst (λ (r : Recovery). Contains r.unanswered message) same among;
       }))
 
-  messages_came : {before after : MomentWithPast} → MomentChange script start before after → MessagesCame before after
+  pub messages_came : {before after : MomentWithPast} → MomentChange script start before after → MessagesCame before after
   messages_came (moments.StepBegins stepping is by) =
       one_came start (moment_in_step script stepping start (first_in_step stepping)) stepping.n (host_with_node stepping.host (first_in_step stepping).node) refl
       (λ up message among. first_came stepping is by message among)

@@ -41,8 +41,13 @@ use Rattle.overlap_law.proofs.EpochLemmas.{run-changes_nothing}
 use Rattle.overlap_law.proofs.TurnsOfRows.{ends-in_run, one_open-in_run, apart-in_run}
 use Rattle.overlap_law.proofs.StayingRows.{stays-on_the_way}
 use Rattle.overlap_law.proofs.WholeRows.{whole-in_run}
+use Rattle.overlap_law.proofs.LackedWherePlaced.{pending_lacked-on_the_way}
 use Rattle.overlap_law.proofs.PlacedInMoments.{placed-in_run}
 use Rattle.overlap_law.proofs.BegunInMoments.{begun-in_run}
+use Rattle.overlap_law.proofs.FirstSearchesInRuns.{listing-on_the_way, search_first-on_the_way}
+use Rattle.overlap_law.proofs.TellersInMoments.{tellers-on_the_way}
+use Rattle.overlap_law.proofs.WholeLists.{lists_whole-on_the_way}
+use Rattle.overlap_law.proofs.NoRowsStand.{no_rows_true-on_the_way}
 
 pub flight-in_run : (script : List Statement) → RunsAreInRange script → (events : List Event) (moment : MomentWithPast)
     → run_with_past script events ≡ Some moment
@@ -97,5 +102,11 @@ kept_so_far script range events moment is = record {
   placed = placed-in_run script range events moment is;
   rows_begun = begun-in_run script range events moment is (is_live_object moment.world.log moment.past.attempts);
   stays = stays-on_the_way script range events moment moment is moments.Still;
+  listing = listing-on_the_way script range events moment moment is moments.Still;
+  search_first = search_first-on_the_way script range events moment moment is moments.Still;
+  told_beyond = tellers-on_the_way script range events moment moment is moments.Still;
+  list_told = λ live. lists_whole-on_the_way script range events moment moment is moments.Still live;
+  pending = λ live. pending_lacked-on_the_way script range events moment moment is moments.Still live;
+  norow_told = λ good. no_rows_true-on_the_way script range events moment moment is moments.Still good;
   peers = run-changes_nothing script events moment is;
 }

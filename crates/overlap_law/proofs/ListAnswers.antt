@@ -215,7 +215,7 @@ heard_of rsp node other named = record {
   by = named.by;
 }
 
-begun_anew : (epoch : ℕ) (nodes : List NodeId) (state : RecoveryState) → IsBegun state.recovery.me (recovery_from_epoch epoch nodes state).recovery
+pub begun_anew : (epoch : ℕ) (nodes : List NodeId) (state : RecoveryState) → IsBegun state.recovery.me (recovery_from_epoch epoch nodes state).recovery
 unfolding recovery_from_epoch
 begun_anew epoch nodes state =
     let start = at_start epoch nodes state in

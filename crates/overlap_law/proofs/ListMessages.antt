@@ -229,13 +229,13 @@ module _ (number : ℕ) (said : Option PeerSay) (state : RecoveryState) (so : As
 -- ---- a tick
 
 -- what is asked of each of some nodes
-record IsAsked (epoch : ℕ) (ask : PeerAsk) (nodes : List NodeId) (message : Message) : Type 0 where
-  of_epoch : message.request.epoch.0 ≡ epoch
-  ask_so : message.request.ask ≡ ask
-  among_them : Contains (numbers_of nodes) message.to.0
+pub record IsAsked (epoch : ℕ) (ask : PeerAsk) (nodes : List NodeId) (message : Message) : Type 0 where
+  pub of_epoch : message.request.epoch.0 ≡ epoch
+  pub ask_so : message.request.ask ≡ ask
+  pub among_them : Contains (numbers_of nodes) message.to.0
 
 module _ (recovery : Recovery) (wanted : ℕ) (ask : PeerAsk) where
-  asked_each : (first : ℕ) (nodes : List NodeId) (message : Message) → Contains (messages_to recovery first wanted ask nodes) message
+  pub asked_each : (first : ℕ) (nodes : List NodeId) (message : Message) → Contains (messages_to recovery first wanted ask nodes) message
       → IsAsked recovery.epoch ask nodes message
   asked_each first [] message there = absurd (Contains-nil message there)
   asked_each first (node ∷ nodes) message there = ⊎_elim

@@ -127,7 +127,7 @@ lists_received (inputs.Back entries) node quiet may so = absurd (cc (quiet))
 
 -- ---- an entry is read
 
-settled_pending : (settled : ℕ) (peer : Peer) → (with_settled settled peer).pending ≡ peer.pending
+pub settled_pending : (settled : ℕ) (peer : Peer) → (with_settled settled peer).pending ≡ peer.pending
 unfolding peer_settled_to
 settled_pending settled peer =
     cond_either (λ (after : Peer). after.pending ≡ peer.pending) (nat_lt peer.settled settled) (peer_settled_to settled peer) peer refl refl

@@ -127,7 +127,7 @@ are_present moment holds = record {
 -- ---- in every moment
 
 module _ (script : List Statement) (range : RunsAreInRange script) where
-  read_in_world : (world : World) → Began script world → (n : ℕ) (host : Host) → tree.get world.hosts n ≡ Some host
+  pub read_in_world : (world : World) → Began script world → (n : ℕ) (host : Host) → tree.get world.hosts n ≡ Some host
       → HasReadOf world.log n host.node.me host.node.peer
   read_in_world world began n host there = record {
     own = knows_its_number script world began n host there;

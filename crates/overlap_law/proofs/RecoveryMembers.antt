@@ -196,7 +196,7 @@ epochs_some [] some = absurd (omega (arith, some))
 epochs_some (first ∷ later) some = refl
 
 -- of a node that is by the log
-members_of_newest : (node : Node) → IsByTheLog node → 1 ≤ length node.peer.entries
+pub members_of_newest : (node : Node) → IsByTheLog node → 1 ≤ length node.peer.entries
     → members_at node.epochs node.peer.epoch ≡ members_in node.peer.entries (epoch_of node.peer.entries)
 members_of_newest node follows some =
     ap (members_at node.epochs) follows.epoch_so

@@ -47,7 +47,7 @@ ticks_if_may script world n host (EntryIsPut entry) so = tt
 ticks_if_may script world n host RecoveryTicks so = so
 ticks_if_may script world n host WorkIsRetried so = tt
 
-recoveries_ask_so : (script : List Statement) → HostsKeep script (λ (world : World). Unit {0}) (λ (world : World) (n : ℕ) (host : Host). AsksSo host.node.recovery)
+pub recoveries_ask_so : (script : List Statement) → HostsKeep script (λ (world : World). Unit {0}) (λ (world : World) (n : ℕ) (host : Host). AsksSo host.node.recovery)
 recoveries_ask_so script = record {
   opens = λ member.
       step_asks_so (inputs.LogEntry (format_entry script)) (nodes.initial_node member.node (tries_of script)) tt

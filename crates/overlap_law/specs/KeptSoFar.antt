@@ -1,5 +1,5 @@
 -- What is proved of the invariant of the overlap, of each moment that a run in range leads to; and what is proved beside it.
-use Rattle.std.specs.Prelude.{ℕ, false, List}
+use Rattle.std.specs.Prelude.{ℕ, Bool, false, List}
 use Rattle.cluster_script.specs.declared.statement.Statement.{Statement}
 use Rattle.vdi_directory.specs.Decisions.{log_effects}
 use Rattle.overlap_law.specs.Past.{MomentWithPast}
@@ -17,10 +17,12 @@ use Rattle.overlap_law.specs.Courses.{WorksAreWaitedFor, CommandsKeepTheirGrants
 use Rattle.overlap_law.specs.RequestsOfScript.{RequestsAreWithoutReply, RequestsAreTheScripts, AttemptsAreTheScripts, TheRefusedAreAnswered}
 use Rattle.overlap_law.specs.Holders.{is_live_object, targets_by}
 use Rattle.overlap_law.specs.Rows.{RowsHaveEnds, OneRowIsOpen, RowsAreApart, ServedRowsStay, RowsAreWhole, RowsAreAtTargets, RowsAreBegun}
+use Rattle.overlap_law.specs.Lists.{ListsComeFirst, TellersHaveCome, ListsAreWhole, PendingIsLacked}
+use Rattle.overlap_law.specs.Searches.{SearchesAreOfTheFirst, NoRowIsTrue}
 use Rattle.overlap_law.specs.Headline.{OtherEpochsChangeNothing, RefusedMakeNothing}
 
--- the groups of the wire and of epochs, what of the attempts, of the writers, of commands and of rows, and the headline's parts on refused
--- requests and on peers of another epoch
+-- the groups of the wire and of epochs, what of the attempts, of the writers, of commands, of rows and of recoveries, and the headline's
+-- parts on refused requests and on peers of another epoch
 pub record IsKeptSoFar (script : List Statement) (moment : MomentWithPast) : Type 0 where
   pub wire : FlightIsKept moment.world.log moment.world.hosts moment.world.wire moment.past.attempts
   pub epochs : TermsAreKept moment.world.log moment.world.hosts
@@ -58,4 +60,11 @@ pub record IsKeptSoFar (script : List Statement) (moment : MomentWithPast) : Typ
   pub rows_begun : RowsAreBegun moment.world.log (is_live_object moment.world.log moment.past.attempts) moment.world.hosts
       moment.past.attempts
   pub stays : ServedRowsStay (is_live_object moment.world.log moment.past.attempts) moment.world.hosts moment.past.attempts
+  pub listing : ListsComeFirst moment.world.hosts
+  pub search_first : SearchesAreOfTheFirst moment.world.hosts
+  pub told_beyond : TellersHaveCome moment.world.hosts moment.world.wire
+  -- of any objects
+  pub list_told : (live : ℕ → Bool) → ListsAreWhole live moment.world.hosts moment.world.wire
+  pub pending : (live : ℕ → Bool) → PendingIsLacked (targets_by moment.world.log) (log_effects moment.world.log) live moment.world.hosts
+  pub norow_told : (good : ℕ → Bool) → NoRowIsTrue good moment.world.hosts moment.world.wire
   pub peers : OtherEpochsChangeNothing script moment.world

@@ -9,17 +9,18 @@
 //! (`specs/Contents.antt`, `specs/Facts.antt`), the headline (`specs/Headline.antt`), beside it that no object is missing
 //! (`specs/NoObjects.antt`), and the invariant that is to carry them (`specs/Overlap.antt`); the laws of `overlap.rt` say
 //! what it gives at once. The facts, the headline and that no object is missing aren't proved here, but for the headline's
-//! part on peers of another epoch; the laws of `laws.rt`, `writers.rt`, `rows.rt` and `heart.rt` say what the words mean.
-//! part on peers of another epoch; the laws of `laws.rt`, `works.rt`, `writers.rt` and `rows.rt` say what the words mean.
+//! part on peers of another epoch; the laws of `laws.rt`, `works.rt`, `writers.rt`, `rows.rt`, `searches.rt` and `heart.rt` say what the
+//! words mean.
 //!
-//! An event is taken apart into small changes of a moment (`specs/StepMoments.antt`, `specs/MomentChanges.antt`), each of one kind by
-//! what it makes of the wire and the attempts (`specs/Traffic.antt`). So what each of them keeps holds of every run in range: that the
-//! wire and the attempts stay tied (`specs/TiedAttempts.antt`), that what is asked is of the past, that attempts are of their shape
+//! An event is taken apart into small changes of a moment (`specs/StepMoments.antt`, `specs/MomentChanges.antt`), each of one kind by what
+//! it makes of the wire and the attempts (`specs/Traffic.antt`). So what each of them keeps holds of every run in range: that the wire and
+//! the attempts stay tied (`specs/TiedAttempts.antt`), that what is asked is of the past, that attempts are of their shape
 //! (`specs/ShapedAttempts.antt`), that the wire is linked with what nodes wait for, that gateways know the fates of their attempts, what
-//! the group of epochs and nodes says (`specs/NodeEpochs.antt`), some of the group of writers (`specs/Writers.antt`), over what the
-//! works of sessions rest on (`specs/AwaitedEntries.antt`, `specs/CommandDisks.antt`, `specs/WriterClaims.antt`), and some of the group of
-//! rows (`specs/Rows.antt`). The runs of a script that a text may spell are in range: each node has rows of few objects
-//! (`specs/RowsInRange.antt`), since each object was set apart for a request of the script, or is an inode.
+//! the group of epochs and nodes says (`specs/NodeEpochs.antt`), some of the group of writers (`specs/Writers.antt`), over what the works
+//! of sessions rest on (`specs/AwaitedEntries.antt`, `specs/CommandDisks.antt`, `specs/WriterClaims.antt`), some of the group of rows
+//! (`specs/Rows.antt`), and some of the group of recoveries (`specs/Lists.antt`, `specs/Searches.antt`). The runs of a script that a text
+//! may spell are in range: each node has rows of few objects (`specs/RowsInRange.antt`), since each object was set apart for a request of
+//! the script, or is an inode.
 //!
 //! Between the events a client without a script may read objects (`specs/RunsWithAsks.antt`). Such reads leave the past as it is; the laws
 //! of `with_asks.rt` say why, and that what is owed of events and of reads gives the headline of those runs too.
@@ -31,6 +32,7 @@ mod kept_event;
 mod laws;
 mod overlap;
 mod rows;
+mod searches;
 mod with_asks;
 mod works;
 mod writers;
@@ -81,7 +83,9 @@ pub use laws::what_becomes_of_an_attempt;
 pub use laws::what_is_asked_is_of_the_past;
 pub use laws::what_is_doomed_stays_doomed;
 pub use laws::what_is_made_stays_made;
+pub use laws::what_is_replied_fits;
 pub use laws::what_nodes_have_read_is_of_the_log;
+pub use laws::what_works_ask_can_be_spelled;
 pub use laws::who_joins_is_new;
 pub use overlap::a_script_opens_with_the_overlap;
 pub use overlap::the_messages_of_the_gone_are_fenced;
@@ -98,6 +102,9 @@ pub use rows::rows_are_whole;
 pub use rows::rows_stand_in_turn;
 pub use rows::served_rows_stay;
 pub use rows::what_nodes_have_was_born;
+pub use searches::searches_are_in_order;
+pub use searches::what_is_pending_is_lacked;
+pub use searches::what_was_told_stays;
 pub use with_asks::a_clients_read_makes_nothing;
 pub use with_asks::a_run_with_asks_has_its_past;
 pub use with_asks::what_a_clients_read_keeps;
