@@ -17,7 +17,7 @@ ghost use Rattle.sheep_world.specs.World.{Host};
 ghost use Rattle.vdi_directory.specs.Decisions.{log_effects};
 ghost use Rattle.overlap_law.specs.Attempts.{AttemptRecord, object_of};
 ghost use Rattle.overlap_law.specs.Each.{EachAttempt, EachHost, EachRowOf, end_of_row, row_covers};
-ghost use Rattle.overlap_law.specs.Fates.{AreUnits, AttemptsAreWhole, AttemptsAreShaped, AttemptsAreOrdered, FatesAreOfTheWire};
+ghost use Rattle.overlap_law.specs.Fates.{AreUnits, AttemptsAreShaped, AttemptsAreOrdered, FatesAreOfTheWire};
 ghost use Rattle.overlap_law.specs.Holders.{targets_by};
 ghost use Rattle.overlap_law.specs.MomentChanges.{MomentChange, MomentTrail, RunsAreInRange};
 ghost use Rattle.overlap_law.specs.Past.{MomentWithPast, run_with_past};
@@ -29,12 +29,12 @@ ghost use Rattle.overlap_law.specs.Units.{covers_unit, row_bytes_at};
 ghost use Rattle.overlap_law.specs.Words.{Hosts, has_served, is_doomed, is_mute};
 
 /// Of each run in range, each change of a moment on the way of an event keeps that copies are of attempts, whichever objects it is said
-/// of: at each unit a copy in a store has the bytes of some attempt that covers it. It does so if in the moment before the attempts cover
-/// whole units of their objects, and the copies that recoveries were told are of attempts.
+/// of: at each unit a copy in a store has the bytes of some attempt that covers it. It does so if in the moment before the copies that
+/// recoveries were told are of attempts.
 pub fn copies_stay_of_attempts()
     ensures { (script : List Statement) (events : List Event) (start before after : MomentWithPast) (live : ℕ → Bool)
         → RunsAreInRange script → run_with_past script events ≡ Some start → MomentTrail script start before
-        → MomentChange script start before after → AttemptsAreWhole (log_effects before.world.log) before.past.attempts
+        → MomentChange script start before after
         → ToldCopiesAreOfAttempts (log_effects before.world.log) live before.world.hosts before.world.wire before.past.attempts
         → CopiesAreOfAttempts (log_effects before.world.log) live before.world.hosts before.past.attempts
         → CopiesAreOfAttempts (log_effects after.world.log) live after.world.hosts after.past.attempts }
