@@ -20,6 +20,7 @@ use Rattle.overlap_law.proofs.WorkedInRuns.{worked-in_run}
 use Rattle.overlap_law.proofs.AwaitedInMoments.{awaited-in_run}
 use Rattle.overlap_law.proofs.TouchedInRuns.{touched-in_run, losers-in_run}
 use Rattle.overlap_law.proofs.UntouchedInRuns.{untouched-in_run, nothing_made-in_run}
+use Rattle.overlap_law.proofs.ItemsInRuns.{refused_none-in_run}
 use Rattle.overlap_law.proofs.MessagesInMoments.{messages_in_run}
 use Rattle.overlap_law.proofs.EpochsOfAttempts.{begun_in_run}
 use Rattle.overlap_law.proofs.AttemptsOfScript.{attempts_of_script}
@@ -80,6 +81,7 @@ kept_so_far script range events moment is = record {
   losers = losers-in_run script range events moment is;
   untouched = untouched-in_run script range events moment is;
   nothing_made = nothing_made-in_run script range events moment is;
+  no_items = λ req disk block no_check refused. refused_none-in_run script range req no_check events moment is refused disk block;
   messages = messages_in_run script range events moment is;
   begun = begun_in_run script range events moment is;
   scripts = attempts_of_script script range events moment is;

@@ -325,3 +325,6 @@ pub mod LackedInRuns
 pub mod NodesOnTheWay
 pub mod LackedOnTheWay
 pub mod LackedWherePlaced
+pub mod ItemsOfRequests
+pub mod ItemsOfReplies
+pub mod ItemsInRuns

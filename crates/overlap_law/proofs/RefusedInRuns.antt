@@ -149,7 +149,7 @@ module _ (script : List Statement) where
     abbrev IsNewOr : ℕ → StartedRequest → Type 0
     IsNewOr q started = ((q ≡ number) × (new ≡ started)) ⊎ Contains (unanswered_in q guests) started
 
-    new_or_was : (q : ℕ) (started : StartedRequest) → Contains (unanswered_in q after) started → IsNewOr q started
+    pub new_or_was : (q : ℕ) (started : StartedRequest) → Contains (unanswered_in q after) started → IsNewOr q started
     new_or_was q started there = ⊎_elim
         (λ (own : q ≡ number).
         let is : unanswered_in q after ≡ before.unanswered ++ new ∷ []
@@ -209,7 +209,7 @@ module _ (script : List Statement) where
       (subst (λ (list : List StartedRequest). Contains list started) is there, λ same. absurd (other (cc (same)))))
       (cases_eq q session)
 
-  left_by : (replies : List (ℕ × GuestRsp)) (guests : Guests) (q : ℕ) (started : StartedRequest)
+  pub left_by : (replies : List (ℕ × GuestRsp)) (guests : Guests) (q : ℕ) (started : StartedRequest)
       → Contains (unanswered_in q (fold (progress_after_reply script) guests replies)) started
       → Contains (unanswered_in q guests) started
       × ((reply : ℕ × GuestRsp) → Contains replies reply → IsAnother (session_asking script reply.0) reply.0 q started)

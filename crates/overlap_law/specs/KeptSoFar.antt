@@ -20,6 +20,7 @@ use Rattle.overlap_law.specs.Rows.{RowsHaveEnds, OneRowIsOpen, RowsAreApart, Ser
 use Rattle.overlap_law.specs.Lists.{ListsComeFirst, TellersHaveCome, ListsAreWhole, PendingIsLacked}
 use Rattle.overlap_law.specs.Searches.{SearchesAreOfTheFirst, NoRowIsTrue}
 use Rattle.overlap_law.specs.Headline.{OtherEpochsChangeNothing, RefusedMakeNothing}
+use Rattle.overlap_law.specs.RefusedItems.{RefusedButChecksHaveNoItems}
 
 -- the groups of the wire and of epochs, what of the attempts, of the writers, of commands, of rows and of recoveries, and the headline's
 -- parts on refused requests and on peers of another epoch
@@ -37,6 +38,7 @@ pub record IsKeptSoFar (script : List Statement) (moment : MomentWithPast) : Typ
   pub losers : LosersAreTouched moment.world.hosts moment.past.lost moment.past.attempts
   pub untouched : RefusedRequestsAreMute moment.world.wire moment.past.refused moment.past.attempts
   pub nothing_made : RefusedMakeNothing moment.past.refused moment.past.lost moment.past.attempts
+  pub no_items : RefusedButChecksHaveNoItems script moment.past.refused moment.past.history
   pub messages : OpenAttemptsHaveMessages moment.world.hosts
   pub begun : AttemptsHaveBegun moment.world.log moment.past.attempts
   pub scripts : AttemptsAreTheScripts script moment.past.attempts

@@ -50,3 +50,4 @@ pub mod BornObjects
 pub mod HeldLevels
 pub mod GrantedAttempts
 pub mod LastReads
+pub mod RefusedItems

@@ -27,6 +27,7 @@ ghost use Rattle.overlap_law.specs.Attempts.{MessageFate, Flying, Served, Attemp
 ghost use Rattle.overlap_law.specs.Words.{Hosts, is_beyond, is_made, is_doomed, has_served, unit_start, unit_end, covers_unit, base_of};
 ghost use Rattle.overlap_law.specs.Words.{own_base_of};
 ghost use Rattle.overlap_law.specs.Headline.{OtherEpochsChangeNothing, RefusedMakeNothing};
+ghost use Rattle.overlap_law.specs.RefusedItems.{RefusedButChecksHaveNoItems};
 ghost use Rattle.overlap_law.specs.Past.{MomentWithPast, run_with_past, without_past, next_moment, first_moment};
 ghost use Rattle.overlap_law.specs.StepMoments.{SteppingNode, IsStepping, StepsByChanges, IsWithinStep, moment_in_step, attempts_of_change};
 ghost use Rattle.overlap_law.specs.MomentChanges.{MomentChange, MomentTrail, RunsAreInRange, EventsAreTrails};
@@ -346,6 +347,14 @@ pub fn refused_requests_make_nothing()
     ensures { (script : List Statement) (events : List Event) (moment : MomentWithPast) → RunsAreInRange script
         → run_with_past script events ≡ Some moment
         → RefusedMakeNothing moment.past.refused moment.past.lost moment.past.attempts }
+{}
+
+/// In each run in range a refused request that is no check has no items in the history: what it began to write its refusal took back, and
+/// nothing of it begins later.
+pub fn refused_writes_have_no_items()
+    ensures { (script : List Statement) (events : List Event) (moment : MomentWithPast) → RunsAreInRange script
+        → run_with_past script events ≡ Some moment
+        → RefusedButChecksHaveNoItems script moment.past.refused moment.past.history }
 {}
 
 /// In each world of a run what was sent last for works can be spelled, and each node is sound, as long as there is room for an epoch.

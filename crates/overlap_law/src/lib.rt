@@ -70,6 +70,7 @@ pub use laws::packets_are_of_open_works;
 pub use laws::peers_of_another_epoch_change_nothing;
 pub use laws::recoveries_are_of_members_that_came;
 pub use laws::refused_requests_make_nothing;
+pub use laws::refused_writes_have_no_items;
 pub use laws::runs_of_few_controls_are_in_range;
 pub use laws::the_attempts_are_shaped;
 pub use laws::the_attempts_stay_in_order;
