@@ -1,6 +1,5 @@
 -- A work that is done gave as many bytes as its request waits for, which is on the disk that its session has open.
-use Rattle.std.proofs.Common.{◌≡◌, inl, ℕ, List, length, Option, Some, IfSome, unwrap_or, refl, sym, ap, subst, ◌∙◌}
-use Rattle.std.specs.FinMap as tree
+use Rattle.std.proofs.Common.{◌≡◌, inl, ℕ, List, length, Option, IfSome, unwrap_or, refl, sym, ap, subst, ◌∙◌}
 use Rattle.proof_tools.proofs.FiniteMaps.{get-insert_same}
 use Rattle.gateway.specs.declared.message.Status.{Status}
 use Rattle.gateway.specs.Attempt.{Attempt, messages_with_status}

@@ -244,7 +244,6 @@ pub mod FewerObjects
 mod BornStays
 pub mod BornInRuns
 pub mod OpeningOverlap
-mod MayInRuns
 pub mod HeldLevels
 pub mod DoomedTraffic
 pub mod BeyondInMoments
@@ -328,3 +327,8 @@ pub mod LackedWherePlaced
 pub mod ItemsOfRequests
 pub mod ItemsOfReplies
 pub mod ItemsInRuns
+pub mod SendsOfWorks
+pub mod SentPieces
+pub mod PiecesInRuns
+mod ServedInRuns
+pub mod KnownTables

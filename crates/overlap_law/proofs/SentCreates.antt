@@ -48,7 +48,7 @@ use Rattle.overlap_law.proofs.KnownDiskSteps.{AreOnKnown, IsKnownInput, effects_
 use Rattle.overlap_law.proofs.SendsOfChanges.{next_sends_nothing, steps_send_nothing, end_sends_nothing, refusal_sends_nothing, denial_sends_nothing}
 
 -- the part of a piece inside an object ends inside the object's part
-parts_inside : (policy : Policy) (kind : Kind) (offset long size : ℕ) → IsPolicy policy → IsAligned policy kind offset
+pub parts_inside : (policy : Policy) (kind : Kind) (offset long size : ℕ) → IsPolicy policy → IsAligned policy kind offset
     → IsAligned policy kind long
     → IsAligned policy kind size → offset + long ≤ size
     → part_size policy kind offset + part_size policy kind long ≤ part_size policy kind size

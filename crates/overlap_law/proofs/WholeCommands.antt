@@ -1,6 +1,6 @@
 -- Each write of a command goes to whole units of an inode: a tag lies in the header, and what is written back is the header and all
 -- entries that the disk has.
-use Rattle.std.proofs.Common.{◌≡◌, arith, ℕ, ◌+◌, ◌*◌, ◌<◌, ◌≤◌, true, false, List, length, drop, Option, Some, None, IfSome, option_map, option_and_then, refl, sym, ◌∙◌}
+use Rattle.std.proofs.Common.{◌≡◌, arith, ℕ, ◌+◌, ◌*◌, ◌<◌, ◌≤◌, true, false, List, length, drop, Option, Some, None, IfSome, option_map, option_and_then, sym, ◌∙◌}
 use Rattle.std.proofs.lemmas.List.{length-append, length-drop}
 use Rattle.std.proofs.lemmas.Option.{same_Some}
 use Rattle.object_id.specs.declared.entry.Entry.{Entry}
@@ -33,7 +33,6 @@ use Rattle.vdi_ops.proofs.WorkLemmas.{field_text, field_tag}
 use Rattle.sheep_node.specs.Changes.{outcome_of_command}
 use Rattle.sheep_node.specs.SoundWorks.{IsSoundTaskOn, IsSoundStage}
 use Rattle.sheep_node.proofs.ValidSteps.{given}
-use Rattle.overlap_law.specs.Units.{unit_start}
 use Rattle.overlap_law.proofs.KnownDisks.{IsKnownDisk, IsKnownInode, IsKnownTask, IsKnownStage, vid-of_inode, kind-of_inode}
 use Rattle.overlap_law.proofs.WholeWorks.{in_header, in_table, units_from_header, WritesWhole, IsWholeOutcome, whole_on}
 

@@ -1,9 +1,8 @@
 -- In each run in range each attempt makes a whole object, or whole units inside it; so it is over each change of a moment too.
-use Rattle.std.proofs.Common.{◌≡◌, ◌≢◌, ⊎_elim, arith, ℕ, ◌+◌, ◌^◌, ◌≤◌, true, List, [], ◌++◌, length, Some, slice_get, refl, sym, ap, subst, ◌∙◌}
+use Rattle.std.proofs.Common.{◌≡◌, ◌≢◌, ⊎_elim, arith, ℕ, ◌+◌, ◌≤◌, true, List, [], ◌++◌, length, Some, slice_get, sym, subst, ◌∙◌}
 use Rattle.std.specs.FinMap as tree
 use Rattle.std.proofs.lemmas.Bool.{le-leb}
 use Rattle.std.proofs.lemmas.Option.{same_Some}
-use Rattle.proof_tools.proofs.FiniteMaps.{get-insert_same}
 use Rattle.object_id.specs.declared.entry.Entry.{Entry}
 use Rattle.object_id.specs.declared.entry.VdiSpec.{VdiSpec}
 use Rattle.object_id.specs.Oid.{vid_of, kind_of}
@@ -17,7 +16,6 @@ use Rattle.peer_service.specs.State.{effects_of, object_size}
 use Rattle.gateway.specs.Work.{is_making}
 use Rattle.vdi_directory.specs.declared.effect.Effect.{Effect}
 use Rattle.vdi_directory.specs.Decisions.{log_effects}
-use Rattle.sheep_node.specs.declared.ask.Ask.TheVariants as asks
 use Rattle.sheep_node.specs.declared.event.Event.{Event}
 use Rattle.sheep_node.specs.declared.input.Input.{Input}
 use Rattle.sheep_node.specs.declared.input.Input.TheVariants as inputs
@@ -29,35 +27,32 @@ use Rattle.sheep_node.specs.State as nodes
 use Rattle.sheep_node.specs.Step.{node_step}
 use Rattle.sheep_node.specs.StepFacts.{read_after}
 use Rattle.sheep_node.proofs.NodeLaws.{IsSoundNode-initial}
-use Rattle.sheep_node.proofs.StepResults.{step_reads}
 use Rattle.sheep_world.specs.World.{Host, World, is_host_up}
 use Rattle.sheep_world.specs.Began.{Began}
 use Rattle.sheep_world.specs.Opening.{format_entry, initial_world}
-use Rattle.sheep_world.specs.NodeCauses.{NodeCause, GuestAsks, RequestComes, ReplyComes, LossIsTold, EntryIsRead, EntryIsPut, RecoveryTicks, WorkIsRetried, input_of_cause, IsCause, world_after_cause}
+use Rattle.sheep_world.specs.NodeCauses.{NodeCause, GuestAsks, RequestComes, ReplyComes, LossIsTold, EntryIsRead, EntryIsPut, RecoveryTicks, WorkIsRetried, input_of_cause, IsCause}
 use Rattle.sheep_world.specs.EventKinds.{log_after_return}
 use Rattle.sheep_world.specs.HostChanges.{HostsKeep}
 use Rattle.sheep_world.proofs.BegunWorlds.{each_where}
 use Rattle.sheep_world.proofs.LogAtOpening.{opens_log}
 use Rattle.sheep_world.proofs.ValidNodes.{first_may}
-use Rattle.overlap_law.specs.Attempts.{AttemptRecord, MessageFate, object_of}
-use Rattle.overlap_law.specs.Each.{spec_in}
+use Rattle.overlap_law.specs.Attempts.{AttemptRecord, object_of}
 use Rattle.overlap_law.specs.Fates.{IsWhole, AttemptsAreWhole}
-use Rattle.overlap_law.specs.Past.{MomentWithPast, first_moment, run_with_past}
+use Rattle.overlap_law.specs.Past.{MomentWithPast, run_with_past}
 use Rattle.overlap_law.specs.ShapedAttempts.{AreShaped}
-use Rattle.overlap_law.specs.StepMoments.{StepsByChanges}
 use Rattle.overlap_law.specs.MomentChanges.{MomentChange, MomentTrail, RunsAreInRange, KeptByChanges}
 use Rattle.overlap_law.proofs.CausedWorks.{IsNotServed, by_changes, no_object}
-use Rattle.overlap_law.proofs.GrantedEpochs.{spec_known, spec_stays}
-use Rattle.overlap_law.proofs.KnownDisks.{IsKnownWork, IsOnKnownDisk, CreatesWhole}
+use Rattle.overlap_law.proofs.GrantedEpochs.{spec_stays}
+use Rattle.overlap_law.proofs.KnownDisks.{IsKnownWork}
 use Rattle.overlap_law.proofs.KnownDiskSteps.{effects_after, none_known, work_known}
 use Rattle.overlap_law.proofs.KnownDisksInRuns.{caused_known, read_reservable, nodes_know}
 use Rattle.overlap_law.proofs.LogsGrow.{logs_grow}
 use Rattle.overlap_law.proofs.NewAttempts.{IsOpened, WasAttempt, come_from}
-use Rattle.overlap_law.proofs.RunsByChanges.{run-kept, on_the_way}
-use Rattle.overlap_law.proofs.ShapedAttempts.{IsShaped, front, log_so, began_after, work_so, shaped-each, opening_shaped, change_shaped}
+use Rattle.overlap_law.proofs.RunsByChanges.{on_the_way}
+use Rattle.overlap_law.proofs.ShapedAttempts.{front, log_so, began_after, work_so, shaped-each}
 use Rattle.overlap_law.proofs.SoundWorlds.{IsSoundWorld, sound_worlds, asks_on_may, named_by}
 use Rattle.overlap_law.proofs.WholeSteps.{IsWholeWork, AreWholeOn, none_whole, turn_whole, stepped_whole, served_whole, back_whole}
-use Rattle.overlap_law.proofs.WholeWorks.{IsWholeOn, WritesWhole}
+use Rattle.overlap_law.proofs.WholeWorks.{IsWholeOn}
 
 -- ---- one work
 

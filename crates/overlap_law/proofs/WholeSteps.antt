@@ -33,7 +33,7 @@ use Rattle.sheep_node.specs.declared.input.Input.{Input}
 use Rattle.sheep_node.specs.declared.input.Input.TheVariants as inputs
 use Rattle.sheep_node.specs.declared.course.Course.{Course}
 use Rattle.sheep_node.specs.declared.course.Request.{Request}
-use Rattle.sheep_node.specs.declared.course.Course.TheVariants.{Waiting, Driving, Commanding, Checking, AwaitingDecision}
+use Rattle.sheep_node.specs.declared.course.Course.TheVariants.{Driving, Commanding, Checking, AwaitingDecision}
 use Rattle.sheep_node.specs.State.{Node}
 use Rattle.sheep_node.specs.StepState.{StepState, at_first, session_in, with_node}
 use Rattle.sheep_node.specs.Courses.{inode_open, after_command_step}

@@ -1,6 +1,6 @@
 -- Each write of a read or write, or of a check, goes to whole units inside its object: blocks of a data object, and entries of an inode's
 -- table.
-use Rattle.std.proofs.Common.{◌≡◌, arith, ℕ, ◌+◌, ◌*◌, ◌-◌, ◌/◌, ◌%◌, ◌^◌, ◌<◌, ◌≤◌, nat_lt, Bool, true, false, cond, List, [], ◌∷◌, length, All, Option, Some, None, IfSome, IsTrue, refl, sym, ap, subst, ◌∙◌}
+use Rattle.std.proofs.Common.{◌≡◌, arith, ℕ, ◌+◌, ◌*◌, ◌-◌, ◌/◌, ◌%◌, ◌^◌, ◌<◌, ◌≤◌, nat_lt, Bool, true, false, cond, List, [], ◌∷◌, length, All, Option, Some, None, IsTrue, refl, sym, ap, subst, ◌∙◌}
 use Rattle.std.proofs.lemmas.Bool.{ltb-true, ltb-false}
 use Rattle.std.proofs.lemmas.List.Elements.{All-nil, All-head}
 use Rattle.std.proofs.lemmas.Option.{same_Some}
@@ -32,7 +32,6 @@ use Rattle.guest_driver.specs.Driver as drivers
 use Rattle.guest_driver.specs.Driver.{InPlace, Fetching, Creating, Entering, Driver, Reads, Writes, begin_unless_refused, begin_driver}
 use Rattle.guest_driver.proofs.BeginLemmas.{asks-some, ends-inside, read-begins-on, write-begins-on}
 use Rattle.guest_driver.proofs.WorkLemmas.{object-whole, length-piece_bytes}
-use Rattle.disk_check.specs.declared.act.CheckAct.TheVariants as check_acts
 use Rattle.disk_check.specs.Table.{own_indexes}
 use Rattle.disk_check.specs.Value.{all_bytes, pieces_in, value_of}
 use Rattle.disk_check.specs.Check as checks

@@ -51,3 +51,4 @@ pub mod HeldLevels
 pub mod GrantedAttempts
 pub mod LastReads
 pub mod RefusedItems
+pub mod PiecesInRange

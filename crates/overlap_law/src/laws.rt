@@ -43,6 +43,7 @@ ghost use Rattle.overlap_law.specs.NodeEpochs.{RecoveriesArePresent, AnswerersHa
 ghost use Rattle.overlap_law.specs.RequestsOfScript.{JoinsAreNew};
 ghost use Rattle.overlap_law.specs.RoomOfScripts.{HasFewControls};
 ghost use Rattle.overlap_law.specs.RowsInRange.{RowsCanBeTold, ObjectsAreFew};
+ghost use Rattle.overlap_law.specs.PiecesInRange.{ReadsNoPiece, PiecesAreInRange};
 ghost use Rattle.overlap_law.specs.TiedAttempts.{IsTied};
 ghost use Rattle.overlap_law.specs.ShapedAttempts.{AreShaped};
 ghost use Rattle.overlap_law.specs.Groups.{TermsAreKept, FlightIsKept};
@@ -332,13 +333,14 @@ pub fn attempts_of_the_refused_are_mute()
 {}
 
 /// In each world of a run in range nodes and wire go together, and so do works and requests, and all that is asked and told can be spelled;
-/// and an up node may take each step that an event has it take. Of a peer's request that it serves this isn't said: there is still to show
-/// that the piece ends inside the row.
+/// and an up node may take each step that an event has it take. For what a request in the wire creates or writes ends inside the rows of
+/// its object. Of a read that a node serves this isn't said: there is still to show that the piece ends inside the row.
 pub fn nodes_step_on_what_they_may()
     ensures together { (script : List Statement) (world : World) → RunsAreInRange script → Began script world → HoldsTogether script world }
     ensures may { (script : List Statement) (world : World) (n : ℕ) (host : Host) (cause : NodeCause) → RunsAreInRange script
         → Began script world → host_at n world ≡ Some host → is_host_up host ≡ true → IsCause script world n host cause
-        → ((request : PeerReq) → input_of_cause cause ≢ inputs.Request request) → May (input_of_cause cause) host.node }
+        → ReadsNoPiece cause → May (input_of_cause cause) host.node }
+    ensures pieces { (script : List Statement) (world : World) → RunsAreInRange script → Began script world → PiecesAreInRange world }
 {}
 
 /// In each run in range no message to create or write of a refused request succeeded, and neither it nor the reply to it was lost. So the

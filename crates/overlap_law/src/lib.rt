@@ -112,6 +112,7 @@ pub use with_asks::what_a_clients_read_keeps;
 pub use with_asks::what_is_owed_gives_the_headline;
 pub use with_asks::what_runs_with_asks_keep;
 pub use works::requests_of_nodes_are_the_scripts;
+pub use works::tables_are_of_one_spec;
 pub use works::the_attempts_are_whole;
 pub use works::works_are_waited_for;
 pub use writers::a_session_has_one_inode_work;

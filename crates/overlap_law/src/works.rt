@@ -1,8 +1,20 @@
 //! Laws of requests and their works: where the requests of nodes are, and what their works make of objects.
 
-ghost use Rattle.std.specs.Prelude.{◌≡◌, ℕ, false, List, Some};
+ghost use Rattle.std.specs.Prelude.{◌≡◌, ◌≢◌, ℕ, false, List, [], ◌∷◌, ◌++◌, All, Some, slice_index};
+ghost use Rattle.object_id.specs.declared.entry.Entry.{Entry};
+ghost use Rattle.object_id.specs.declared.entry.Entry.TheVariants.{Reserve};
+ghost use Rattle.object_id.specs.declared.entry.Origin.TheVariants.{SnapshotOf};
+ghost use Rattle.object_id.specs.declared.node.NodeId.{NodeId};
+ghost use Rattle.object_id.specs.declared.oid.Vid.{Vid};
+ghost use Rattle.vdi_directory.specs.declared.decision.Decision.TheVariants as decisions;
+ghost use Rattle.epoch_log.specs.Appending.{IsReservable};
 ghost use Rattle.cluster_script.specs.declared.statement.Statement.{Statement};
-ghost use Rattle.vdi_directory.specs.Decisions.{log_effects};
+ghost use Rattle.vdi_directory.specs.Decisions.{log_effects, decision_after};
+ghost use Rattle.vdi_directory.specs.declared.header.Header.{Header};
+ghost use Rattle.vdi_directory.specs.Chains.{chain_of};
+ghost use Rattle.vdi_directory.specs.Effects.{header_of, name_of};
+ghost use Rattle.vdi_ops.specs.Tables.{table_in};
+ghost use Rattle.overlap_law.specs.Each.{spec_in};
 ghost use Rattle.sheep_node.specs.declared.event.Event.{Event};
 ghost use Rattle.sheep_world.specs.Began.{Began};
 ghost use Rattle.overlap_law.specs.Past.{MomentWithPast, run_with_past};
@@ -44,4 +56,22 @@ pub fn works_are_waited_for()
     ensures { (script : List Statement) (events : List Event) (moment : MomentWithPast) → RunsAreInRange script
         → run_with_past script events ≡ Some moment
         → WorksAreWaitedFor (log_effects moment.world.log) (λ (id : ℕ). false) moment.world.hosts moment.past.attempts }
+{}
+
+/// The disks above one are known by the log, and were made like it: so each entry of a table that is read, where it names a disk, names one
+/// of this spec. And the id that is granted to take the place of a working disk is of that disk's spec.
+pub fn tables_are_of_one_spec()
+    ensures chain { (log : List Entry) (vid : ℕ) (header : Header) → All IsReservable log → header_of (log_effects log) vid ≡ Some header
+        → All (λ (id : ℕ). spec_in (log_effects log) id ≡ Some header.spec) (vid ∷ chain_of (log_effects log) vid) }
+    ensures table { (log : List Entry) (vid : ℕ) (header : Header) (bytes : List ℕ) (index : ℕ) → All IsReservable log
+        → header_of (log_effects log) vid ≡ Some header
+        → slice_index (table_in (vid ∷ chain_of (log_effects log) vid) header.spec bytes) index ≢ 0
+        → spec_in (log_effects log) (slice_index (table_in (vid ∷ chain_of (log_effects log) vid) header.spec bytes) index)
+        ≡ Some header.spec }
+    ensures snapshot { (read : List Entry) (by : NodeId) (session : ℕ) (name tag : List ℕ) (vid old : Vid) (header : Header)
+        → All IsReservable (read ++ Reserve by session name (SnapshotOf tag) ∷ [])
+        → decision_after read (Reserve by session name (SnapshotOf tag)) ≡ decisions.Granted vid
+        → (name_of (log_effects read) name).working ≡ Some old
+        → header_of (log_effects (read ++ Reserve by session name (SnapshotOf tag) ∷ [])) vid.0 ≡ Some header
+        → spec_in (log_effects (read ++ Reserve by session name (SnapshotOf tag) ∷ [])) old.0 ≡ Some header.spec }
 {}
