@@ -1,7 +1,7 @@
 -- What is good is available at each moment, and so of each epoch that counts the newest one has as many targets as a read needs, if no
 -- attempt is of an epoch before its object's birth.
-use Rattle.std.proofs.Common.{◌≡◌, ◌≢◌, ◌⊎◌, inl, inr, ⊎_elim, arith, ℕ, zero, suc, ◌+◌, ◌-◌, ◌≤◌, ◌<◌, ◌==◌, ◌&&◌, ◌||◌, nat_le, max, not, Bool, true, false, cond, List, [], ◌∷◌, ◌++◌, length, filter, map, Option, Some, None, refl, sym, ap, subst, ◌∙◌, slice_get}
-use Rattle.std.specs.List.{find, list_any, list_all, range_with_len}
+use Rattle.std.proofs.Common.{◌≡◌, ◌≢◌, ◌⊎◌, inl, inr, ⊎_elim, arith, ℕ, zero, suc, ◌+◌, ◌-◌, ◌≤◌, ◌<◌, ◌==◌, ◌&&◌, max, not, Bool, true, false, cond, List, [], ◌∷◌, ◌++◌, length, filter, map, Option, Some, None, refl, sym, ap, subst, ◌∙◌, slice_get}
+use Rattle.std.specs.List.{find, list_all, range_with_len}
 use Rattle.std.specs.Option.{option_map, option_map_or}
 use Rattle.std.specs.FinMap as tree
 use Rattle.std.proofs.lemmas.Bool.{and_parts, and_from, cases_eq, eqb-true, leb-true, not-true, or_cases, or_left, or_right, or_parts}
@@ -23,8 +23,7 @@ use Rattle.sheep_world.specs.NodeCauses.{event_of_cause}
 use Rattle.sheep_world.specs.Step.{EventOutcome}
 use Rattle.sheep_world.specs.Incarnations.{EndedIncarnation, incarnation_in, is_incarnation_kept}
 use Rattle.overlap_law.specs.Attempts.{AttemptRecord, object_of, attempts_on}
-use Rattle.overlap_law.specs.Reached.{Hosts}
-use Rattle.overlap_law.specs.Holders.{targets_by, creates, first_create, birth_of, epochs_between, is_kept_in, is_available_since, is_available, born_objects, is_dead_by_log, lacks_holders, unavailable_in, is_object_among, is_live_object, is_good}
+use Rattle.overlap_law.specs.Holders.{targets_by, creates, first_create, is_kept_in, is_available_since, is_available, born_objects, is_dead_by_log, lacks_holders, unavailable_in, is_object_among, is_live_object, is_good}
 use Rattle.overlap_law.specs.Past.{MomentWithPast, run_with_past, past_after_event, moment_after, counts}
 use Rattle.overlap_law.specs.Each.{policy_in}
 use Rattle.overlap_law.specs.Fates.{AttemptsAreShaped}

@@ -1,10 +1,10 @@
 -- At each moment on the way of an event: who is lost or came to an epoch is so later, a doomed attempt stays doomed, and an epoch that is dying
 -- stays so. A node that isn't lost recovers its own epoch; and where one has recovered in an epoch, no target of an earlier one is in that.
-use Rattle.std.proofs.Common.{◌≡◌, ◌⊎◌, inl, inr, ⊎_elim, arith, ℕ, ◌+◌, ◌≤◌, ◌<◌, ◌&&◌, ◌||◌, nat_le, not, Bool, true, false, List, [], ◌∷◌, zero, suc, Option, Some, None, is_some, refl, sym, ap, subst, ◌∙◌, slice_get}
+use Rattle.std.proofs.Common.{◌≡◌, ⊎_elim, arith, ℕ, ◌+◌, ◌≤◌, ◌<◌, ◌&&◌, ◌||◌, nat_le, not, Bool, true, false, List, [], ◌∷◌, zero, suc, Option, Some, None, is_some, refl, sym, ap, subst, ◌∙◌, slice_get}
 use Rattle.std.specs.List.{list_any}
 use Rattle.std.specs.Option.{option_map_or}
 use Rattle.std.specs.FinMap as tree
-use Rattle.std.proofs.lemmas.Bool.{and_parts, and_from, and_cases, cases_lt, eqb-true, eq-eqb, le-leb, leb-true, leb-false, not-true, or_cases, or_left, or_right, or_parts}
+use Rattle.std.proofs.lemmas.Bool.{and_parts, and_from, and_cases, cases_lt, eqb-true, eq-eqb, le-leb, leb-true, leb-false, or_cases, or_left, or_right, or_parts}
 use Rattle.std.proofs.lemmas.Option.{same_Some}
 use Rattle.object_id.specs.declared.node.NodeId.{NodeId}
 use Rattle.object_id.specs.declared.entry.Entry.{Entry}
@@ -28,7 +28,7 @@ use Rattle.overlap_law.proofs.DoomedTraffic.{BeyondLater, traffic_doomed}
 use Rattle.overlap_law.proofs.EpochsRise.{epochs_rise}
 use Rattle.overlap_law.proofs.FinishedInMoments.{TermsHold, finished_before}
 use Rattle.overlap_law.proofs.HolderLemmas.{target-member}
-use Rattle.overlap_law.proofs.LogsInMoments.{LogGrows, log_grows, same_members, WasUp, IsNew, ups_were_up}
+use Rattle.overlap_law.proofs.LogsInMoments.{log_grows, same_members, WasUp, IsNew, ups_were_up}
 use Rattle.overlap_law.proofs.ReadInMoments.{IsSoundHost, epoch_within, recovery_own, recovery_present}
 use Rattle.overlap_law.proofs.RecoveredInMoments.{node_of, EndsNow}
 use Rattle.overlap_law.proofs.StoodNodes.{StoodSince, have_stayed, are_beyond}

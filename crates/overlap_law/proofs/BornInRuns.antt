@@ -1,19 +1,14 @@
 -- In every run in range what nodes have, know of and tell is of objects that were born.
-use Rattle.std.proofs.Common.{◌≡◌, ◌≢◌, ⊎_elim, ℕ, ◌==◌, Bool, true, false, List, [], ◌∷◌, All, Contains, Option, Some, None, Ok, IfSome, unwrap_or, slice_get, option_map, refl, sym, ap, subst, ◌∙◌}
-use Rattle.std.specs.Ordering.{nat_cmp}
+use Rattle.std.proofs.Common.{◌≡◌, ◌≢◌, ⊎_elim, ℕ, true, List, [], ◌∷◌, All, Contains, Option, Some, None, Ok, unwrap_or, slice_get, option_map, refl, sym, ap, subst, ◌∙◌}
 use Rattle.std.specs.FinMap as tree
 use Rattle.std.proofs.lemmas.List.Elements.{All-nil, All-cons, All-contains}
 use Rattle.proof_tools.proofs.FiniteMaps.{get-insert_cases, keys-contain}
-use Rattle.object_id.specs.declared.entry.Member.{Member}
 use Rattle.object_id.specs.declared.node.NodeId.{NodeId}
 use Rattle.object_store.specs.Store.{SeenRow, AllRows, rows_of}
 use Rattle.cluster_script.specs.declared.statement.Statement.{Statement}
 use Rattle.cluster_script.specs.Settings.{tries_of}
-use Rattle.peer_proto.specs.declared.ask.PeerAsk.{PeerAsk}
-use Rattle.peer_proto.specs.declared.ask.PeerAsk.TheVariants as asks
 use Rattle.peer_proto.specs.declared.ask.PeerReq.{PeerReq}
 use Rattle.peer_proto.specs.declared.say.PeerRsp.{PeerRsp}
-use Rattle.peer_proto.specs.declared.say.PeerSay.TheVariants as says
 use Rattle.peer_proto.specs.Ask.{ask_in}
 use Rattle.peer_proto.specs.Say.{say_in}
 use Rattle.peer_service.specs.Serve.{reply_to}
@@ -22,31 +17,28 @@ use Rattle.message_wire.specs.declared.name.MessageName.{MessageName}
 use Rattle.message_wire.specs.declared.packet.Packet.{Packet}
 use Rattle.message_wire.specs.declared.packet.Packet.TheVariants.{Request, Reply}
 use Rattle.sheep_node.specs.declared.event.Event.{Event}
-use Rattle.sheep_node.specs.declared.input.Input.{Input}
 use Rattle.sheep_node.specs.declared.input.Input.TheVariants as inputs
 use Rattle.sheep_node.specs.State as nodes
 use Rattle.sheep_node.specs.Step.{node_step}
 use Rattle.sheep_world.specs.World.{Host, World, is_host_up}
-use Rattle.sheep_world.specs.Opening.{format_entry, initial_world, initial_member_node}
+use Rattle.sheep_world.specs.Opening.{format_entry, initial_world}
 use Rattle.sheep_world.specs.MembershipChanges.{lost_host}
-use Rattle.sheep_world.specs.Step.{EventOutcome, step}
+use Rattle.sheep_world.specs.Step.{EventOutcome}
 use Rattle.sheep_world.specs.NodeCauses.{NodeCause, GuestAsks, RequestComes, ReplyComes, LossIsTold, EntryIsRead, EntryIsPut, RecoveryTicks, WorkIsRetried, input_of_cause, IsCause}
 use Rattle.sheep_world.specs.EventKinds.{log_after_return, EventKind, NodeStep, UntoldLoss, UnreadDelivery, NodeLoss, NodeLeave, NodeReweight, NodeJoin, NodeReturn, PhaseEnd}
 use Rattle.sheep_world.specs.HostChanges.{host_after_step, host_after_return, joined_host}
 use Rattle.sheep_world.specs.Began.{Began}
 use Rattle.sheep_world.proofs.EventInversion.{happens}
 use Rattle.sheep_world.proofs.WireAtOpening.{opening_found}
-use Rattle.overlap_law.specs.Attempts.{AttemptRecord, object_of}
 use Rattle.overlap_law.specs.BornObjects.{IsBorn, ObjectsWereBorn}
 use Rattle.overlap_law.specs.Past.{MomentWithPast, moment_after, first_moment, run_with_past}
 use Rattle.overlap_law.specs.MomentChanges.{RunsAreInRange}
-use Rattle.overlap_law.specs.Traffic.{MakersAreOfAttempts}
 use Rattle.overlap_law.proofs.BornStays.{born_by_a_message, born_stays}
 use Rattle.overlap_law.proofs.CreatesOnTheWire.{AllSo, SendsSo, RepliesBy, RepliesSo, wire_so}
 use Rattle.overlap_law.proofs.MakersInTraffic.{HasMakersOfAttempts, kept_makers}
 use Rattle.overlap_law.proofs.MomentTrails.{event_trail}
 use Rattle.overlap_law.proofs.ObjectsGrow.{said_grows, node_grows}
-use Rattle.overlap_law.proofs.ObjectsOfRows.{AskWithin, SaidWithin, HasWithin, IsPeerWithin, reply_within}
+use Rattle.overlap_law.proofs.ObjectsOfRows.{AskWithin, SaidWithin, HasWithin, reply_within}
 use Rattle.overlap_law.proofs.ObjectsOfSteps.{stepped_has, none_had, BringsWithin}
 use Rattle.overlap_law.proofs.RunsByChanges.{event_kept}
 use Rattle.overlap_law.proofs.RunsByEvents.{KeptByEvents, run-kept_by_events}

@@ -1,6 +1,6 @@
 -- Each change of a moment on the way of an event carries the attempts on: as many targets as a read needs are members of each later epoch,
 -- where the newest has as many of each epoch that counts.
-use Rattle.std.proofs.Common.{◌≡◌, ◌⊎◌, inl, inr, ⊎_elim, arith, ℕ, zero, suc, ◌+◌, ◌≤◌, ◌<◌, Bool, true, false, cond, List, [], ◌∷◌, ◌++◌, length, min, filter, map, Some, refl, sym, ap, subst, ◌∙◌, slice_get}
+use Rattle.std.proofs.Common.{◌≡◌, ◌⊎◌, inl, inr, ⊎_elim, arith, ℕ, suc, ◌≤◌, ◌<◌, Bool, true, false, cond, List, [], ◌∷◌, length, min, filter, map, Some, refl, sym, ap, subst, ◌∙◌, slice_get}
 use Rattle.std.proofs.lemmas.Bool.{cases_lt, eqb-true, eq-eqb, or_cases, or_left, or_right, or_parts}
 use Rattle.std.proofs.lemmas.Option.{same_Some}
 use Rattle.object_id.specs.declared.node.NodeId.{NodeId}
@@ -21,7 +21,7 @@ use Rattle.gateway.specs.declared.message.Message.{Message}
 use Rattle.sheep_node.specs.declared.event.Event.{Event}
 use Rattle.sheep_node.specs.Changes.{attempt_in}
 use Rattle.sheep_world.specs.Began.{Began}
-use Rattle.overlap_law.specs.Attempts.{MessageFate, Flying, AttemptRecord, object_of}
+use Rattle.overlap_law.specs.Attempts.{Flying, AttemptRecord, object_of}
 use Rattle.overlap_law.specs.Words.{is_in_vain, is_one_in_vain, is_doomed}
 use Rattle.overlap_law.specs.Reached.{Hosts, is_beyond, has_finished, is_dying}
 use Rattle.overlap_law.specs.Holders.{targets_by}

@@ -1,5 +1,5 @@
 -- Every change leaves each request of a node at a place that what it asked allows.
-use Rattle.std.proofs.Common.{◌≡◌, ◌≢◌, ℕ, Bool, true, false, [], ◌∷◌, ◌++◌, Option, Some, None, IfSome, refl, sym, ap, subst, ◌∙◌}
+use Rattle.std.proofs.Common.{◌≡◌, ℕ, false, [], ◌∷◌, ◌++◌, Option, Some, None, refl, sym, ap, subst, ◌∙◌}
 use Rattle.std.specs.Ordering.{nat_cmp}
 use Rattle.std.specs.FinMap as tree
 use Rattle.std.proofs.lemmas.Option.{same_Some}
@@ -15,7 +15,7 @@ use Rattle.gateway.specs.State.{Work}
 use Rattle.guest_driver.specs.declared.disk.Disk.{Disk}
 use Rattle.guest_driver.specs.Driver.{begin_driver}
 use Rattle.guest_driver.specs.InodeQueue.{queue_with_open, queue_with_waiting, queue_after_end}
-use Rattle.disk_check.specs.Check.{Check, begin_check}
+use Rattle.disk_check.specs.Check.{begin_check}
 use Rattle.vdi_ops.specs.Entries.{command_refusal}
 use Rattle.sheep_node.specs.declared.ask.Ask.{Ask}
 use Rattle.sheep_node.specs.declared.ask.Ask.TheVariants as asks
@@ -28,7 +28,7 @@ use Rattle.sheep_node.specs.StepState.{StepState, at_first, session_in}
 use Rattle.sheep_node.specs.Courses.{inode_open}
 use Rattle.sheep_node.specs.Guests.{queued_as, seen_by_command}
 use Rattle.sheep_node.specs.May.{May}
-use Rattle.sheep_node.specs.SessionQueues.{session_among, QueuesAreDiskRequests, CommandsAreAlone}
+use Rattle.sheep_node.specs.SessionQueues.{QueuesAreDiskRequests, CommandsAreAlone}
 use Rattle.sheep_node.specs.Changes as changes
 use Rattle.sheep_node.specs.Changes.{Arrival, Outcome, ToWork, ToEntry, ToReply, outcome_of_check, without_ended_work, without_denied_work, zones_of_members, RequestSteps, DiskBegins, DiskGoesOn, CommandBegins, CommandGoesOn, CommandDecided, CheckBegins, CheckGoesOn, ObjectBegins, ObjectIsDone, EntryBegins, EntryDecided, WorkIsNext, AtOnce, InTurn, Again, AgainAlone, input_received, Change, Leads}
 use Rattle.sheep_node.proofs.OneWorkParts.{Requests, Sessions}
@@ -39,8 +39,8 @@ use Rattle.sheep_node.proofs.SoleCommands.{free, change_keeps_alone, received_al
 use Rattle.sheep_node.proofs.SoleParts.{CommandsAre, same_command, command_is_free}
 use Rattle.sheep_node.proofs.StepChain.{kept_by_chain}
 use Rattle.sheep_node.proofs.WantedSteps.{driver_begins-wanted, driver_goes_on-wanted}
-use Rattle.overlap_law.specs.RequestsOfScript.{IsDriverOf, IsOnDisk, IsCheckOf}
-use Rattle.overlap_law.proofs.CoursesOfAsks.{disk_in, id_of_disk, IsOfSession, check_working, IsPlacedAt, IsPlacedIn, ArePlaced, PlacedSoFar, IsBrought, session_placed, all_placed, but_one, moved_others, freed_placed, others_ended, ended_placed, course_placed, IsOutcomePlaced, HasMoved, driven_placed, commanded_placed, checked_placed}
+use Rattle.overlap_law.specs.RequestsOfScript.{IsDriverOf, IsOnDisk}
+use Rattle.overlap_law.proofs.CoursesOfAsks.{disk_in, id_of_disk, IsOfSession, check_working, IsPlacedAt, IsPlacedIn, ArePlaced, PlacedSoFar, IsBrought, session_placed, all_placed, moved_others, freed_placed, others_ended, ended_placed, course_placed, HasMoved, driven_placed, commanded_placed, checked_placed}
 use Rattle.overlap_law.proofs.StepsOfAsks.{IsCheckAsked, driver_begins-asked, driver_goes_on-asked, check_begins-asked, check_goes_on-asked, command_begins-asked, command_goes_on-asked, command_decided-asked}
 
 -- a check that isn't refused is of the working disk that is open

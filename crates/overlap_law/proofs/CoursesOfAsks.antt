@@ -1,32 +1,26 @@
 -- Each request of a node is at a place that what it asked allows, on the disk that its session has open, which is the one on which it
 -- began: every change keeps that, whatever is known of the disks on which requests began.
-use Rattle.std.proofs.Common.{◌≡◌, ◌≢◌, ℕ, Bool, true, false, [], ◌∷◌, ◌++◌, Option, Some, None, IfSome, option_map, refl, sym, ap, subst, ◌∙◌, ⊎_elim}
+use Rattle.std.proofs.Common.{◌≡◌, ◌≢◌, ℕ, Bool, true, false, Option, Some, None, option_map, refl, sym, ap, subst, ◌∙◌, ⊎_elim}
 use Rattle.std.specs.Prelude.{unwrap_or}
-use Rattle.std.specs.Ordering.{nat_cmp}
 use Rattle.std.specs.FinMap as tree
 use Rattle.std.proofs.lemmas.Bool.{cases_eq}
 use Rattle.std.proofs.lemmas.Option.{same_Some}
 use Rattle.proof_tools.proofs.FiniteMaps.{get-insert_same, get-insert_other, get-remove_other, get-remove_same}
-use Rattle.object_id.specs.declared.cause.Cause.TheVariants.{Halt}
-use Rattle.inode.specs.Layout.{Content}
 use Rattle.peer_proto.specs.declared.guest.DiskAsk.{DiskAsk}
 use Rattle.peer_proto.specs.declared.guest.GuestRsp.{GuestRsp}
 use Rattle.peer_proto.specs.declared.guest.VdiAsk.{VdiAsk}
 use Rattle.peer_proto.specs.declared.guest.VdiAsk.TheVariants as disk_commands
-use Rattle.peer_service.specs.State.{effects_of}
-use Rattle.peer_service.specs.LogReading.{decision_on}
 use Rattle.gateway.specs.declared.message.Status.{Status}
-use Rattle.gateway.specs.Work.{zones_for}
 use Rattle.gateway.specs.State.{Work}
 use Rattle.gateway_queue.specs.Queue.{queue_without}
 use Rattle.guest_driver.specs.declared.act.DriverAct.{DriverAct}
 use Rattle.guest_driver.specs.declared.act.DriverAct.TheVariants as driver_acts
 use Rattle.guest_driver.specs.declared.disk.Disk.{Disk}
-use Rattle.guest_driver.specs.Driver.{Driver, DriverStep, begin_driver}
-use Rattle.guest_driver.specs.InodeQueue.{queue_with_open, queue_with_waiting, queue_after_end}
+use Rattle.guest_driver.specs.Driver.{Driver, DriverStep}
+use Rattle.guest_driver.specs.InodeQueue.{queue_after_end}
 use Rattle.disk_check.specs.declared.act.CheckAct.{CheckAct}
 use Rattle.disk_check.specs.declared.act.CheckAct.TheVariants as check_acts
-use Rattle.disk_check.specs.Check.{Check, CheckStep, begin_check}
+use Rattle.disk_check.specs.Check.{CheckStep}
 use Rattle.vdi_ops.specs.declared.act.OpAct.{OpAct}
 use Rattle.vdi_ops.specs.declared.act.OpAct.TheVariants as op_acts
 use Rattle.vdi_ops.specs.Entries.{command_refusal}
@@ -40,21 +34,17 @@ use Rattle.sheep_node.specs.declared.course.Request.{Request}
 use Rattle.sheep_node.specs.declared.session.Session.{Session}
 use Rattle.sheep_node.specs.declared.course.Course.TheVariants.{Waiting, Driving, Commanding, Checking, DoingWork, AwaitingDecision}
 use Rattle.sheep_node.specs.State.{Node, new_session}
-use Rattle.sheep_node.specs.StepState.{StepState, at_first, session_in, request_ended, with_sole_request}
-use Rattle.sheep_node.specs.Courses.{after_driver_step, disk_after, inode_open, after_command_step}
-use Rattle.sheep_node.specs.Guests.{queued_as, seen_by_command}
-use Rattle.sheep_node.specs.May.{May, is_disk_course}
-use Rattle.sheep_node.specs.SessionQueues.{session_among, command_in, QueuesAreDiskRequests, CommandsAreAlone}
-use Rattle.sheep_node.specs.Changes as changes
-use Rattle.sheep_node.specs.Changes.{HasRequest, Arrival, Outcome, ToWork, ToEntry, ToReply, outcome_of_driver, outcome_of_command, outcome_of_check, without_ended_work, without_denied_work, zones_of_members, RequestSteps, DiskBegins, DiskGoesOn, CommandBegins, CommandGoesOn, CommandDecided, CheckBegins, CheckGoesOn, ObjectBegins, ObjectIsDone, EntryBegins, EntryDecided, WorkIsNext, AtOnce, InTurn, Again, AgainAlone, input_received, Change, Leads}
+use Rattle.sheep_node.specs.StepState.{StepState, session_in, request_ended, with_sole_request}
+use Rattle.sheep_node.specs.Courses.{after_driver_step, disk_after, after_command_step}
+use Rattle.sheep_node.specs.Guests.{seen_by_command}
+use Rattle.sheep_node.specs.May.{is_disk_course}
+use Rattle.sheep_node.specs.SessionQueues.{session_among, command_in}
+use Rattle.sheep_node.specs.Changes.{HasRequest, Outcome, ToWork, ToEntry, ToReply, outcome_of_driver, outcome_of_command, outcome_of_check, without_ended_work}
 use Rattle.sheep_node.proofs.OneWorkParts.{Requests, Sessions}
 use Rattle.sheep_node.proofs.SessionViews.{IsSeen, same_seen, free_seen, own_seen}
-use Rattle.sheep_node.proofs.SoleCommands.{free, change_keeps_alone, received_alone}
-use Rattle.sheep_node.proofs.SoleParts.{CommandsAre, IsFreeFor, command_is_free}
-use Rattle.sheep_node.proofs.StepChain.{kept_by_chain}
-use Rattle.sheep_node.proofs.WantedSteps.{driver_begins-wanted, driver_goes_on-wanted}
-use Rattle.overlap_law.specs.RequestsOfScript.{IsDriverOf, IsOnDisk, IsDriverOfAsk, IsCommandOfAsk, IsCheckOf, IsCheckOfAsk, IsCourseOfAsk}
-use Rattle.overlap_law.proofs.StepsOfAsks.{IsDriverAskedAt, driver_begins-asked, driver_goes_on-asked, driver_stays-asked, IsCheckAskedAt, check_begins-asked, check_goes_on-asked, IsOpAskedAt, command_begins-asked, command_goes_on-asked, command_decided-asked}
+use Rattle.sheep_node.proofs.SoleParts.{CommandsAre, IsFreeFor}
+use Rattle.overlap_law.specs.RequestsOfScript.{IsOnDisk, IsDriverOfAsk, IsCourseOfAsk}
+use Rattle.overlap_law.proofs.StepsOfAsks.{IsDriverAskedAt, driver_stays-asked, IsCheckAskedAt, IsOpAskedAt}
 
 -- what a session has open
 abbrev pub disk_in : Session → Option Disk

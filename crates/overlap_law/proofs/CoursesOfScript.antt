@@ -13,7 +13,6 @@ use Rattle.cluster_script.specs.Sessions.{ScriptSession}
 use Rattle.cluster_script.specs.Settings.{tries_of}
 use Rattle.object_id.specs.declared.entry.Entry.{Entry}
 use Rattle.object_id.specs.declared.node.NodeId.{NodeId}
-use Rattle.guest_driver.specs.declared.disk.Disk.{Disk}
 use Rattle.peer_proto.specs.declared.ask.PeerReq.{PeerReq}
 use Rattle.peer_proto.specs.declared.guest.GuestRsp.{GuestRsp}
 use Rattle.sheep_node.specs.declared.ask.Ask.{Ask}
@@ -28,7 +27,6 @@ use Rattle.sheep_node.specs.State.{Node, session_at}
 use Rattle.sheep_node.specs.Step.{on_request, is_due, with_recovered, recovered_put, on_input, node_step}
 use Rattle.sheep_node.specs.StepState.{StepState, at_first, with_node}
 use Rattle.sheep_node.specs.Changes.{IsSoundStep}
-use Rattle.sheep_node.proofs.OneWorkParts.{Requests, Sessions}
 use Rattle.sheep_node.proofs.StepChain.{step_chain}
 use Rattle.sheep_world.specs.declared.progress.StartedRequest.{StartedRequest}
 use Rattle.sheep_world.specs.declared.progress.SessionProgress.{SessionProgress}

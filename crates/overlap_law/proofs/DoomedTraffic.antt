@@ -2,7 +2,6 @@
 -- beyond its epoch isn't served there.
 use Rattle.std.proofs.Common.{◌≡◌, ◌≢◌, ⊎_elim, arith, ℕ, zero, suc, ◌+◌, ◌-◌, ◌||◌, nat_le, Bool, true, false, cond, List, [], ◌∷◌, length, Option, Some, option_map, refl, sym, ap, subst, ◌∙◌, slice_get}
 use Rattle.std.specs.Option.{option_map_or}
-use Rattle.std.specs.FinMap as tree
 use Rattle.std.proofs.lemmas.Bool.{or_cases, or_left, or_right, lt-leb}
 use Rattle.std.proofs.lemmas.Option.{same_Some, slice_get_within}
 use Rattle.object_id.specs.declared.node.NodeId.{NodeId}

@@ -1,6 +1,6 @@
 -- No step of a node makes a row of an object that covers a level below the node's epoch: a row begins with that epoch or a later one, and none
 -- grows backwards. So who had no row of such a level has none later.
-use Rattle.std.proofs.Common.{◌≡◌, ◌⊎◌, ⊎_elim, arith, ℕ, ◌+◌, ◌-◌, ◌<◌, ◌≤◌, nat_le, not, Bool, true, false, cond, ◌||◌, ◌&&◌, List, [], ◌∷◌, ◌++◌, length, map, filter, Option, Some, None, unwrap_or, refl, sym, ap, subst, ◌∙◌}
+use Rattle.std.proofs.Common.{◌≡◌, ⊎_elim, arith, ℕ, ◌+◌, ◌-◌, ◌<◌, ◌≤◌, nat_le, not, Bool, true, false, cond, List, [], ◌∷◌, ◌++◌, length, map, filter, Some, None, unwrap_or, refl, sym, ap, subst, ◌∙◌}
 use Rattle.std.specs.List.{list_any}
 use Rattle.std.specs.FinMap as tree
 use Rattle.std.proofs.lemmas.Bool.{and_left, lt-leb, or_cases, or_left, or_right}
@@ -10,8 +10,8 @@ use Rattle.object_id.specs.Fields.{zeros}
 use Rattle.object_id.specs.Piece.{laid_over}
 use Rattle.epoch_log.specs.Epochs.{epoch_of, settled_of}
 use Rattle.cluster_script.specs.declared.statement.Statement.{Statement}
-use Rattle.object_store.specs.Rows.{has_ended_below, is_open, is_open_at, closed, closed_all, is_replaced, ended, purged}
-use Rattle.object_store.specs.Store.{SeenRow, rows_of, write_in, create_in}
+use Rattle.object_store.specs.Rows.{has_ended_below, is_open, is_open_at, closed, closed_all, is_replaced, ended}
+use Rattle.object_store.specs.Store.{SeenRow, rows_of, create_in}
 use Rattle.peer_service.specs.State.{Peer}
 use Rattle.peer_service.specs.Epochs.{stays_open, row_entering}
 use Rattle.peer_service.specs.LogReading.{without_objects, read_entry}
@@ -24,13 +24,13 @@ use Rattle.sheep_node.specs.State.{Node}
 use Rattle.sheep_node.specs.Step.{node_step}
 use Rattle.sheep_world.specs.World.{Host}
 use Rattle.sheep_world.specs.Began.{Began}
-use Rattle.overlap_law.specs.Each.{end_of_row, row_covers, has_row_at}
+use Rattle.overlap_law.specs.Each.{row_covers, has_row_at}
 use Rattle.overlap_law.specs.Past.{MomentWithPast, run_with_past}
 use Rattle.overlap_law.specs.MomentChanges.{MomentChange, MomentTrail, RunsAreInRange}
 use Rattle.overlap_law.proofs.CoveredLevels.{Covers, covers_from, covers_to, covers_by, any_changed}
 use Rattle.overlap_law.proofs.HostsInMoments.{none_there}
 use Rattle.overlap_law.proofs.NoRecoveredDue.{began-with_past}
-use Rattle.overlap_law.proofs.PeersInMoments.{PeerStep, PeerChange, PeerStays, PeerSteps, PeerIsNew, peers_change}
+use Rattle.overlap_law.proofs.PeersInMoments.{PeerChange, PeerStays, PeerSteps, PeerIsNew, peers_change}
 use Rattle.overlap_law.proofs.RowsInTurn.{end_open, end_shut}
 use Rattle.overlap_law.proofs.StoredRows.{KeepsRows, step-rows_so}
 

@@ -1,6 +1,6 @@
 -- What the invariant says of some objects and ids it says of fewer: where it speaks of the live ones, of the good ones or of the good ids
 -- it asks for them, and promises none.
-use Rattle.std.proofs.Common.{◌≡◌, ℕ, Bool, true, List, Option}
+use Rattle.std.proofs.Common.{ℕ, Bool, List, Option}
 use Rattle.object_id.specs.declared.entry.Entry.{Entry}
 use Rattle.object_id.specs.declared.entry.VdiSpec.{VdiSpec}
 use Rattle.object_id.specs.declared.oid.Vid.{Vid}

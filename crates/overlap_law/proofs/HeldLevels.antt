@@ -9,10 +9,8 @@ use Rattle.object_id.specs.declared.node.NodeId.{NodeId}
 use Rattle.object_id.specs.declared.entry.Entry.{Entry}
 use Rattle.object_id.specs.declared.entry.Member.{Member}
 use Rattle.object_id.specs.declared.policy.Policy.{Policy}
-use Rattle.object_id.specs.Oid.{kind_of}
-use Rattle.object_id.specs.Policy.{need_of}
 use Rattle.epoch_log.specs.Members.{is_member_node, is_member}
-use Rattle.epoch_log.specs.Epochs.{epoch_of, members_in, settled_of}
+use Rattle.epoch_log.specs.Epochs.{members_in, settled_of}
 use Rattle.epoch_log.proofs.EpochLemmas.{settled_of-begun}
 use Rattle.object_list.specs.Gathered.{has_node}
 use Rattle.vdi_directory.specs.Decisions.{log_effects}
@@ -27,8 +25,8 @@ use Rattle.overlap_law.specs.Past.{MomentWithPast}
 use Rattle.overlap_law.specs.Each.{EachHost, EachAttempt, has_reached, has_row_at, holds_level, policy_in}
 use Rattle.overlap_law.specs.Fates.{AttemptsAreShaped, IdsAreKnown}
 use Rattle.overlap_law.specs.NodeEpochs.{RecoveriesArePresent, AnswerersHaveCome, SettledIsRead}
-use Rattle.overlap_law.specs.Rows.{ServedRowsStay, RecoveredRowsAreKept, AttemptsAreCarried, common, IsCarriedFrom}
-use Rattle.overlap_law.specs.HeldLevels.{level_of, IsHeldAt, TheMadeIsHeld, CanBeFoundAt, TheMadeCanBeFound}
+use Rattle.overlap_law.specs.Rows.{ServedRowsStay, RecoveredRowsAreKept, AttemptsAreCarried, IsCarriedFrom}
+use Rattle.overlap_law.specs.HeldLevels.{level_of, IsHeldAt, TheMadeIsHeld, TheMadeCanBeFound}
 use Rattle.overlap_law.specs.Overlap.{OverlapAt}
 use Rattle.overlap_law.proofs.BaseLemmas.{made-served}
 use Rattle.overlap_law.proofs.FateLemmas.{made-not_doomed}

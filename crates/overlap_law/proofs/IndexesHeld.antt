@@ -1,10 +1,10 @@
 -- Where a recovery can find an object at a level, the rows there are of as many different indexes as a read needs: each target of the level
 -- that is a member of the recovery's epoch has the row of its own index.
-use Rattle.std.proofs.Common.{◌≡◌, ◌≢◌, ◌⊎◌, inl, inr, ⊎_elim, arith, ℕ, zero, suc, ◌+◌, ◌≤◌, ◌<◌, ◌==◌, ◌||◌, nat_lt, not, Bool, true, false, cond, List, [], ◌∷◌, ◌++◌, fold, length, filter, filter_map, get_or, Option, Some, None, refl, sym, ap, subst, ◌∙◌, slice_get}
+use Rattle.std.proofs.Common.{◌≡◌, ◌≢◌, ⊎_elim, arith, ℕ, zero, suc, ◌+◌, ◌≤◌, ◌<◌, ◌==◌, ◌||◌, nat_lt, not, Bool, true, false, cond, List, [], ◌∷◌, ◌++◌, fold, length, filter, filter_map, get_or, Option, Some, None, refl, sym, ap, ◌∙◌, slice_get}
 use Rattle.std.specs.List.{find, list_any, position, prefix_len, cons_option}
 use Rattle.std.specs.Option.{option_map}
 use Rattle.std.specs.FinMap as tree
-use Rattle.std.proofs.lemmas.Bool.{cases_order, eqb-true, eq-eqb, ne_eqb, lt-ltb, or_cases, or_left, or_right}
+use Rattle.std.proofs.lemmas.Bool.{eqb-true, eq-eqb, ne_eqb, lt-ltb, or_cases}
 use Rattle.std.proofs.lemmas.List.{length-append, length-map, get_or-map}
 use Rattle.std.proofs.lemmas.List.Folds.{list_any-append}
 use Rattle.std.proofs.lemmas.List.Kept.{AllPairs-from_increasing}
@@ -26,13 +26,12 @@ use Rattle.hash_ring.specs.Circle.{hash_of_object}
 use Rattle.hash_ring.specs.Placement.{AreWeighted, targets_of}
 use Rattle.hash_ring.proofs.TargetLaws.{targets_different}
 use Rattle.gf256.specs.Part.{is_in_strips, index_at}
-use Rattle.object_list.specs.Gathered.{is_same_node, has_node}
 use Rattle.object_store.specs.Store.{SeenRow, rows_of}
 use Rattle.vdi_directory.specs.declared.effect.Effect.{Effect}
 use Rattle.sheep_world.specs.World.{Host}
 use Rattle.overlap_law.specs.Reached.{Hosts}
 use Rattle.overlap_law.specs.Holders.{targets_by}
-use Rattle.overlap_law.specs.Each.{row_covers, has_row_at, holds_level, policy_in, index_of_part}
+use Rattle.overlap_law.specs.Each.{row_covers, holds_level, policy_in, index_of_part}
 use Rattle.overlap_law.specs.Rows.{RowsAreAtTargets}
 use Rattle.overlap_law.specs.Searches.{index_held, with_number, indexes_held}
 use Rattle.overlap_law.specs.HeldLevels.{CanBeFoundAt}

@@ -1,10 +1,10 @@
 -- Each change of a moment on the way of an event keeps that a target which has recovered in an epoch has a row that covers it, of each object
 -- made by then: rows stay, who is made late is served by all, and who recovers now has what isn't pending.
-use Rattle.std.proofs.Common.{◌≡◌, ◌⊎◌, inl, inr, ⊎_elim, arith, ℕ, zero, suc, ◌+◌, ◌≤◌, ◌<◌, ◌==◌, ◌||◌, nat_lt, nat_eq, not, Bool, true, false, cond, List, [], ◌∷◌, ◌++◌, length, map, Option, Some, None, is_some, refl, sym, ap, subst, ◌∙◌, slice_get}
-use Rattle.std.specs.List.{find, list_any, list_all, position, position_or_len, prefix_len}
+use Rattle.std.proofs.Common.{◌≡◌, ◌⊎◌, inl, inr, ⊎_elim, arith, ℕ, ◌+◌, ◌≤◌, ◌<◌, ◌==◌, ◌||◌, nat_eq, not, Bool, true, false, cond, List, [], ◌∷◌, ◌++◌, length, map, Some, None, refl, sym, ap, subst, ◌∙◌}
+use Rattle.std.specs.List.{find, list_any, list_all, position_or_len, prefix_len}
 use Rattle.std.specs.Option.{option_map}
 use Rattle.std.specs.FinMap as tree
-use Rattle.std.proofs.lemmas.Bool.{and_parts, cases_lt, eq-eqb, lt-ltb, or_cases, or_left, or_right, or_parts}
+use Rattle.std.proofs.lemmas.Bool.{and_parts, cases_lt, eq-eqb, lt-ltb, or_left, or_right, or_parts}
 use Rattle.std.proofs.lemmas.Option.{same_Some}
 use Rattle.object_id.specs.declared.node.NodeId.{NodeId}
 use Rattle.object_id.specs.declared.entry.Entry.{Entry}
@@ -12,8 +12,7 @@ use Rattle.object_id.specs.declared.policy.Policy.{Policy}
 use Rattle.object_id.specs.declared.oid.Kind.{Kind}
 use Rattle.object_id.specs.Oid.{kind_of}
 use Rattle.object_id.specs.Policy.{wanted_of}
-use Rattle.epoch_log.specs.Members.{is_member}
-use Rattle.epoch_log.specs.Epochs.{epoch_of, members_in, settled_of}
+use Rattle.epoch_log.specs.Epochs.{epoch_of, settled_of}
 use Rattle.cluster_script.specs.declared.statement.Statement.{Statement}
 use Rattle.gf256.specs.Part.{index_at, index_among}
 use Rattle.object_list.specs.Gathered.{is_same_node, has_node}
@@ -30,9 +29,9 @@ use Rattle.sheep_node.proofs.StepResults.{step_reads}
 use Rattle.sheep_world.specs.World.{Host}
 use Rattle.sheep_world.specs.Began.{Began}
 use Rattle.overlap_law.specs.Attempts.{MessageFate, Flying, Served, Doomed, AttemptRecord, object_of}
-use Rattle.overlap_law.specs.Words.{is_served, is_made, is_in_vain, is_one_in_vain, is_doomed}
+use Rattle.overlap_law.specs.Words.{is_served, is_made, is_one_in_vain, is_doomed}
 use Rattle.overlap_law.specs.Reached.{Hosts, is_beyond, has_finished}
-use Rattle.overlap_law.specs.Holders.{targets_by, is_dead_by_log, is_live_object}
+use Rattle.overlap_law.specs.Holders.{targets_by, is_dead_by_log}
 use Rattle.overlap_law.specs.Past.{MomentWithPast, run_with_past}
 use Rattle.overlap_law.specs.Each.{row_covers, policy_in, index_of_part}
 use Rattle.overlap_law.specs.Lists.{HasOpenRow, WhatIsNotPendingIsThere}

@@ -1,8 +1,8 @@
 -- The change of a moment that finishes a node's list leaves it complete: with the rows that the node has then, it has each good object that was
 -- made before its epoch.
-use Rattle.std.proofs.Common.{◌≡◌, ◌≢◌, ◌⊎◌, inl, inr, ⊎_elim, arith, ℕ, zero, suc, ◌+◌, ◌≤◌, ◌<◌, ◌==◌, ◌&&◌, ◌||◌, nat_le, max, not, Bool, true, false, cond, List, [], ◌∷◌, ◌++◌, length, filter, filter_map, map, Contains, Option, Some, None, is_some, unwrap_or, refl, sym, ap, subst, ◌∙◌, slice_get}
-use Rattle.std.specs.List.{find, list_any, cons_option}
-use Rattle.std.specs.Option.{option_map, option_map_or, option_or}
+use Rattle.std.proofs.Common.{◌≡◌, ◌≢◌, ◌⊎◌, inl, inr, ⊎_elim, arith, ℕ, ◌+◌, ◌≤◌, ◌<◌, ◌==◌, ◌&&◌, nat_le, max, not, Bool, true, false, cond, List, [], ◌++◌, Contains, Option, Some, None, is_some, refl, sym, ap, subst, ◌∙◌, slice_get}
+use Rattle.std.specs.List.{find}
+use Rattle.std.specs.Option.{option_map_or, option_or}
 use Rattle.std.specs.FinMap as tree
 use Rattle.std.proofs.lemmas.Bool.{and_left, and_parts, cases_eq, eq-eqb, leb-true, ne_eqb, or_from, or_left, or_right}
 use Rattle.std.proofs.lemmas.List.Folds.{find-append, list_any-append}
@@ -17,7 +17,7 @@ use Rattle.epoch_log.specs.Members.{is_member}
 use Rattle.epoch_log.specs.Epochs.{epoch_of, members_in, settled_of}
 use Rattle.cluster_script.specs.declared.statement.Statement.{Statement}
 use Rattle.object_list.specs.Gathered.{has_node}
-use Rattle.object_store.specs.Store.{SeenRow, AllRows, rows_of}
+use Rattle.object_store.specs.Store.{rows_of}
 use Rattle.vdi_directory.specs.Decisions.{log_effects}
 use Rattle.peer_proto.specs.Work.{policy_of}
 use Rattle.peer_service.specs.State.{Peer}
@@ -25,7 +25,6 @@ use Rattle.recovery.specs.Shown.{first_in}
 use Rattle.recovery.specs.State.{Recovery, is_listed, is_finished}
 use Rattle.sheep_node.specs.declared.event.Event.{Event}
 use Rattle.sheep_node.specs.RecoveryView.{recovery_state_of}
-use Rattle.sheep_node.specs.Step.{node_step}
 use Rattle.sheep_node.proofs.StepChain.{step_chain}
 use Rattle.sheep_node.proofs.StepEffects.{Untouched}
 use Rattle.sheep_world.specs.World.{Host, World, host_at}
@@ -36,12 +35,12 @@ use Rattle.sheep_world.proofs.BegunWorlds.{goes_on}
 use Rattle.sheep_world.proofs.NodesByTheLog.{knows_its_number}
 use Rattle.overlap_law.specs.Attempts.{AttemptRecord, object_of}
 use Rattle.overlap_law.specs.Words.{is_made, is_doomed}
-use Rattle.overlap_law.specs.Reached.{Hosts, has_come_in, is_beyond}
+use Rattle.overlap_law.specs.Reached.{has_come_in, is_beyond}
 use Rattle.overlap_law.specs.Holders.{targets_by, is_object_among, is_dead_by_log}
 use Rattle.overlap_law.specs.Past.{MomentWithPast, run_with_past, past_after_event, FinishedList}
-use Rattle.overlap_law.specs.PastWords.{finishes, listed_in, listed_by}
+use Rattle.overlap_law.specs.PastWords.{listed_in, listed_by}
 use Rattle.overlap_law.specs.Facts.{is_list_of, own_at, is_in_list}
-use Rattle.overlap_law.specs.Each.{row_covers, end_of_row, has_row_at, has_reached, policy_in}
+use Rattle.overlap_law.specs.Each.{row_covers, end_of_row, has_reached, policy_in}
 use Rattle.overlap_law.specs.Lists.{ListsAreWhole}
 use Rattle.overlap_law.specs.Rows.{IsMadeBy}
 use Rattle.overlap_law.specs.HeldLevels.{level_of, IsHeldAt}
@@ -67,7 +66,7 @@ use Rattle.overlap_law.proofs.ListedObjects.{some_passes}
 use Rattle.overlap_law.proofs.LogsInMoments.{log_by_changes}
 use Rattle.overlap_law.proofs.NoRecoveredDue.{began-with_past}
 use Rattle.overlap_law.proofs.NotedLists.{row_among, only_found, no_new_list}
-use Rattle.overlap_law.proofs.PeersInMoments.{PeerStep, PeerChange, PeerStays, PeerSteps, PeerIsNew, peers_change}
+use Rattle.overlap_law.proofs.PeersInMoments.{PeerChange, PeerStays, PeerSteps, PeerIsNew, peers_change}
 use Rattle.overlap_law.proofs.ReadInMoments.{epoch_within, are_present}
 use Rattle.overlap_law.proofs.RecoveredInMoments.{node_of}
 use Rattle.overlap_law.proofs.RunsByChanges.{on_the_way}

@@ -1,6 +1,6 @@
 -- The moment that a script opens with has the invariant: its nodes have read of themselves alone, and nobody has asked, written or recovered
 -- anything.
-use Rattle.std.proofs.Common.{◌≡◌, ◌⊎◌, inl, inr, ⊎_elim, ℕ, Bool, true, false, List, [], ◌∷◌, All, Option, Some, None, slice_get, refl, sym, ap, subst, ◌∙◌}
+use Rattle.std.proofs.Common.{◌≡◌, ⊎_elim, ℕ, true, false, List, [], ◌∷◌, All, Option, Some, None, slice_get, refl, sym, ap, subst, ◌∙◌}
 use Rattle.std.specs.Ordering.{nat_cmp}
 use Rattle.std.specs.FinMap as tree
 use Rattle.std.proofs.lemmas.List.Elements.{All-nil, All-push}
@@ -9,7 +9,6 @@ use Rattle.object_id.specs.declared.entry.Entry.{Entry}
 use Rattle.object_id.specs.declared.entry.Entry.TheVariants as entries
 use Rattle.object_id.specs.declared.entry.Member.{Member}
 use Rattle.object_id.specs.declared.node.NodeId.{NodeId}
-use Rattle.object_id.specs.declared.oid.Vid.{Vid}
 use Rattle.object_store.specs.declared.row.RowCopy.{RowCopy}
 use Rattle.object_store.specs.Store.{SeenRow, rows_of}
 use Rattle.cluster_script.specs.declared.statement.Statement.{Statement}
@@ -36,13 +35,10 @@ use Rattle.sheep_world.specs.Opening.{initial_world}
 use Rattle.cluster_script.specs.Settings.{opening_members}
 use Rattle.sheep_world.proofs.ValidNodes.{got_is}
 use Rattle.sheep_world.proofs.WireAtOpening.{opening_found, nobody_asks}
-use Rattle.overlap_law.specs.Words.{Hosts}
-use Rattle.overlap_law.specs.Each.{EachHost, EachUp}
 use Rattle.overlap_law.specs.Tables.{is_snapshot_effect}
 use Rattle.overlap_law.specs.Drafts.{published_by}
 use Rattle.overlap_law.specs.Past.{MomentWithPast, first_moment, run_with_past, run_on}
 use Rattle.overlap_law.specs.KeptSoFar.{IsKeptSoFar}
-use Rattle.overlap_law.specs.BornObjects.{ObjectsWereBorn}
 use Rattle.overlap_law.specs.ToldRows.{IsRowUnderWay, IsRowKept, ToldRow}
 use Rattle.overlap_law.specs.MomentChanges.{RunsAreInRange}
 use Rattle.overlap_law.specs.ToDo.{IsOpen, IsInLine, IsToDo}

@@ -1,6 +1,6 @@
 -- Each change of a moment leaves a level that a search has passed without as many rows as a read needs: who is a member of the recovery's epoch
 -- came to it, and makes no row of an earlier level any more.
-use Rattle.std.proofs.Common.{◌≡◌, ◌≢◌, ◌⊎◌, inl, inr, ⊎_elim, arith, ℕ, zero, suc, ◌+◌, ◌≤◌, ◌<◌, ◌==◌, ◌||◌, nat_le, Bool, true, false, cond, List, [], ◌∷◌, ◌++◌, fold, length, filter, filter_map, Option, Some, None, is_some, refl, sym, ap, subst, ◌∙◌, slice_get}
+use Rattle.std.proofs.Common.{◌≡◌, ◌⊎◌, inl, inr, ⊎_elim, arith, ℕ, zero, suc, ◌+◌, ◌≤◌, ◌<◌, ◌==◌, nat_le, Bool, true, false, cond, List, [], ◌∷◌, ◌++◌, fold, length, filter, filter_map, Option, Some, None, is_some, refl, ap, ◌∙◌, slice_get}
 use Rattle.std.specs.List.{find, list_any, cons_option}
 use Rattle.std.specs.Option.{option_map, option_map_or}
 use Rattle.std.specs.FinMap as tree
@@ -24,10 +24,9 @@ use Rattle.sheep_node.specs.declared.event.Event.{Event}
 use Rattle.sheep_node.specs.RecoveryView.{recovery_state_of}
 use Rattle.sheep_world.specs.World.{Host}
 use Rattle.sheep_world.specs.Began.{Began}
-use Rattle.overlap_law.specs.Reached.{Hosts}
 use Rattle.overlap_law.specs.Holders.{targets_by}
 use Rattle.overlap_law.specs.Past.{MomentWithPast, run_with_past}
-use Rattle.overlap_law.specs.Each.{row_covers, has_row_at, holds_level, has_reached, policy_in, index_of_part}
+use Rattle.overlap_law.specs.Each.{row_covers, holds_level, has_reached, policy_in}
 use Rattle.overlap_law.specs.Rows.{RowsAreAtTargets}
 use Rattle.overlap_law.specs.Searches.{index_held, with_number, indexes_held}
 use Rattle.overlap_law.specs.MomentChanges.{MomentChange, MomentTrail, RunsAreInRange}

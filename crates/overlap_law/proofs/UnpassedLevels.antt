@@ -1,9 +1,7 @@
 -- No search has passed the level at which the nodes hold what was made of its object: there are rows of as many indexes as a read needs.
-use Rattle.std.proofs.Common.{◌≡◌, ◌≢◌, ◌⊎◌, inl, inr, ⊎_elim, arith, ℕ, ◌≤◌, ◌<◌, ◌==◌, ◌&&◌, ◌||◌, max, not, Bool, true, false, List, length, Option, Some, None, is_some, refl, sym, ap, subst, ◌∙◌, slice_get}
+use Rattle.std.proofs.Common.{◌≡◌, ⊎_elim, arith, ℕ, ◌≤◌, ◌<◌, ◌==◌, ◌&&◌, not, Bool, true, false, List, length, Option, Some, None, is_some, refl, sym, ap, subst, ◌∙◌, slice_get}
 use Rattle.std.specs.FinMap as tree
 use Rattle.std.proofs.lemmas.Bool.{and_right, cases_lt, ne_eqb, or_from}
-use Rattle.object_id.specs.declared.entry.Entry.{Entry}
-use Rattle.object_id.specs.declared.policy.Policy.{Policy}
 use Rattle.object_id.specs.Oid.{kind_of}
 use Rattle.object_id.specs.Policy.{need_of}
 use Rattle.epoch_log.specs.Epochs.{epoch_of, settled_of}
@@ -25,11 +23,11 @@ use Rattle.overlap_law.specs.Past.{MomentWithPast, first_moment, run_with_past}
 use Rattle.overlap_law.specs.Each.{policy_in}
 use Rattle.overlap_law.specs.Searches.{indexes_held}
 use Rattle.overlap_law.specs.HeldLevels.{level_of, CanBeFoundAt, NoSearchHasPassed}
-use Rattle.overlap_law.specs.MomentChanges.{MomentChange, MomentTrail, RunsAreInRange, KeptByChanges}
+use Rattle.overlap_law.specs.MomentChanges.{MomentTrail, RunsAreInRange, KeptByChanges}
 use Rattle.overlap_law.specs.Overlap.{OverlapAt}
 use Rattle.overlap_law.proofs.BeyondInMoments.{recovers_own}
 use Rattle.overlap_law.proofs.FinishedInMoments.{TermsHold, kept_terms}
-use Rattle.overlap_law.proofs.HeldLevels.{HoldTheMade, first, overlap_holds, gives-found}
+use Rattle.overlap_law.proofs.HeldLevels.{first, overlap_holds, gives-found}
 use Rattle.overlap_law.proofs.IndexesHeld.{enough_indexes}
 use Rattle.overlap_law.proofs.LogsInMoments.{ends_or_same}
 use Rattle.overlap_law.proofs.ReadInMoments.{epoch_within, opening_began}

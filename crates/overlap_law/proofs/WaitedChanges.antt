@@ -1,15 +1,12 @@
 -- Every change leaves each work that is open, or waits for the inode, to a request that waits for it, on the disk that its session has
 -- open.
-use Rattle.std.proofs.Common.{◌≡◌, ◌≢◌, inl, ℕ, Bool, true, false, List, [], length, All, Option, Some, None, IfSome, refl, sym, ap, subst, ◌∙◌}
-use Rattle.std.specs.Ordering.{nat_cmp}
+use Rattle.std.proofs.Common.{◌≡◌, ◌≢◌, inl, ℕ, true, [], length, All, Option, Some, None, IfSome, refl, sym, ap, subst, ◌∙◌}
 use Rattle.std.specs.FinMap as tree
 use Rattle.std.proofs.lemmas.Option.{same_Some}
 use Rattle.inode.specs.Layout.{Content}
-use Rattle.peer_proto.specs.declared.guest.VdiAsk.TheVariants as disk_commands
 use Rattle.peer_proto.specs.declared.work.ObjWork.{ObjWork}
 use Rattle.peer_service.specs.State.{effects_of}
 use Rattle.peer_service.specs.LogReading.{decision_on}
-use Rattle.gateway.specs.State.{Work}
 use Rattle.gateway.specs.Work.{bytes_of_work}
 use Rattle.guest_driver.specs.declared.act.DriverAct.{DriverAct}
 use Rattle.guest_driver.specs.declared.act.DriverAct.TheVariants as driver_acts
@@ -24,7 +21,7 @@ use Rattle.guest_driver.specs.InodeQueue.{queue_after_end}
 use Rattle.guest_driver.proofs.CourseLemmas.{begin_goes, done_goes}
 use Rattle.disk_check.specs.declared.act.CheckAct.{CheckAct}
 use Rattle.disk_check.specs.declared.act.CheckAct.TheVariants as check_acts
-use Rattle.disk_check.specs.Check.{Check, CheckStep, begin_check, check_bytes_wanted}
+use Rattle.disk_check.specs.Check.{CheckStep, begin_check, check_bytes_wanted}
 use Rattle.vdi_ops.specs.declared.act.OpAct.{OpAct}
 use Rattle.vdi_ops.specs.declared.act.OpAct.TheVariants as op_acts
 use Rattle.vdi_ops.specs.Op as ops
@@ -37,21 +34,20 @@ use Rattle.sheep_node.specs.declared.course.Request.{Request}
 use Rattle.sheep_node.specs.declared.session.Session.{Session}
 use Rattle.sheep_node.specs.declared.course.Course.TheVariants.{Waiting, Driving, Commanding, Checking, DoingWork, AwaitingDecision}
 use Rattle.sheep_node.specs.State.{Node}
-use Rattle.sheep_node.specs.StepState.{StepState, at_first, session_in, with_sole_request}
+use Rattle.sheep_node.specs.StepState.{StepState, session_in, with_sole_request}
 use Rattle.sheep_node.specs.Courses.{after_driver_step, disk_after, inode_open, after_command_step}
 use Rattle.sheep_node.specs.May.{May, is_disk_course}
-use Rattle.sheep_node.specs.SessionQueues.{session_among, AreDiskRequests, QueuesAreDiskRequests, CommandsAreAlone}
+use Rattle.sheep_node.specs.SessionQueues.{AreDiskRequests, QueuesAreDiskRequests, CommandsAreAlone}
 use Rattle.sheep_node.specs.SoundWorks.{IsSoundWork, HasSoundWorks}
-use Rattle.sheep_node.specs.Changes.{IsSoundStep, HasRequest, EndsWork, Outcome, ToWork, ToEntry, ToReply, outcome_of_driver, outcome_of_command, outcome_of_check, without_ended_work, RequestSteps, DiskBegins, DiskGoesOn, CommandBegins, CommandGoesOn, CommandDecided, CheckBegins, CheckGoesOn, ObjectBegins, ObjectIsDone, EntryBegins, EntryDecided, input_received, Leads, Still, Then}
+use Rattle.sheep_node.specs.Changes.{IsSoundStep, HasRequest, outcome_of_driver, outcome_of_command, outcome_of_check, without_ended_work, DiskBegins, DiskGoesOn, CommandBegins, CommandGoesOn, CommandDecided, CheckBegins, CheckGoesOn, ObjectBegins, ObjectIsDone, EntryBegins, EntryDecided, Leads, Still, Then}
 use Rattle.sheep_node.proofs.GoingOn.{bytes_for_check}
-use Rattle.sheep_node.proofs.OneWorkChanges.{StepHasOneWork, HasNoWorkIn, steps_free}
-use Rattle.sheep_node.proofs.OneWorkParts.{Requests, Sessions}
-use Rattle.sheep_node.proofs.SessionViews.{IsSeen, same_seen, free_seen, own_seen}
+use Rattle.sheep_node.proofs.OneWorkChanges.{HasNoWorkIn, steps_free}
+use Rattle.sheep_node.proofs.SessionViews.{same_seen, free_seen, own_seen}
 use Rattle.sheep_node.proofs.SoleCommands.{free}
 use Rattle.sheep_node.proofs.SoleParts.{CommandsAre, IsFreeFor, same_command, command_is_free}
 use Rattle.sheep_node.proofs.SoundChanges.{IsKnown}
 use Rattle.sheep_node.proofs.WantedSteps.{driver_begins-wanted, driver_goes_on-wanted}
-use Rattle.overlap_law.specs.Courses.{IsOfStage, IsOfDriver, IsOfCheckStage, WaitsFor}
+use Rattle.overlap_law.specs.Courses.{IsOfStage}
 use Rattle.overlap_law.proofs.CoursesOfAsks.{disk_in, seen_moves, plain, PlacedSoFar, course_placed}
 use Rattle.overlap_law.proofs.CoursesAtChanges.{on_working}
 use Rattle.overlap_law.proofs.DoneWorks.{bytes_long, wanted, same_disk}

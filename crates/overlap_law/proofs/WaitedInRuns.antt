@@ -1,6 +1,6 @@
 -- In each run in range each work that is open, or waits for the inode, is the one that its request's driver, command or check waits for,
 -- on the disk that the session has open.
-use Rattle.std.proofs.Common.{◌≡◌, ◌≢◌, arith, ℕ, ◌==◌, ◌&&◌, Bool, true, false, List, [], Contains, Option, Some, None, IfSome, slice_get, inl, inr, refl, sym, ap, subst, ◌∙◌}
+use Rattle.std.proofs.Common.{◌≡◌, arith, ℕ, ◌&&◌, Bool, true, false, List, [], Contains, Option, Some, None, IfSome, inl, inr, refl, sym, ap, subst, ◌∙◌}
 use Rattle.std.specs.Prelude.{unwrap_or}
 use Rattle.std.specs.FinMap as tree
 use Rattle.std.proofs.lemmas.Bool.{le-leb, eq-eqb}
@@ -14,9 +14,7 @@ use Rattle.peer_proto.specs.declared.ask.PeerReq.{PeerReq}
 use Rattle.peer_proto.specs.declared.work.ObjWork.{ObjWork}
 use Rattle.vdi_directory.specs.declared.effect.Effect.{Effect}
 use Rattle.vdi_directory.specs.Decisions.{log_effects}
-use Rattle.gateway.specs.State.{Work}
 use Rattle.guest_driver.specs.declared.disk.Disk.{Disk}
-use Rattle.guest_driver.specs.InodeQueue as lines
 use Rattle.vdi_ops.specs.Op as ops
 use Rattle.vdi_ops.specs.Op.{Task, Opening, WritingBack, Tagging, Copying, Making, OpStage, Asked, Working, Publishing}
 use Rattle.sheep_node.specs.declared.ask.Ask.{Ask}
@@ -33,7 +31,7 @@ use Rattle.sheep_node.specs.May.{May, is_disk_course}
 use Rattle.sheep_node.specs.NodeInvariant.{IsSoundNode}
 use Rattle.sheep_node.specs.OneWork.{may_work_at, may_work_of}
 use Rattle.sheep_node.specs.OutsideAsks.{InputNamesObjects}
-use Rattle.sheep_node.specs.SessionQueues.{session_among, queue_in, command_in, is_disk_request_of}
+use Rattle.sheep_node.specs.SessionQueues.{session_among, command_in, is_disk_request_of}
 use Rattle.sheep_node.specs.State as nodes
 use Rattle.sheep_node.specs.State.{Node, new_session}
 use Rattle.sheep_node.specs.Step.{on_request, is_due, with_recovered, recovered_put, on_input, node_step}
@@ -54,7 +52,7 @@ use Rattle.sheep_world.proofs.BegunWorlds.{each_where}
 use Rattle.sheep_world.proofs.LogAtOpening.{opens_log}
 use Rattle.sheep_world.proofs.ValidNodes.{first_may}
 use Rattle.overlap_law.specs.Attempts.{AttemptRecord}
-use Rattle.overlap_law.specs.Courses.{IsCreatedNow, IsOfTask, IsOfStage, WaitsFor, IsWaitedFor, WorksAreWaitedFor}
+use Rattle.overlap_law.specs.Courses.{IsOfTask, IsOfStage, WaitsFor, IsWaitedFor, WorksAreWaitedFor}
 use Rattle.overlap_law.specs.MomentChanges.{RunsAreInRange}
 use Rattle.overlap_law.specs.Past.{MomentWithPast, run_with_past}
 use Rattle.overlap_law.proofs.AttemptMessages.{contains_at}
@@ -69,7 +67,7 @@ use Rattle.overlap_law.proofs.QueuedInSteps.{IsQueuedWell, standing_in_chain, no
 use Rattle.overlap_law.proofs.WaitedSteps.{no_id, Waits}
 use Rattle.overlap_law.proofs.WaitedChanges.{IsWaitingWell, waits_in_chain}
 use Rattle.overlap_law.proofs.WholeInRuns.{sound_world, sound_here, named, may_change}
-use Rattle.overlap_law.proofs.WorksAtCourses.{HaveAt, AtSoFar, none_at, received_at}
+use Rattle.overlap_law.proofs.WorksAtCourses.{HaveAt, none_at, received_at}
 
 -- reads and writes stand for the objects of their pieces, and works are waited for
 abbrev pub IsWaitedIn : Node → Type 0

@@ -1,12 +1,11 @@
 -- The work that a driver, a command or a check comes to is the one that it then waits for, on the disk that its session has open.
-use Rattle.std.proofs.Common.{◌≡◌, ◌≢◌, ℕ, ◌+◌, ◌*◌, ◌^◌, ◌++◌, Bool, true, false, List, [], ◌∷◌, length, All, Option, Some, None, IfSome, option_map, option_and_then, refl, sym, ap, subst, ◌∙◌}
+use Rattle.std.proofs.Common.{◌≡◌, ◌≢◌, ℕ, ◌+◌, ◌*◌, ◌^◌, ◌++◌, Bool, true, false, List, [], ◌∷◌, length, All, Option, Some, None, option_map, option_and_then, refl, sym, ap, subst, ◌∙◌}
 use Rattle.std.proofs.lemmas.List.{get_or-set_other}
 use Rattle.std.proofs.lemmas.List.Elements.{All-head, All-weaker}
 use Rattle.std.proofs.lemmas.Option.{same_Some}
 use Rattle.object_id.specs.declared.entry.Entry.{Entry}
 use Rattle.object_id.specs.declared.entry.Entry.TheVariants.{Format, Join, Leave, Reweight, Recovered, Reserve, Publish, Clone, Snapshot, Delete, Lock, Unlock}
 use Rattle.object_id.specs.declared.entry.Origin.TheVariants.{Fresh, SnapshotOf, CloneOf}
-use Rattle.object_id.specs.declared.entry.VdiSpec.{VdiSpec}
 use Rattle.object_id.specs.declared.node.NodeId.{NodeId}
 use Rattle.object_id.specs.declared.oid.Vid.{Vid}
 use Rattle.object_id.specs.Fields.{u32_bytes}
@@ -24,13 +23,12 @@ use Rattle.vdi_directory.specs.Chains.{chain_of}
 use Rattle.vdi_directory.specs.Effects.{header_of}
 use Rattle.gateway_queue.specs.declared.queue.Queued.{Queued}
 use Rattle.gateway_queue.specs.Queue.{Covers}
-use Rattle.guest_driver.specs.declared.act.DriverAct.{DriverAct}
 use Rattle.guest_driver.specs.declared.act.DriverAct.TheVariants as driver_acts
 use Rattle.guest_driver.specs.declared.disk.Disk.{Disk}
 use Rattle.guest_driver.specs.Course.{IsAwaitedByDriver, inode_after}
 use Rattle.guest_driver.specs.OnDisk.{pieces_left}
 use Rattle.guest_driver.specs.Pieces.{Piece, piece_bytes}
-use Rattle.guest_driver.specs.PieceWorks.{entry_of, read_piece, table_with_entry}
+use Rattle.guest_driver.specs.PieceWorks.{entry_of, table_with_entry}
 use Rattle.guest_driver.specs.Driver as drivers
 use Rattle.guest_driver.specs.Driver.{Driver, Reads, Writes, InPlace, Fetching, Creating, Entering}
 use Rattle.disk_check.specs.declared.act.CheckAct.{CheckAct}
@@ -53,7 +51,7 @@ use Rattle.sheep_node.specs.declared.course.Course.{Course}
 use Rattle.sheep_node.specs.declared.course.Course.TheVariants.{Waiting, Driving, Commanding, Checking, DoingWork, AwaitingDecision}
 use Rattle.sheep_node.specs.Courses.{inode_open}
 use Rattle.sheep_node.proofs.ValidSteps.{given}
-use Rattle.overlap_law.specs.Courses.{IsTagged, IsCreatedNow, IsOfTask, IsOfStage, IsOfDriver, IsValueWrite, IsOfCheckStage, IsOfCheck, WaitsFor}
+use Rattle.overlap_law.specs.Courses.{IsTagged, IsCreatedNow, IsOfStage, IsOfCheckStage, WaitsFor}
 use Rattle.overlap_law.specs.RequestsOfScript.{indexes_left, IsCheckOf}
 use Rattle.overlap_law.proofs.QueuedInSteps.{AreAtOthers}
 

@@ -10,7 +10,7 @@ use Rattle.overlap_law.specs.ShapedAttempts.{AreShaped}
 use Rattle.overlap_law.specs.OpenWorks.{WorksKnowTheirFates, PacketsAreOfOpenWorks, ServedRequestsAreTouched, LosersAreTouched}
 use Rattle.overlap_law.specs.OpenWorks.{RefusedRequestsAreMute, OpenAttemptsAreLatest}
 use Rattle.overlap_law.specs.Traffic.{OpenAttemptsHaveMessages}
-use Rattle.overlap_law.specs.Writers.{WorksMayWrite, ThereIsOneWriter, AttemptsHaveBegun, OnlyTheWriterWrites}
+use Rattle.overlap_law.specs.Writers.{ThereIsOneWriter, AttemptsHaveBegun, OnlyTheWriterWrites}
 use Rattle.overlap_law.specs.Fates.{AttemptsAreOrdered}
 use Rattle.overlap_law.specs.Sessions.{SessionsWorkApart, MakersAreApart, SessionsHaveOneInodeWork, BegunRequestsAreApart, OpenDisksAreHeld}
 use Rattle.overlap_law.specs.Courses.{WorksAreWaitedFor, CommandsKeepTheirGrants}
