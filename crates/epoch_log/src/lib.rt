@@ -16,8 +16,6 @@ mod laws;
 mod log;
 mod roster;
 mod tally;
-#[cfg(test)]
-mod tests;
 
 pub use laws::{
     a_settled_epoch_has_recovered, epochs_grow_by_one, later_entries_change_nothing, log_epochs,

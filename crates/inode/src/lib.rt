@@ -14,8 +14,6 @@ mod inode;
 mod laws;
 mod layout;
 mod reading;
-#[cfg(test)]
-mod tests;
 mod writing;
 
 pub use fault::InodeFault;

@@ -30,16 +30,3 @@ pub fn u64_at(bytes: &[u8], at: usize) -> u64
     field.copy_from_slice(&bytes[at..at + 8]);
     u64::from_le_bytes(field)
 }
-
-#[cfg(test)]
-mod tests {
-    use super::*;
-
-    #[test]
-    fn reads_the_lowest_byte_first(rt: HostRuntime) {
-        let bytes = [1, 2, 3, 4, 5, 6, 7, 8, 9];
-        assert_eq!(rt; u16_at(&bytes, 0), 0x0201);
-        assert_eq!(rt; u32_at(&bytes, 1), 0x0504_0302);
-        assert_eq!(rt; u64_at(&bytes, 1), 0x0908_0706_0504_0302);
-    }
-}

@@ -55,25 +55,3 @@ pub fn fnv1a(piece: &[u8]) -> u64
     hash.write(piece);
     hash.finish()
 }
-
-#[cfg(test)]
-mod tests {
-    use super::*;
-
-    // The published values of the hash's authors for these texts.
-    #[test]
-    fn hashes_published_texts(rt: HostRuntime) {
-        assert_eq!(rt; fnv1a(b""), 0xcbf2_9ce4_8422_2325);
-        assert_eq!(rt; fnv1a(b"a"), 0xaf63_dc4c_8601_ec8c);
-        assert_eq!(rt; fnv1a(b"foobar"), 0x8594_4171_f739_67e8);
-    }
-
-    #[test]
-    fn hashes_pieces_as_a_whole(rt: HostRuntime) {
-        let mut hash = FnvHasher::new();
-        hash.write(b"foo");
-        hash.write(b"");
-        hash.write(b"bar");
-        assert_eq!(rt; hash.finish(), 0x8594_4171_f739_67e8);
-    }
-}

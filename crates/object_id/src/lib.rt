@@ -23,8 +23,6 @@ mod policy;
 mod same;
 mod same_entry;
 mod span;
-#[cfg(test)]
-mod tests;
 
 pub use bytes::Bytes;
 pub use cause::Cause;

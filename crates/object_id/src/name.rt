@@ -29,23 +29,3 @@ pub fn is_tag(tag: &Option<Bytes>) -> bool
         None => true,
     }
 }
-
-#[cfg(test)]
-mod tests {
-    use super::*;
-    use std::test::Fail;
-
-    #[test]
-    fn names_end_at_255_bytes(rt: HostRuntime) -> Result<(), Fail> {
-        assert!(rt; !is_name(b""));
-        assert!(rt; is_name(&[1]) && is_name(&[255; 255]));
-        assert!(rt; !is_name(&[255; 256]));
-        assert!(rt; !is_name(b"a\0b") && !is_name(b"ab\0"));
-
-        let alloc = rt.alloc();
-        assert!(rt; is_tag(&None));
-        assert!(rt; is_tag(&Some(Bytes::from_slice(alloc, b"t1")?)));
-        assert!(rt; !is_tag(&Some(Bytes::new(alloc))));
-        Ok(())
-    }
-}

@@ -40,17 +40,3 @@ pub fn is_weight(vnodes: u16) -> bool
 {
     1 <= vnodes && vnodes <= VNODES_MAX
 }
-
-#[cfg(test)]
-mod tests {
-    use super::*;
-
-    #[test]
-    fn numbers_end_at_their_limits(rt: HostRuntime) {
-        assert!(rt; NodeId(0).is_valid() && NodeId(63).is_valid());
-        assert!(rt; !NodeId(64).is_valid() && !NodeId(u32::MAX).is_valid());
-        assert!(rt; is_zone(0) && is_zone(63) && !is_zone(64));
-        assert!(rt; !is_session(0) && is_session(1) && is_session(64) && !is_session(65));
-        assert!(rt; !is_weight(0) && is_weight(1) && is_weight(256) && !is_weight(257));
-    }
-}

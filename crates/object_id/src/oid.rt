@@ -138,39 +138,3 @@ impl Oid {
         Ok(Oid { raw })
     }
 }
-
-#[cfg(test)]
-mod tests {
-    use super::*;
-
-    #[test]
-    fn reads_the_layout(rt: HostRuntime) {
-        assert_eq!(rt;
-            Oid::from_u64(0x0010_0000_0010_0000),
-            Err(OidFault::ReservedBits)
-        );
-        assert_eq!(rt;
-            Oid::from_u64(0x8000_0000_0000_0000),
-            Err(OidFault::ZeroVid)
-        );
-        match Oid::from_u64(0x00ff_ffff_000f_ffff) {
-            Ok(oid) => {
-                assert_eq!(rt; oid.vid(), Vid(0xff_ffff));
-                assert_eq!(rt; oid.index(), 1_048_575);
-                assert_eq!(rt; oid.kind(), Kind::Block);
-            }
-            Err(_) => assert!(rt; false, "the greatest data object is an id"),
-        }
-        assert_eq!(rt;
-            Oid::object(Vid(0x01_ec8c), 0).as_u64(),
-            0x0001_ec8c_0000_0000
-        );
-        assert_eq!(rt; Oid::inode(Vid(0x01_ec8c)).as_u64(), 0x8001_ec8c_0000_0000);
-    }
-
-    #[test]
-    fn ids_of_disks_end_at_24_bits(rt: HostRuntime) {
-        assert!(rt; !Vid(0).is_valid() && Vid(1).is_valid());
-        assert!(rt; Vid(16_777_215).is_valid() && !Vid(16_777_216).is_valid());
-    }
-}

@@ -8,15 +8,3 @@ pub fn lay_over(bytes: &mut [u8], offset: usize, piece: &[u8])
 {
     bytes[offset..offset + piece.len()].copy_from_slice(piece);
 }
-
-#[cfg(test)]
-mod tests {
-    use super::*;
-
-    #[test]
-    fn lays_a_piece_over(rt: HostRuntime) {
-        let mut bytes = [1, 2, 3, 4, 5];
-        lay_over(&mut bytes, 2, &[8, 9]);
-        assert_eq!(rt; bytes, [1, 2, 8, 9, 5]);
-    }
-}

@@ -13,16 +13,3 @@ pub fn is_span(offset: u64, bytes: u32) -> bool
     }
     BLOCK_BYTES <= bytes && u64::from(bytes) <= LENGTH_MAX
 }
-
-#[cfg(test)]
-mod tests {
-    use super::*;
-
-    #[test]
-    fn spans_are_whole_blocks(rt: HostRuntime) {
-        assert!(rt; is_span(0, 512) && is_span(512, 1_048_576));
-        assert!(rt; is_span(0xffff_ffff_ffff_fe00, 1_024));
-        assert!(rt; !is_span(256, 512) && !is_span(0, 768));
-        assert!(rt; !is_span(0, 0) && !is_span(0, 1_049_088));
-    }
-}

@@ -21,10 +21,6 @@ mod say;
 mod say_codec;
 mod say_head;
 mod sends;
-#[cfg(test)]
-mod table_tests;
-#[cfg(test)]
-mod tests;
 mod work;
 
 pub use ask::{PeerAsk, PeerReq};

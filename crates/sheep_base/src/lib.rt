@@ -34,5 +34,3 @@ pub use source::Source;
 pub use sure::{SureSink, SureSource};
 pub use transfer::{ReadStop, put_all, read_all};
 
-#[cfg(test)]
-mod tests;

@@ -15,8 +15,6 @@ mod fault;
 mod laws;
 mod reply;
 mod request;
-#[cfg(test)]
-mod tests;
 
 pub use codes::{
     CREATE_AND_WRITE_OBJ, DEL_VDI, FLAG_CACHE, FLAG_COW, FLAG_DIRECT, FLAG_WRITE, FLUSH_VDI,

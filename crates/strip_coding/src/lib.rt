@@ -19,8 +19,6 @@ mod laws;
 mod parts;
 mod rows;
 mod sums;
-#[cfg(test)]
-mod tests;
 
 pub use coding::{decode_block, decode_block_by, encode_block, encode_block_by};
 pub use gf256::TooFewStrips;

@@ -180,16 +180,3 @@ pub fn parity_row(d: usize, index: usize) -> &'static [u8]
         &PARITY_16[index - 16]
     }
 }
-
-#[cfg(test)]
-mod tests {
-    use super::*;
-
-    // Worked out by hand from Lagrange's sum.
-    #[test]
-    fn has_known_coefficients(rt: HostRuntime) {
-        assert_eq!(rt; parity_row(2, 2), [0x03, 0x02].as_slice());
-        assert_eq!(rt; parity_row(4, 4), [0x1b, 0x1c, 0x12, 0x14].as_slice());
-        assert_eq!(rt; parity_row(4, 5), [0x1c, 0x1b, 0x14, 0x12].as_slice());
-    }
-}

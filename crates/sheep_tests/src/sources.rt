@@ -1,5 +1,5 @@
 //! What no clause says: that each call comes through with ample memory, and what the worked faults give.
-use crate::{
+use sheep_base::{
     Bytes, Fault, HostSink, HostSource, MemSink, MemSource, ReadStop, SureSink, SureSource,
     put_all, read_all,
 };

@@ -1,8 +1,8 @@
 //! Tables of messages: their bytes, and what these are read as.
 
-use super::*;
 use object_id::Bytes;
 use object_store::{Key, OidList, RowCopy};
+use peer_proto::{PeerAsk, PeerSay, Refusal, decode_ask, decode_say, encode_ask, encode_say};
 use std::alloc::Global;
 use std::test::*;
 

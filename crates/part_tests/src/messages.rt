@@ -1,8 +1,11 @@
 //! What no clause says: that each call comes through with ample memory.
 
-use super::*;
 use object_id::{Bytes, Epoch, NodeId, Oid, Policy, Vid};
 use object_store::{Key, OidList};
+use peer_proto::{
+    Checked, DiskAsk, GuestRsp, ObjWork, PeerAsk, PeerFault, PeerReq, PeerRsp, PeerSay, SendList,
+    VdiAsk, WorkDone, decode_ask, encode_ask,
+};
 use std::alloc::Global;
 use std::test::*;
 

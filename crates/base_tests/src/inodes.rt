@@ -1,7 +1,7 @@
 //! Inodes whose bytes and answers come from outside, and what no clause says.
 
-use super::*;
-use object_id::{Policy, Vid};
+use inode::{Inode, InodeFault, an_inode_is_as_long_as_its_table, entries_in};
+use object_id::{Policy, VdiSpec, Vid};
 use std::alloc::Global;
 use std::test::*;
 

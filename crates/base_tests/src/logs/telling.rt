@@ -4,8 +4,7 @@ ghost use Rattle.std.specs.Prelude.{IfOk, OnOk};
 ghost use Rattle.epoch_log.specs.Tally.{IsTally};
 
 use super::opening;
-use crate::log::Log;
-use crate::tally::Tally;
+use epoch_log::{Log, Tally};
 use object_id::{Entry, Epoch, NoMemory, NodeId};
 use std::alloc::Global;
 use std::test::Fail;

@@ -1,10 +1,9 @@
 //! Strips of a block against those of a plain program, and decoding from any of them.
 ghost use Rattle.std.specs.Prelude.{◌<◌};
 
-use crate::coding::{decode_block, encode_block};
-use crate::laws::choice_laws;
 use gf256::TooFewStrips;
 use object_id::{TARGETS_MAX, fnv1a};
+use strip_coding::{choice_laws, decode_block, encode_block};
 
 /// Bytes without a pattern that coding could keep.
 fn sample() -> [u8; 512] {
@@ -276,4 +275,51 @@ fn takes_the_first_distinct(rt: HostRuntime) {
     assert_eq!(rt; decode_block(16, &indexes, &strips, &mut decoded), Ok(()));
     assert_eq!(rt; decoded, block);
     choice_laws();
+}
+
+/// The first byte of a strip of a block of two data strips that is 0 but for a 1 at the beginning of one of them: its coefficient.
+fn coefficient_of_two(taken: usize, index: u8) -> u8
+    requires taken { taken < 2 }
+    requires index { index < TARGETS_MAX }
+{
+    let mut block = [0; 512];
+    block[taken * 256] = 1;
+    let mut strip = [0; 256];
+    encode_block(2, &block, index, &mut strip);
+    strip[0]
+}
+
+/// Such a coefficient of a block of four data strips.
+fn coefficient_of_four(taken: usize, index: u8) -> u8
+    requires taken { taken < 4 }
+    requires index { index < TARGETS_MAX }
+{
+    let mut block = [0; 512];
+    block[taken * 128] = 1;
+    let mut strip = [0; 128];
+    encode_block(4, &block, index, &mut strip);
+    strip[0]
+}
+
+/// The coefficients of four data strips in a strip.
+fn coefficients_of_four(index: u8) -> [u8; 4]
+    requires index { index < TARGETS_MAX }
+{
+    [
+        coefficient_of_four(0, index),
+        coefficient_of_four(1, index),
+        coefficient_of_four(2, index),
+        coefficient_of_four(3, index),
+    ]
+}
+
+// Worked out by hand from Lagrange's sum.
+#[test]
+fn has_known_coefficients(rt: HostRuntime) {
+    assert_eq!(rt;
+        [coefficient_of_two(0, 2), coefficient_of_two(1, 2)],
+        [0x03, 0x02]
+    );
+    assert_eq!(rt; coefficients_of_four(4), [0x1b, 0x1c, 0x12, 0x14]);
+    assert_eq!(rt; coefficients_of_four(5), [0x1c, 0x1b, 0x14, 0x12]);
 }

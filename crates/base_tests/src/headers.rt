@@ -1,6 +1,9 @@
 //! Headers whose bytes and answers come from outside, and what no clause says.
 
-use super::*;
+use sheep_proto::{
+    Common, HeaderFault, ObjReq, READ_OBJ, Request, VdiReq, decode_reply, decode_request,
+    encode_request, put_common, read_common,
+};
 use std::alloc::Global;
 use std::test::*;
 

@@ -3,7 +3,7 @@
 mod reserving;
 mod telling;
 
-use crate::log::{EntryList, Log};
+use epoch_log::{EntryList, Log};
 use object_id::{Bytes, Entry, Epoch, Member, NoMemory, NodeId, Origin, Vid};
 use std::alloc::Global;
 use std::test::Fail;

@@ -1,7 +1,87 @@
-//! Ids and policies that were drawn at random and answered by a program in Python that was written apart from this one,
-//! from the layout alone.
+//! Ids and policies by their layout. Those that were drawn at random were answered by a program in Python that was written apart from this
+//! one, from the layout alone.
 
-use super::*;
+use object_id::{BadPolicy, Kind, Oid, OidFault, Policy, Vid};
+
+#[test]
+fn reads_the_layout(rt: HostRuntime) {
+    assert_eq!(rt;
+        Oid::from_u64(0x0010_0000_0010_0000),
+        Err(OidFault::ReservedBits)
+    );
+    assert_eq!(rt;
+        Oid::from_u64(0x8000_0000_0000_0000),
+        Err(OidFault::ZeroVid)
+    );
+    match Oid::from_u64(0x00ff_ffff_000f_ffff) {
+        Ok(oid) => {
+            assert_eq!(rt; oid.vid(), Vid(0xff_ffff));
+            assert_eq!(rt; oid.index(), 1_048_575);
+            assert_eq!(rt; oid.kind(), Kind::Block);
+        }
+        Err(_) => assert!(rt; false, "the greatest data object is an id"),
+    }
+    assert_eq!(rt;
+        Oid::object(Vid(0x01_ec8c), 0).as_u64(),
+        0x0001_ec8c_0000_0000
+    );
+    assert_eq!(rt; Oid::inode(Vid(0x01_ec8c)).as_u64(), 0x8001_ec8c_0000_0000);
+}
+
+#[test]
+fn ids_of_disks_end_at_24_bits(rt: HostRuntime) {
+    assert!(rt; !Vid(0).is_valid() && Vid(1).is_valid());
+    assert!(rt; Vid(16_777_215).is_valid() && !Vid(16_777_216).is_valid());
+}
+
+#[test]
+fn reads_policy_bytes(rt: HostRuntime) {
+    let cases = [
+        (0, 1, Ok(Policy::Copies(1))),
+        (0, 31, Ok(Policy::Copies(31))),
+        (0x11, 3, Ok(Policy::Coded { d: 2, p: 1 })),
+        (0x22, 6, Ok(Policy::Coded { d: 4, p: 2 })),
+        (0x8f, 31, Ok(Policy::Coded { d: 16, p: 15 })),
+        (0, 0, Err(BadPolicy)),
+        (0, 32, Err(BadPolicy)),
+        (0x22, 7, Err(BadPolicy)),
+        (0x20, 4, Err(BadPolicy)),
+        (0x31, 7, Err(BadPolicy)),
+    ];
+    for (byte, copies, want) in cases {
+        assert_eq!(rt; Policy::from_byte(byte, copies), want, "at {byte} {copies}");
+    }
+    let coded = Policy::Coded { d: 4, p: 2 };
+    assert_eq!(rt; coded.to_byte(), 0x22);
+    assert_eq!(rt;
+        (coded.wanted(Kind::Block), coded.wanted(Kind::Inode)),
+        (6, 3)
+    );
+    assert_eq!(rt; (coded.need(Kind::Block), coded.need(Kind::Inode)), (4, 1));
+}
+
+#[test]
+fn policies_end_at_their_limits(rt: HostRuntime) {
+    for copies in [1, 2, 31] {
+        assert!(rt; Policy::Copies(copies).is_valid(), "{copies} copies");
+    }
+    for copies in [0, 32, 255] {
+        assert!(rt; !Policy::Copies(copies).is_valid(), "{copies} copies");
+    }
+    for d in [2, 4, 8, 16] {
+        assert!(rt;
+            Policy::Coded { d, p: 1 }.is_valid() && Policy::Coded { d, p: 15 }.is_valid(),
+            "{d} strips"
+        );
+        assert!(rt;
+            !Policy::Coded { d, p: 0 }.is_valid() && !Policy::Coded { d, p: 16 }.is_valid(),
+            "{d} strips"
+        );
+    }
+    for d in [0, 1, 3, 6, 15, 17, 32] {
+        assert!(rt; !Policy::Coded { d, p: 2 }.is_valid(), "{d} strips");
+    }
+}
 
 #[test]
 fn reads_drawn_ids(rt: HostRuntime) {
