@@ -23,6 +23,7 @@ pub mod SessionViews
 pub mod WantedSteps
 pub mod WantedParts
 pub mod WantedChanges
+pub mod CourseWalk
 pub mod DrivenChanges
 pub mod TurnChanges
 pub mod RefusedCourses
