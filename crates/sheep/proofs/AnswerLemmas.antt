@@ -46,7 +46,7 @@ makes_run statements events script whole = (
 )
 
 -- what a text is read as is a script
-is_script : (text : List ℕ) (statements : List Statement) → script_in text ≡ Ok statements → IsScript statements
+pub is_script : (text : List ℕ) (statements : List Statement) → script_in text ≡ Ok statements → IsScript statements
 is_script text statements read = ((text-script text statements).0 read).0
 
 -- the part of an input that is to be a script
@@ -84,10 +84,10 @@ input_is works.Replay input answer is = by_kind (nat_lt INPUT_BYTES_MAX (length 
     by_kind false h (Err bad) r = BadLine bad (ltb-false INPUT_BYTES_MAX (length input) h) r (is ∙ rw (h, r) refl)
 
 -- what was read, where it isn't too long
-reads_all : (old new : Option (List ℕ)) (input : List ℕ) → Reads old new input → length input ≤ INPUT_BYTES_MAX → ReadsAll old new input
+pub reads_all : (old new : Option (List ℕ)) (input : List ℕ) → Reads old new input → length input ≤ INPUT_BYTES_MAX → ReadsAll old new input
 reads_all old new input reads short = record { consumed = reads.consumed; ended = reads.ended short; short = short }
 
-status_is : (answer other : Answer) (status : Status) → status ≡ answer.status → answer ≡ other → status ≡ other.status
+pub status_is : (answer other : Answer) (status : Status) → status ≡ answer.status → answer ≡ other → status ≡ other.status
 status_is answer other status is same = is ∙ ap (λ (a : Answer). a.status) same
 
 module _ (Given : List ℕ → Type 0) (old new : Option (List ℕ)) (answer : Answer) (given : Given answer.text) where
@@ -225,7 +225,7 @@ module _ (Given : List ℕ → Type 0) (old new : Option (List ℕ)) (answer : A
   too_long_is (Some (Live trace)) call is = let status = status_is answer _ _ is call.0 in absurd (cc)
 
 -- what a source has is taken whole, where it isn't too long
-taken_whole : (old new : Option (List ℕ)) (input taken : List ℕ) → Reads old new taken → HasInput old input → taken ≡ input
+pub taken_whole : (old new : Option (List ℕ)) (input taken : List ℕ) → Reads old new taken → HasInput old input → taken ≡ input
 taken_whole None new input taken reads has = let none = has.whole in absurd (cc)
 taken_whole (Some xs) None input taken reads has = absurd reads.consumed
 taken_whole (Some xs) (Some ys) input taken reads has = whole (reads.ended (omega (arith, fits, has.short)))
@@ -258,7 +258,7 @@ can_is_done (Some (Gen number)) old new answer call can = ap (λ (a : Answer). a
 can_is_done (Some (Live trace)) old new answer call can = absurd can
 
 -- whether an answer may have this status: the others come of faults and of want of memory
-abbrev is_told : Status → Bool
+abbrev pub is_told : Status → Bool
 is_told statuses.Done = true
 is_told statuses.BadWords = true
 is_told statuses.BadScript = true

@@ -9,3 +9,5 @@ pub mod ToldRuns
 pub mod MakingRuns
 pub mod AnswerLemmas
 pub mod AnswerParts
+pub mod LiveParts
+pub mod LiveAnswers

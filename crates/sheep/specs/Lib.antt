@@ -4,3 +4,4 @@ pub mod ToldRun
 pub mod Answer
 pub mod PrintedReplies
 pub mod Outcome
+pub mod Live

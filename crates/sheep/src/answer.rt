@@ -62,7 +62,7 @@ impl From<NoMemory> for Stop {
 }
 
 /// An answer of one short line.
-fn line_answer(alloc: Global, status: Status, line: &[u8]) -> Result<Answer, NoMemory>
+pub(crate) fn line_answer(alloc: Global, status: Status, line: &[u8]) -> Result<Answer, NoMemory>
     ensures { IfOk result (λ answer. answer ≡ record { status = status; text = line.now }) }
 {
     Ok(Answer {
@@ -72,7 +72,7 @@ fn line_answer(alloc: Global, status: Status, line: &[u8]) -> Result<Answer, NoM
 }
 
 /// The answer that names a bad line of a script.
-fn script_refused(alloc: Global, line: u32, cause: LineCause) -> Result<Answer, NoMemory>
+pub(crate) fn script_refused(alloc: Global, line: u32, cause: LineCause) -> Result<Answer, NoMemory>
     ensures { IfOk result (λ answer. answer ≡ bad_script_answer (line, cause)) }
 {
     Ok(Answer {
@@ -82,7 +82,7 @@ fn script_refused(alloc: Global, line: u32, cause: LineCause) -> Result<Answer, 
 }
 
 /// The answer that the work was done, with its text.
-fn done(text: Bytes) -> Answer
+pub(crate) fn done(text: Bytes) -> Answer
     ensures { result ≡ record { status = Status.Done; text = text } }
 {
     Answer {
@@ -92,7 +92,11 @@ fn done(text: Bytes) -> Answer
 }
 
 /// A report, and the trace behind it.
-fn report_and_trace(alloc: Global, report: &[u8], events: &[Event]) -> Result<Bytes, NoMemory>
+pub(crate) fn report_and_trace(
+    alloc: Global,
+    report: &[u8],
+    events: &[Event],
+) -> Result<Bytes, NoMemory>
     ensures { IfOk result (λ text. text ≡ report.now ++ codes "trace\n" ++ trace_text_of events.now) }
 {
     let trace = print_events(alloc, events)?;

@@ -6,6 +6,8 @@
 //!
 //! The replies that are printed are those that the events of the run gave, in its history (`specs/PrintedReplies.antt`, `laws.rt`).
 //!
+//! [`sheep_live`] does the same on threads (`live_run`): the report is that of the run into which the steps merge that the cluster kept.
+//!
 //! The words are those of `sheep_words`. A run is made and told event by event (`told_run.rt`), so that no run is made twice; `making.rt`
 //! has the two orders. `answer.rt` has the answer to each input, with its status.
 #![tactic(auto)]
@@ -13,6 +15,8 @@
 mod answer;
 mod laws;
 mod lines;
+mod live;
+mod live_answer;
 mod making;
 mod status;
 mod told_run;
@@ -22,6 +26,8 @@ pub use laws::{
     a_report_prints_the_replies_of_its_run, a_request_gets_one_reply,
     the_history_has_what_replies_added,
 };
+pub use live::sheep_live;
+pub use live_run::{FreeGate, Gate, Kept};
 pub use sheep_words::{Mode, mode_of};
 pub use status::Status;
 pub use top::sheep;

@@ -1,0 +1,80 @@
+//! The top call on threads.
+
+ghost use Rattle.std.specs.Prelude.{◌≡◌, ◌⊎◌, ℕ, ◌+◌, ◌<◌, ◌≤◌, List, length, take, true, false};
+ghost use Rattle.object_id.specs.declared.limits.TheConstants.{INPUT_BYTES_MAX};
+ghost use Rattle.sheep_base.specs.Fault.{Rose};
+ghost use Rattle.sheep_base.specs.Sink.{Gains};
+ghost use Rattle.sheep.specs.declared.answer.Answer.{Answer as Ended};
+ghost use Rattle.sheep_words.specs.Mode.{mode_asked_for};
+ghost use Rattle.sheep.specs.Reading.{TakesAtMost, ReadsTooMuch};
+ghost use Rattle.sheep.specs.Answer.{bad_words_text, too_long_text};
+ghost use Rattle.sheep.specs.Outcome.{NamesBadLine};
+ghost use Rattle.sheep.specs.Live.{AnswersLiveCall, takes_live, IsLiveDone, CanLive};
+
+use crate::answer::{Answer, Stop};
+use crate::live_answer::answer_live_call;
+use crate::status::Status;
+use live_run::{Gate, Kept};
+use sheep_base::{Sink, Source, put_all};
+use std::alloc::Global;
+use std::sync::Wait;
+use std::thread::Threads;
+
+/// Runs the program on threads: the source has a script, whose cluster lives on them, and the report of the run into which the steps that
+/// are then kept merge goes to the sink. It may wait for its workers. At every status but `Done` nothing is said of what is kept.
+///
+/// Nothing is written before the whole text stands in memory. Want of memory is the one free answer.
+pub fn sheep_live<S: Source, K: Sink, G: Gate + Sync, R: Threads + Wait + Sync>(
+    rt: &R,
+    alloc: Global,
+    words: &[String],
+    source: &mut S,
+    sink: &mut K,
+    gate: &G,
+    kept: &mut Kept,
+) -> Status
+    // The sink was given the report of a whole run, into which what was kept merges.
+    ensures done { result ≡ Status.Done
+        → IsLiveDone (Gains K.stops (K.given sink.old) (K.given sink.new)) (S.left source.old) (S.left source.new)
+        (mode_asked_for words.now) kept.new }
+
+    ensures bad_words { result ≡ Status.BadWords → (takes_live (mode_asked_for words.now) ≡ false)
+        × Gains K.stops (K.given sink.old) (K.given sink.new) bad_words_text }
+    ensures bad_script { result ≡ Status.BadScript → (takes_live (mode_asked_for words.now) ≡ true)
+        × NamesBadLine (Gains K.stops (K.given sink.old) (K.given sink.new)) (S.left source.old) (S.left source.new) (λ input. input) }
+    ensures too_long { result ≡ Status.TooLong → (takes_live (mode_asked_for words.now) ≡ true)
+        × ReadsTooMuch (S.left source.old) (S.left source.new)
+        × Gains K.stops (K.given sink.old) (K.given sink.new) too_long_text }
+    ensures no_trace { result ≡ Status.BadTrace → ⊥ }
+
+    ensures read_fault { result ≡ Status.ReadFault → (takes_live (mode_asked_for words.now) ≡ true)
+        × Rose (S.faults source.old) (S.faults source.new) × (sink.new ≡ sink.old) }
+    // The sink was given a part of what the answer is without this fault.
+    ensures write_fault { result ≡ Status.WriteFault → Rose (K.faults sink.old) (K.faults sink.new)
+        × ((answer : Ended) × (n : ℕ) × AnswersLiveCall (mode_asked_for words.now) kept.new (S.left source.old) (S.left source.new) answer
+        × (n < length answer.text) × Gains K.stops (K.given sink.old) (K.given sink.new) (take n answer.text)) }
+    // Nor did the source fail.
+    ensures no_memory { result ≡ Status.NoMemory → (sink.new ≡ sink.old) × (S.faults source.new ≡ S.faults source.old) }
+
+    // At every status, nothing is read for words that don't ask for threads, no more than tells an input that is too long, and no count of
+    // faults falls.
+    ensures untouched { takes_live (mode_asked_for words.now) ≡ false → source.new ≡ source.old }
+    ensures takes { TakesAtMost (INPUT_BYTES_MAX + 1) (S.left source.old) (S.left source.new) }
+    ensures source_count { S.faults source.old ≤ S.faults source.new }
+    ensures sink_count { K.faults sink.old ≤ K.faults sink.new }
+
+    // What can be done is done, unless memory runs out or a count rises.
+    ensures complete { CanLive (mode_asked_for words.now) (S.left source.old)
+        → ¬ Rose (S.faults source.old) (S.faults source.new) → ¬ Rose (K.faults sink.old) (K.faults sink.new)
+        → (result ≡ Status.Done) ⊎ (result ≡ Status.NoMemory) }
+{
+    let Answer { status, text } = match answer_live_call(rt, alloc, words, source, gate, kept) {
+        Ok(answer) => answer,
+        Err(Stop::ReadFault) => return Status::ReadFault,
+        Err(Stop::NoMemory) => return Status::NoMemory,
+    };
+    match put_all(sink, text.as_slice()) {
+        Ok(()) => status,
+        Err(_fault) => Status::WriteFault,
+    }
+}
