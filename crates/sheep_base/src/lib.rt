@@ -33,4 +33,3 @@ pub use sink::Sink;
 pub use source::Source;
 pub use sure::{SureSink, SureSource};
 pub use transfer::{ReadStop, put_all, read_all};
-

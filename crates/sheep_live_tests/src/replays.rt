@@ -11,7 +11,7 @@ use std::thread::Threads;
 use trace_text::input_parts;
 
 /// How often each script runs on threads.
-const RUNS: u32 = 3;
+const RUNS: u32 = 10;
 
 /// More bytes than any of the texts has.
 const ROOM: usize = 1_000_000;
@@ -50,13 +50,15 @@ fn with_trace(alloc: Global, script: &str, trace: &[u8]) -> Result<Bytes, Fail> 
     Ok(Bytes::from_vec(input))
 }
 
-/// Whether a script prints this report where it is replayed by this trace.
+/// Whether a script prints this report, which is had without its last LF, where it is replayed by this trace.
 fn is_replayed(alloc: Global, script: &str, report: &[u8], trace: &[u8]) -> Result<bool, Fail> {
     let words = words_of(alloc, "replay")?;
     let mut source = SureSource::new(with_trace(alloc, script, trace)?);
     let mut sink = SureSink::new(alloc, ROOM)?;
+    let mut lines = Vec::from_slice(alloc, report)?;
+    lines.push(b'\n')?;
     let status = sheep(alloc, words.as_slice(), &mut source, &mut sink);
-    Ok(status == Status::Done && sink.given() == report)
+    Ok(status == Status::Done && sink.given() == lines.as_slice())
 }
 
 /// Whether a script prints on threads what the trace of that run prints where it is replayed.
