@@ -29,11 +29,11 @@ use Rattle.sheep_node.specs.declared.course.Course.TheVariants.{Waiting, Driving
 use Rattle.sheep_node.specs.State.{Node}
 use Rattle.sheep_node.specs.StepState.{StepState, at_first, session_in}
 use Rattle.sheep_node.specs.Courses.{inode_open}
-use Rattle.sheep_node.specs.Guests.{seen_by_command}
+use Rattle.sheep_node.specs.Guests.{is_open_disk_deleted, request_refusal, seen_by_command}
 use Rattle.sheep_node.specs.May.{May}
 use Rattle.sheep_node.specs.SessionQueues.{QueuesAreDiskRequests, CommandsAreAlone}
 use Rattle.sheep_node.specs.Changes.{input_received, Leads}
-use Rattle.sheep_node.proofs.CourseWalk.{IsKeptByParts, none_so, received_so, so_in_chain}
+use Rattle.sheep_node.proofs.CourseWalk.{IsKeptByParts, none_so, so_in_chain}
 use Rattle.sheep_node.proofs.OneWorkParts.{Requests, Sessions}
 use Rattle.sheep_node.proofs.SessionViews.{IsSeen}
 use Rattle.sheep_node.proofs.WantedSteps.{driver_begins-wanted, driver_goes_on-wanted}
@@ -48,9 +48,14 @@ IsDriverAllowed opened (Reads told piece rest) = Unit {0}
 IsDriverAllowed opened (Writes payload stage piece rest) = HasWorking opened
 IsDriverAllowed opened drivers.Answered = Unit {0}
 
+-- a write that waits is on one too
+abbrev pub IsAskAllowed : Option (Bool × ℕ) → DiskAsk → Type 0
+IsAskAllowed opened (disk_asks.Read offset size) = Unit {0}
+IsAskAllowed opened (disk_asks.Write offset payload) = HasWorking opened
+
 -- a request may be so with what its session has open
 abbrev pub IsAllowed : Option (Bool × ℕ) → Course → Type 0
-IsAllowed opened (Waiting ask) = Unit {0}
+IsAllowed opened (Waiting ask) = IsAskAllowed opened ask
 IsAllowed opened (Driving driver) = IsDriverAllowed opened driver
 IsAllowed opened (Commanding op) = Unit {0}
 IsAllowed opened (Checking check) = opened ≡ Some (false, check.vid)
@@ -130,6 +135,19 @@ begins_allowed disk ask = by_refusal ask (refusal_on disk false ask) refl
         writes_allowed (Some (disk.snapshot, disk.inode.vid)) (by_kind disk.snapshot refl offset payload so) disk.inode payload
         (pieces disk.inode.spec.shift offset (length payload))
 
+-- and one that arrives
+ask_allowed : (disk : Disk) (deleted : Bool) (ask : DiskAsk) → refusal_on disk deleted ask ≡ None
+    → IsAskAllowed (Some (disk.snapshot, disk.inode.vid)) ask
+ask_allowed disk deleted (disk_asks.Read offset size) none = tt
+ask_allowed disk deleted (disk_asks.Write offset payload) none = by_kind disk.snapshot refl
+  where
+    by_kind : (b : Bool) → disk.snapshot ≡ b → HasWorking (Some (disk.snapshot, disk.inode.vid))
+    by_kind true snapshot =
+        let refused = ap (λ (b : Bool). refusal_on (record { inode = disk.inode; snapshot = b }) deleted (disk_asks.Write offset payload))
+        (sym snapshot) ∙ none in
+        absurd (cc (refused))
+    by_kind false working = (disk.inode.vid, ap (λ (b : Bool). Some (b, disk.inode.vid)) working)
+
 -- ---- a check
 
 check_on-vid : (check : Check) (left : List ℕ) → (check_on check left).check.vid ≡ check.vid
@@ -170,7 +188,9 @@ check_working (Some disk) inode allowed on = by_kind disk.snapshot refl
 module _ {input : Input} {node : Node} (none : (req session : ℕ) (work : ObjWork) → input ≡ inputs.Guest req session (asks.Object work) → ⊥) where
   parts_keep_allowed : IsKeptByParts opened_as IsAllowed input node
   parts_keep_allowed = record {
-    arrives = λ so_far session req ask disk arrival on. tt;
+    arrives = λ so_far session req ask disk arrival on.
+        ask_allowed disk (is_open_disk_deleted so_far.node.peer (Some disk)) ask
+        (ap (λ (o : Option Disk). request_refusal so_far.node.peer o (asks.Disk ask)) (sym on) ∙ arrival.refused);
     begins = λ disk ask is.
         subst (λ (vid : ℕ). IsDriverAllowed (Some (disk.snapshot, vid)) (begin_driver disk ask).driver) (sym (driver_begins-wanted disk ask).vid)
         (begins_allowed disk ask);
@@ -189,9 +209,6 @@ module _ {input : Input} {node : Node} (none : (req session : ℕ) (work : ObjWo
 
 pub none_allowed : AreAllowed tree.empty tree.empty
 none_allowed = none_so opened_as IsAllowed
-
-pub received_allowed : (input : Input) (node : Node) → AllowedSoFar (at_first node) → AllowedSoFar (input_received input (at_first node))
-received_allowed = received_so opened_as IsAllowed
 
 -- in the middle of a step
 pub allowed_in_chain : (input : Input) (node : Node) → May input node → QueuesAreDiskRequests node → CommandsAreAlone node

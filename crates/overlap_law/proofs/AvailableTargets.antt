@@ -25,7 +25,7 @@ use Rattle.sheep_world.specs.Incarnations.{EndedIncarnation, incarnation_in, is_
 use Rattle.overlap_law.specs.Attempts.{AttemptRecord, object_of, attempts_on}
 use Rattle.overlap_law.specs.Holders.{targets_by, creates, first_create, is_kept_in, is_available_since, is_available, born_objects, is_dead_by_log, lacks_holders, unavailable_in, is_object_among, is_live_object, is_good}
 use Rattle.overlap_law.specs.Past.{MomentWithPast, run_with_past, past_after_event, moment_after, counts}
-use Rattle.overlap_law.specs.Each.{policy_in}
+use Rattle.overlap_law.specs.Each.{EachAttempt, policy_in}
 use Rattle.overlap_law.specs.Fates.{AttemptsAreShaped}
 use Rattle.overlap_law.specs.NodeEpochs.{TheUpAreMembers}
 use Rattle.overlap_law.specs.ShapedAttempts.{AreShaped}
@@ -94,7 +94,7 @@ found_at p (attempt ∷ attempts) found is = by_test (p attempt) is (λ later. f
 -- ---- births
 
 -- an object that was born has a first create
-first_there : (oid : ℕ) (attempts : List AttemptRecord) → is_object_among oid (born_objects attempts) ≡ true
+pub first_there : (oid : ℕ) (attempts : List AttemptRecord) → is_object_among oid (born_objects attempts) ≡ true
     → (create : AttemptRecord) × (first_create oid attempts ≡ Some create)
 first_there oid [] born = absurd (cc (born))
 first_there oid (attempt ∷ attempts) born =
@@ -116,19 +116,25 @@ first_there oid (attempt ∷ attempts) born =
     by_tests false false not_creating other born rest = rest born
 
 -- it stands among the attempts, on the object
-first_at : (oid : ℕ) (attempts : List AttemptRecord) (create : AttemptRecord) → first_create oid attempts ≡ Some create
+pub first_at : (oid : ℕ) (attempts : List AttemptRecord) (create : AttemptRecord) → first_create oid attempts ≡ Some create
     → (place : ℕ) × (slice_get attempts place ≡ Some create) × (object_of create ≡ oid)
 first_at oid attempts create is =
     let (k, at) = found_at creates (attempts_on oid attempts) create is in
     let passed = filter-passed (λ (attempt : AttemptRecord). object_of attempt == oid) attempts k create at in
     (passed.place, passed.there, eqb-true (object_of create) oid passed.passed)
 
+-- the object of an attempt was born, in no later epoch
+pub record IsBornBy (attempts : List AttemptRecord) (attempt : AttemptRecord) : Type 0 where
+  pub create : AttemptRecord
+  pub first : first_create (object_of attempt) attempts ≡ Some create
+  pub early : create.epoch ≤ attempt.epoch
+
 -- ---- by what counts
 
 module _ (log : List Entry) (attempts : List AttemptRecord) (counts_in : NodeId → ℕ → Bool) (good : ℕ → Bool)
     (counted : (node : NodeId) (epoch : ℕ) → counts_in node epoch ≡ true → is_member node.0 (members_in log (epoch_of log)) ≡ true)
-    (shape : AttemptsAreShaped (targets_by log) log attempts) (births : NoneIsBeforeBirth good attempts)
-    (born : (oid : ℕ) → good oid ≡ true → is_object_among oid (born_objects attempts) ≡ true)
+    (shape : AttemptsAreShaped (targets_by log) log attempts)
+    (births : EachAttempt attempts (λ j attempt. good (object_of attempt) ≡ true → IsBornBy attempts attempt))
     (available : (oid : ℕ) → good oid ≡ true → is_available counts_in log attempts oid ≡ true) where
   -- it is kept in each epoch since its birth that counts
   kept_since : (oid : ℕ) (create : AttemptRecord) → good oid ≡ true → first_create oid attempts ≡ Some create → (epoch : ℕ)
@@ -148,16 +154,15 @@ module _ (log : List Entry) (attempts : List AttemptRecord) (counts_in : NodeId 
   available_has = record {
     each = λ j attempt got policy epoch good_so policy_so settled from within.
         let oid : ℕ = object_of attempt in
-        let (create, first) = first_there (object_of attempt) attempts (born (object_of attempt) good_so) in
-        let (place, at, own) = first_at (object_of attempt) attempts create first in
-        let birth : create.epoch ≤ attempt.epoch
-        = births.each j attempt got create.epoch good_so (ap (option_map (λ (c : AttemptRecord). c.epoch)) first) in
-        let same : policy_of create.work ≡ policy
-        = same_Some (policy_of create.work) policy
-        (sym (shape.policy place create at) ∙ ap (policy_in (log_effects log)) own ∙ policy_so) in
+        let b : IsBornBy attempts attempt = births j attempt got good_so in
+        let (place, at, own) = first_at (object_of attempt) attempts b.create b.first in
+        let birth = b.early in
+        let same : policy_of b.create.work ≡ policy
+        = same_Some (policy_of b.create.work) policy
+        (sym (shape.policy place b.create at) ∙ ap (policy_in (log_effects log)) own ∙ policy_so) in
         subst (λ (p : Policy). need_of p (kind_of oid) ≤ common (targets_by log) log epoch (epoch_of log) oid p) same
-        (enough oid (policy_of create.work) epoch
-        (kept_since oid create good_so first epoch (omega (arith, birth, from)) settled within));
+        (enough oid (policy_of b.create.work) epoch
+        (kept_since oid b.create good_so b.first epoch (omega (arith, birth, from)) settled within));
   }
     where
       enough : (oid : ℕ) (policy : Policy) (epoch : ℕ) → is_kept_in counts_in log oid policy epoch ≡ true
@@ -209,7 +214,7 @@ module _ (log : List Entry) (attempts : List AttemptRecord) (counts_in : NodeId 
           absurd (cc (among, no))
 
 -- who counts is up, and so a member of the newest epoch
-counted_member : (log : List Entry) (ended : List EndedIncarnation) (world : World) → TheUpAreMembers log world.hosts → (node : NodeId) (epoch : ℕ)
+pub counted_member : (log : List Entry) (ended : List EndedIncarnation) (world : World) → TheUpAreMembers log world.hosts → (node : NodeId) (epoch : ℕ)
     → counts ended world node epoch ≡ true → is_member node.0 (members_in log (epoch_of log)) ≡ true
 counted_member log ended world members node epoch is = by_host (tree.get world.hosts node.0) refl is
   where
@@ -224,18 +229,18 @@ counted_member log ended world members node epoch is = by_host (tree.get world.h
 
 -- ---- at each moment after a change
 
-abbrev IsAvailableNow : MomentWithPast → Type 0
+abbrev pub IsAvailableNow : MomentWithPast → Type 0
 IsAvailableNow moment = (oid : ℕ) → is_good moment.world.log moment.past.attempts moment.past.unavailable oid ≡ true
     → is_available (counts moment.past.ended moment.world) moment.world.log moment.past.attempts oid ≡ true
 
-after_event : (script : List Statement) (event : Event) (start : MomentWithPast) (made : EventOutcome)
+pub after_event : (script : List Statement) (event : Event) (start : MomentWithPast) (made : EventOutcome)
     → IsAvailableNow (moment_after script event start made)
 unfolding past_after_event
 after_event script event start made oid is =
     good_available made.world.log (moment_after script event start made).past.attempts
     (counts (moment_after script event start made).past.ended made.world) start.past.unavailable oid is
 
-available_now : (script : List Statement) {start before after : MomentWithPast} → MomentChange script start before after → IsAvailableNow after
+pub available_now : (script : List Statement) {start before after : MomentWithPast} → MomentChange script start before after → IsAvailableNow after
 available_now script {start} (moments.StepBegins stepping is by) =
     after_event script (event_of_cause stepping.n stepping.cause) start (outcome_in_step script stepping start.world (first_in_step stepping))
 available_now script {start} (moments.StepGoesOn stepping so_far next is by within) =
@@ -266,8 +271,15 @@ module _ (script : List Statement) (range : RunsAreInRange script) (events : Lis
       = (kept_shaped script range).keeps start before after (began-with_past script events start is) change
       (on_the_way script AreShaped (kept_shaped script range) events start before is trail) in
       available_has after.world.log after.past.attempts (counts after.past.ended after.world) good_now
-      (counted_member after.world.log after.past.ended after.world terms.stood.members) shaped.shape births
-      (λ oid good.
+      (counted_member after.world.log after.past.ended after.world terms.stood.members) shaped.shape
+      (λ j attempt got good.
+      let oid : ℕ = object_of attempt in
+      let (create, first) = first_there (object_of attempt) after.past.attempts
       (and_parts (is_object_among oid (born_objects after.past.attempts)) (not (is_dead_by_log after.world.log oid))
-      (and_parts (is_live_object after.world.log after.past.attempts oid) (not (is_object_among oid after.past.unavailable)) good).0).0)
+      (and_parts (is_live_object after.world.log after.past.attempts oid) (not (is_object_among oid after.past.unavailable)) good).0).0 in
+      record {
+        create = create;
+        first = first;
+        early = births.each j attempt got create.epoch good (ap (option_map (λ (c : AttemptRecord). c.epoch)) first);
+      })
       (available_now script change)

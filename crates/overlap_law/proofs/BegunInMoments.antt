@@ -105,12 +105,12 @@ all_come hosts epoch (member ∷ list) each =
     (come_to hosts epoch member.node (each member.node.0 own))
     (all_come hosts epoch list (λ node is. each node (or_right (is_member_node node member) (is_member node list) is)))
 
-entered_by_all : (log : List Entry) (hosts : Hosts) (epoch : ℕ) → AllCame log hosts epoch → has_entered hosts log epoch ≡ true
+pub entered_by_all : (log : List Entry) (hosts : Hosts) (epoch : ℕ) → AllCame log hosts epoch → has_entered hosts log epoch ≡ true
 unfolding has_entered
 entered_by_all log hosts epoch came = all_come hosts epoch (members_in log epoch) came.each
 
 -- a list that is finished waits for nobody
-waits_for_none : (waiting : List NodeId) (node : NodeId) → (length waiting == 0) ≡ true → has_node node waiting ≡ false
+pub waits_for_none : (waiting : List NodeId) (node : NodeId) → (length waiting == 0) ≡ true → has_node node waiting ≡ false
 waits_for_none [] node none = refl
 waits_for_none (first ∷ rest) node none =
     let no : length (first ∷ rest) ≡ 0 = eqb-true (length (first ∷ rest)) 0 none in absurd (omega (arith, no))
@@ -122,7 +122,7 @@ module _ (script : List Statement) (range : RunsAreInRange script) (start before
   grows : LogGrows before.world.log after.world.log
   grows = log_grows script change
 
-  came_still : (epoch : ℕ) → AllCame before.world.log before.world.hosts epoch → AllCame after.world.log after.world.hosts epoch
+  pub came_still : (epoch : ℕ) → AllCame before.world.log before.world.hosts epoch → AllCame after.world.log after.world.hosts epoch
   came_still epoch came =
       let within = came.begun in
       let more = epochs_grow before.world.log after.world.log grows in
@@ -274,18 +274,22 @@ module _ (script : List Statement) (range : RunsAreInRange script) where
     };
   }
 
+-- as the invariant says it, whichever objects are called live
+pub begun-at : (moment : MomentWithPast) → RowsBegin moment → (live : ℕ → Bool)
+    → RowsAreBegun moment.world.log live moment.world.hosts moment.past.attempts
+begun-at moment holds live = record {
+  each = λ n host there oid i row got lives.
+      let own : IsBegunIn moment n oid row.from.0
+      = all_at (λ (r : SeenRow). IsBegunIn moment n oid r.from.0) (rows_of host.node.peer.rows oid) i row got
+      (holds.begun n host there oid) in
+      ⊎_elim
+      (λ (served : HasServedACreate moment.past.attempts oid row.from.0 (record { 0 = n })). inl served)
+      (λ (came : AllCame moment.world.log moment.world.hosts row.from.0).
+      inr (entered_by_all moment.world.log moment.world.hosts row.from.0 came))
+      own;
+}
+
 module _ (script : List Statement) (range : RunsAreInRange script) (events : List Event) (moment : MomentWithPast)
     (is : run_with_past script events ≡ Some moment) where
   pub begun-in_run : (live : ℕ → Bool) → RowsAreBegun moment.world.log live moment.world.hosts moment.past.attempts
-  begun-in_run live = record {
-    each = λ n host there oid i row got lives.
-        let holds = run-kept script RowsBegin (kept_begun script range) events moment is in
-        let own : IsBegunIn moment n oid row.from.0
-        = all_at (λ (r : SeenRow). IsBegunIn moment n oid r.from.0) (rows_of host.node.peer.rows oid) i row got
-        (holds.begun n host there oid) in
-        ⊎_elim
-        (λ (served : HasServedACreate moment.past.attempts oid row.from.0 (record { 0 = n })). inl served)
-        (λ (came : AllCame moment.world.log moment.world.hosts row.from.0).
-        inr (entered_by_all moment.world.log moment.world.hosts row.from.0 came))
-        own;
-  }
+  begun-in_run = begun-at moment (run-kept script RowsBegin (kept_begun script range) events moment is)

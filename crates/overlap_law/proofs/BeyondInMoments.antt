@@ -24,7 +24,7 @@ use Rattle.overlap_law.specs.Past.{MomentWithPast}
 use Rattle.overlap_law.specs.TiedAttempts.{IsTied}
 use Rattle.overlap_law.specs.ShapedAttempts.{AreShaped}
 use Rattle.overlap_law.specs.MomentChanges.{MomentChange, RunsAreInRange}
-use Rattle.overlap_law.proofs.DoomedTraffic.{BeyondLater, traffic_doomed}
+use Rattle.overlap_law.proofs.DoomedTraffic.{BeyondLater, StaysInVain, traffic_vain, traffic_doomed}
 use Rattle.overlap_law.proofs.EpochsRise.{epochs_rise}
 use Rattle.overlap_law.proofs.FinishedInMoments.{TermsHold, finished_before}
 use Rattle.overlap_law.proofs.HolderLemmas.{target-member}
@@ -81,10 +81,10 @@ not_beyond_within hosts epoch node is = by_host (tree.get hosts node.0) refl is
         let less = leb-false (epoch + 1) host.node.peer.epoch parts.1 in
         record { host = host; there = at; up = parts.0; within = omega (arith, less) }
 
--- a node that isn't lost recovers its own epoch, if it recovers one
-pub recovers_own : (log : List Entry) (n : ℕ) (host : Host) → IsSoundHost log n host → StoodSince log n host.node.peer.epoch
-    → 1 < host.node.recovery.epoch → host.node.recovery.epoch ≡ host.node.peer.epoch
-recovers_own log n host is stood later = ⊎_elim
+-- a node that isn't lost recovers its own epoch, if it is a member of the one that it recovers
+pub recovers_member : (log : List Entry) (n : ℕ) (host : Host) → IsSoundHost log n host → StoodSince log n host.node.peer.epoch
+    → is_member n (members_in log host.node.recovery.epoch) ≡ true → host.node.recovery.epoch ≡ host.node.peer.epoch
+recovers_member log n host is stood member = ⊎_elim
     (λ (own : host.node.recovery.epoch ≡ host.node.peer.epoch). own)
     (λ (out : is_member n (members_in log host.node.peer.epoch) ≡ false).
     let within = epoch_within log n host.node.me host.node.peer is.read in
@@ -92,9 +92,6 @@ recovers_own log n host is stood later = ⊎_elim
     absurd (cc (yes, out)))
     (recovery_present log n host is)
   where
-    member : is_member n (members_in log host.node.recovery.epoch) ≡ true
-    member = recovery_own log n host is later
-
     joined : stood.joined ≤ host.node.peer.epoch
     joined = ⊎_elim
         (λ (came : stood.joined ≤ host.node.peer.epoch). came)
@@ -103,6 +100,11 @@ recovers_own log n host is stood later = ⊎_elim
         (λ (above : stood.joined ≤ host.node.recovery.epoch). let entered = is.sound.recovers.entered in omega (arith, above, entered))
         (cases_lt host.node.recovery.epoch stood.joined))
         stood.before
+
+-- so it does if it recovers one at all
+pub recovers_own : (log : List Entry) (n : ℕ) (host : Host) → IsSoundHost log n host → StoodSince log n host.node.peer.epoch
+    → 1 < host.node.recovery.epoch → host.node.recovery.epoch ≡ host.node.peer.epoch
+recovers_own log n host is stood later = recovers_member log n host is stood (recovery_own log n host is later)
 
 module _ (moment : MomentWithPast) (terms : TermsHold moment) where
   -- who is a member of an epoch and not beyond it is one of each later epoch
@@ -230,6 +232,12 @@ module _ (script : List Statement) (range : RunsAreInRange script) (start before
         (subst (λ (nodes : List NodeId). has_node target nodes ≡ true) (shaped.shape.targets j attempt got)
         (got-among attempt.targets place target among)) in
         come_later target.0 (attempt.epoch + 1) (terms.stood.seated target.0 attempt.epoch begun member) (omega (arith, begun)) beyond
+
+    pub vain_later : (j : ℕ) (was now : AttemptRecord) → slice_get before.past.attempts j ≡ Some was
+        → slice_get after.past.attempts j ≡ Some now → StaysInVain before.world.hosts after.world.hosts was now
+    vain_later j was now at at_now =
+        traffic_vain before.world.hosts after.world.hosts before.world.wire before.past.attempts tied.fates beyond_later
+        (traffic script range start began change) j was now at at_now
 
     pub doomed_later : (j : ℕ) (was now : AttemptRecord) → slice_get before.past.attempts j ≡ Some was
         → slice_get after.past.attempts j ≡ Some now → is_doomed before.world.hosts was ≡ true → is_doomed after.world.hosts now ≡ true

@@ -30,6 +30,7 @@ use Rattle.sheep_world.specs.HostChanges.{host_after_step, host_after_return, jo
 use Rattle.sheep_world.specs.Began.{Began}
 use Rattle.sheep_world.proofs.EventInversion.{happens}
 use Rattle.sheep_world.proofs.WireAtOpening.{opening_found}
+use Rattle.sheep_world.proofs.ValidNodes.{got_is}
 use Rattle.overlap_law.specs.BornObjects.{IsBorn, ObjectsWereBorn}
 use Rattle.overlap_law.specs.Past.{MomentWithPast, moment_after, first_moment, run_with_past}
 use Rattle.overlap_law.specs.MomentChanges.{RunsAreInRange}
@@ -38,7 +39,7 @@ use Rattle.overlap_law.proofs.CreatesOnTheWire.{AllSo, SendsSo, RepliesBy, Repli
 use Rattle.overlap_law.proofs.MakersInTraffic.{HasMakersOfAttempts, kept_makers}
 use Rattle.overlap_law.proofs.MomentTrails.{event_trail}
 use Rattle.overlap_law.proofs.ObjectsGrow.{said_grows, node_grows}
-use Rattle.overlap_law.proofs.ObjectsOfRows.{AskWithin, SaidWithin, HasWithin, reply_within}
+use Rattle.overlap_law.proofs.ObjectsOfRows.{AskWithin, IsRowAskWithin, IsAskedWithin, SaidWithin, HasWithin, reply_within}
 use Rattle.overlap_law.proofs.ObjectsOfSteps.{stepped_has, none_had, BringsWithin}
 use Rattle.overlap_law.proofs.RunsByChanges.{event_kept}
 use Rattle.overlap_law.proofs.RunsByEvents.{KeptByEvents, run-kept_by_events}
@@ -222,6 +223,10 @@ module _ (script : List Statement) (range : RunsAreInRange script) where
     pending = λ n host there. (holds.within.hosts n host there).pending;
     listed = λ n host there. (holds.within.hosts n host there).listed;
     searched = λ n host there. (holds.within.hosts n host there).searched;
+    asked = λ n host there place oid level message at is.
+        subst (IsRowAskWithin (IsBorn moment.past.attempts)) is
+        (got_is (IsAskedWithin (IsBorn moment.past.attempts)) host.node.recovery.unanswered place message
+        (holds.within.hosts n host there).asked at);
     told = λ name from reply oids answering named.
         subst (SaidWithin (IsBorn moment.past.attempts)) named
         (holds.within.wire name (Reply from answering.bytes) answering.there reply answering.spelled);

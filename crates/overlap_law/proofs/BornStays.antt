@@ -108,7 +108,7 @@ module _ (script : List Statement) (range : RunsAreInRange script) where
 -- ---- what is asked to be created was born
 
 -- an attempt that creates the object
-born_among : (attempts : List AttemptRecord) (j : ℕ) (attempt : AttemptRecord) → slice_get attempts j ≡ Some attempt → creates attempt ≡ true
+pub born_among : (attempts : List AttemptRecord) (j : ℕ) (attempt : AttemptRecord) → slice_get attempts j ≡ Some attempt → creates attempt ≡ true
     → IsBorn attempts (object_of attempt)
 born_among [] j attempt there is = absurd (cc (there))
 born_among (first ∷ later) zero attempt there is =

@@ -136,10 +136,10 @@ module _ (log outbox later read : List Entry) (from : ℕ) (me : NodeId) (sessio
 -- ---- an entry more in the log
 
 -- places before it are as they were
-earlier : (log : List Entry) (last : Entry) (place : ℕ) → place < length log + 1 → take place (log ++ last ∷ []) ≡ take place log
+pub earlier : (log : List Entry) (last : Entry) (place : ℕ) → place < length log + 1 → take place (log ++ last ∷ []) ≡ take place log
 earlier log last place below = take-append-le place log (last ∷ []) (omega (arith, below))
 
-got_below : (log : List Entry) (place : ℕ) (entry : Entry) → slice_get log place ≡ Some entry → place < length log
+pub got_below : (log : List Entry) (place : ℕ) (entry : Entry) → slice_get log place ≡ Some entry → place < length log
 got_below [] place entry got = absurd (cc (got))
 got_below (first ∷ log) zero entry got = omega arith
 got_below (first ∷ log) (suc place) entry got = let below = got_below log place entry got in omega (arith, below)

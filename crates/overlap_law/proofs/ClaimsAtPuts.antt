@@ -1,7 +1,7 @@
 -- By its kind, each entry that a node puts leaves what its sessions' works rest on.
 use Rattle.std.proofs.Common.{◌≡◌, ◌≢◌, ◌⊎◌, inl, inr, ⊎_elim, ℕ, ◌+◌, ◌≤◌, ◌==◌, Bool, true, false, ◌&&◌, ◌||◌, List, [], ◌∷◌, ◌++◌, All, length, take, Some, None, refl, sym, ap, subst, ◌∙◌, arith}
 use Rattle.std.specs.List.{slice_get}
-use Rattle.std.proofs.lemmas.Bool.{and_parts, eqb-true}
+use Rattle.std.proofs.lemmas.Bool.{and_parts, eq-eqb, eqb-true}
 use Rattle.std.proofs.lemmas.List.{take_all, length-append}
 use Rattle.std.proofs.lemmas.List.Elements.{All-head}
 use Rattle.object_id.specs.declared.entry.Entry.{Entry}
@@ -9,12 +9,13 @@ use Rattle.object_id.specs.declared.entry.Entry.TheVariants.{Format, Join, Leave
 use Rattle.object_id.specs.declared.node.NodeId.{NodeId}
 use Rattle.object_id.specs.declared.oid.Vid.{Vid}
 use Rattle.epoch_log.specs.Epochs.{epoch_of}
-use Rattle.vdi_directory.specs.Decisions.{log_effects}
+use Rattle.vdi_directory.specs.Decisions.{outcome, log_effects}
 use Rattle.vdi_directory.specs.Effects.{holder_of}
 use Rattle.sheep_node.specs.OwnEntries.{IsEntryOf}
 use Rattle.overlap_law.specs.AwaitedEntries.{IsCommandEntry}
 use Rattle.overlap_law.specs.CommandDisks.{opened_in}
 use Rattle.overlap_law.specs.Grants.{granted_in, writer_of, may_take_writer}
+use Rattle.overlap_law.specs.LastReads.{snaps}
 use Rattle.overlap_law.specs.WriterClaims.{holder_at, HasLock, IsStageKept, IsReplacing, HasClaims}
 use Rattle.overlap_law.proofs.AttemptLists.{got_more}
 use Rattle.overlap_law.proofs.AwaitedChanges.{Requests, AreAwaited}
@@ -23,7 +24,7 @@ use Rattle.overlap_law.proofs.ClaimPuts.{kept_tail, here_once, nothing_put, unlo
 use Rattle.overlap_law.proofs.ClaimRefusals.{reserved_apart}
 use Rattle.overlap_law.proofs.ClaimsOfPuts.{Publisher, commands_own, apart, publisher, published}
 use Rattle.overlap_law.proofs.CountedEntries.{times, once_if, times-cons, itself}
-use Rattle.overlap_law.proofs.GrantedIds.{replaced_now}
+use Rattle.overlap_law.proofs.GrantedIds.{replaced_effect, replaced_now}
 use Rattle.overlap_law.proofs.KeptIds.{named_stays, lock-writer}
 
 -- where it isn't left it is nowhere in the rest
@@ -161,6 +162,18 @@ module _ (log later read : List Entry) (from : ℕ) (me : NodeId) (unread : List
         let kept = subst (IsStageKept log (last ∷ later) read from me which.request.session (opened_in which.request.session sessions)) which.at
         (has.commands which.req which.request which.op which.there which.command) in
         (which.request.session, lock-writer log (last ∷ later) me which.request.session (epoch_of read) old.0 (kept.of_disk here))
+
+    -- and then becomes a snapshot
+    pub snapshot_snaps : snaps old.0 (outcome (log_effects log) (Snapshot by old vid)).effect ≡ true
+    snapshot_snaps =
+        let kept = subst (IsStageKept log (last ∷ later) read from me which.request.session
+        (opened_in which.request.session sessions)) which.at
+        (has.commands which.req which.request which.op which.there which.command) in
+        let put : last ≡ Snapshot me old vid = λ i. Snapshot (mine i) old vid in
+        ap (λ (e : Entry). snaps old.0 (outcome (log_effects log) e).effect) put
+        ∙ ap (snaps old.0)
+        (replaced_effect log (last ∷ later) me which.request.session (epoch_of read) old vid (kept.to_put here) (kept.of_disk here))
+        ∙ eq-eqb old.0 old.0 refl
 
   -- ---- each
 

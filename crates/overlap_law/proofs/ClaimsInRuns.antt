@@ -60,7 +60,7 @@ use Rattle.overlap_law.proofs.AwaitedEntriesInMoments.{unread_of, meets_otherwis
 use Rattle.overlap_law.proofs.AwaitedInputs.{AreAwaitedAt, back_awaited}
 use Rattle.overlap_law.proofs.AwaitedInRuns.{opening_first, awaited_in_worlds, no_count, new_node}
 use Rattle.overlap_law.proofs.ClaimInputs.{HasClaimsAt, no_claims, LogGoes, received_claimed, rests_claimed, reads_entry, reads_none, back_received, reads_all}
-use Rattle.overlap_law.proofs.ClaimRefusals.{chain_kept}
+use Rattle.overlap_law.proofs.ClaimRefusals.{Together, chain_kept}
 use Rattle.overlap_law.proofs.ClaimRequests.{IsReadOf}
 use Rattle.overlap_law.proofs.ClaimsElsewhere.{Spares, elsewhere_kept, leave_spares, other_spares, one_nodes}
 use Rattle.overlap_law.proofs.NoRecoveredDue.{began-with_past}
@@ -121,7 +121,7 @@ module _ (script : List Statement) (range : RunsAreInRange script) where
     put_front : (entry : Entry) → world.log ++ entry ∷ [] ≡ host.node.peer.entries ++ (front.rest ++ entry ∷ [])
     put_front entry = ap (λ (log : List Entry). log ++ entry ∷ []) front.is ∙ append_assoc host.node.peer.entries front.rest (entry ∷ [])
 
-    reads : (cause : NodeCause) → IsCause script world n host cause
+    pub reads : (cause : NodeCause) → IsCause script world n host cause
         → IsReadOf (log_after_cause cause world.log) (read_after (input_of_cause cause) host.node.peer.entries)
         (drop (length (read_after (input_of_cause cause) host.node.peer.entries)) (log_after_cause cause world.log)) (length host.node.peer.entries)
         (input_of_cause cause) host.node
@@ -145,24 +145,34 @@ module _ (script : List Statement) (range : RunsAreInRange script) where
     reads WorkIsRetried so =
         reads_none world.log front.rest inputs.RetryTick host.node (λ entry is. cc (is)) host.node.peer.entries refl front.is
 
-    -- the node that steps, as far as it has come
-    own_claimed : (cause : NodeCause) → IsCause script world n host cause → (so_far : StepState)
+    -- what holds together of the node that steps, as far as it has come
+    pub together_so_far : (cause : NodeCause) (so : IsCause script world n host cause) (so_far : StepState)
         → Leads (input_of_cause cause) host.node (input_received (input_of_cause cause) (at_first host.node)) so_far
-        → HasClaimsAt (log_after_cause cause world.log) so_far.node
-    own_claimed cause so so_far leads =
+        → Together (read_after (input_of_cause cause) host.node.peer.entries)
+        (drop (length (read_after (input_of_cause cause) host.node.peer.entries)) (log_after_cause cause world.log)) (input_of_cause cause)
+        host.node (meets script range world began n host there up cause so) (log_after_cause cause world.log)
+        (length host.node.peer.entries) (reads cause so) so_far
+    together_so_far cause so so_far leads =
         let input = input_of_cause cause in
         let read = read_after input host.node.peer.entries in
         let log = log_after_cause cause world.log in
-        let unread = drop (length read) log in
-        let met = meets script range world began n host there up cause so in
-        let together = chain_kept read unread input host.node met log (length host.node.peer.entries) (reads cause so) leads (record {
+        chain_kept read (drop (length read) log) input host.node (meets script range world began n host there up cause so) log
+        (length host.node.peer.entries) (reads cause so) leads (record {
           awaited = own_first script range world began n host there up cause so (awaited_in_worlds script range world began);
           fits = received_open input host.node (open_in_worlds script range world began n host there);
           claims =
               received_claimed world.log log (unread_of world.log host.node) host.node (all n host there up_so)
               (own_entries script world began n host there).entries awaited input (goes cause so);
-        }) in
-        at_rest log read (length host.node.peer.entries) so_far host.node.me together.awaited.me_so (entries_so input host.node so_far leads)
+        })
+
+    own_claimed : (cause : NodeCause) → IsCause script world n host cause → (so_far : StepState)
+        → Leads (input_of_cause cause) host.node (input_received (input_of_cause cause) (at_first host.node)) so_far
+        → HasClaimsAt (log_after_cause cause world.log) so_far.node
+    own_claimed cause so so_far leads =
+        let input = input_of_cause cause in
+        let together = together_so_far cause so so_far leads in
+        at_rest (log_after_cause cause world.log) (read_after input host.node.peer.entries) (length host.node.peer.entries) so_far
+        host.node.me together.awaited.me_so (entries_so input host.node so_far leads)
         (reads_on input host.node.peer.entries (is_no_return cause)) together.claims
       where
         reads_on : (input : Input) (entries : List Entry) → IsNoReturn input → length entries ≤ length (read_after input entries)
@@ -241,7 +251,7 @@ module _ (script : List Statement) (range : RunsAreInRange script) where
 
   -- ---- each event
 
-  up_not_lost : (host : Host) → is_host_up host ≡ true → host.is_lost ≡ false
+  pub up_not_lost : (host : Host) → is_host_up host ≡ true → host.is_lost ≡ false
   up_not_lost host up = not-true host.is_lost (and_parts (not host.is_lost) (has_numbers host.node) up).0
 
   module _ (world : World) (began : Began script world) (all : AreClaimedAmong world.log world.hosts) where

@@ -126,7 +126,8 @@ snapped-no_writer log vid writer snapped is = given-no_writer log vid writer (sn
 
 -- ---- a disk becomes a snapshot once
 
-snaps-working : (before : List Effect) (effect : Effect) (vid : ℕ) → IsLawful before effect → snaps vid effect ≡ true → state_of before vid ≡ Working
+pub snaps-working : (before : List Effect) (effect : Effect) (vid : ℕ) → IsLawful before effect → snaps vid effect ≡ true
+    → state_of before vid ≡ Working
 snaps-working before effects.Nothing vid lawful is = absurd (cc (is))
 snaps-working before (effects.Reserved grant) vid lawful is = absurd (cc (is))
 snaps-working before (effects.Published of name) vid lawful is = absurd (cc (is))

@@ -1,10 +1,11 @@
 -- A step of a node of a run leaves copies of the attempts before it, where the attempts go by whole units and what recoveries were told is
 -- of attempts.
-use Rattle.std.proofs.Common.{◌≡◌, inl, inr, ⊎_elim, ℕ, zero, suc, Bool, true, false, cond, List, [], ◌∷◌, ◌++◌, length, slice_get, Option, Some, None, Ok, refl, sym, ap, subst, ◌∙◌}
-use Rattle.std.specs.List.{AllByRecursion, find, list_any}
+use Rattle.std.proofs.Common.{◌≡◌, inl, inr, ⊎_elim, ℕ, suc, Bool, true, false, cond, List, [], ◌∷◌, ◌++◌, length, slice_get}
+use Rattle.std.proofs.Common.{Option, Some, None, Ok, refl, sym, ap, subst, ◌∙◌}
+use Rattle.std.specs.List.{AllByRecursion, find}
 use Rattle.std.specs.Option.{option_map}
 use Rattle.std.specs.FinMap as tree
-use Rattle.std.proofs.lemmas.Bool.{eqb-true, eq-eqb, or_left, or_right}
+use Rattle.std.proofs.lemmas.Bool.{eqb-true}
 use Rattle.std.proofs.lemmas.Option.{same_Some}
 use Rattle.object_id.specs.declared.entry.Entry.{Entry}
 use Rattle.object_id.specs.declared.entry.VdiSpec.{VdiSpec}
@@ -30,7 +31,6 @@ use Rattle.message_wire.specs.Message.{message_name}
 use Rattle.recovery.specs.declared.search.RowAnswer.{RowAnswer}
 use Rattle.recovery.specs.Shown.{live_policy}
 use Rattle.recovery.specs.State.{Message, Search, search_on, has_number, message_of}
-use Rattle.recovery.specs.Level.{is_read_of, is_of_search}
 use Rattle.recovery.specs.Steps.{search_after_answer}
 use Rattle.recovery.proofs.FoundLemmas.{live_known}
 use Rattle.sheep_node.specs.declared.input.Input.{Input}
@@ -59,6 +59,7 @@ use Rattle.overlap_law.proofs.CopiesInSteps.{RowIsSo, IsSoCopy, AnswersAreSo, Is
 use Rattle.overlap_law.proofs.CreatesInRuns.{creates_in_range}
 use Rattle.overlap_law.proofs.EachRowKept.{step-each_row}
 use Rattle.overlap_law.proofs.RowKeeping.{TellsOf, PeerRowsSo}
+use Rattle.overlap_law.proofs.FirstSearches.{is_on}
 use Rattle.overlap_law.proofs.GrantedEpochs.{spec_stays}
 use Rattle.overlap_law.proofs.KnownSteps.{together}
 use Rattle.overlap_law.proofs.LogsInMoments.{LogGrows}
@@ -68,7 +69,7 @@ use Rattle.overlap_law.proofs.RowsInRuns.{create_stays}
 
 -- ---- lists
 
-find_at : (test : Message → Bool) (xs : List Message) (x : Message) → find test xs ≡ Some x
+pub find_at : (test : Message → Bool) (xs : List Message) (x : Message) → find test xs ≡ Some x
     → (place : ℕ) × (slice_get xs place ≡ Some x) × (test x ≡ true)
 find_at test [] x found = absurd (cc (found))
 find_at test (first ∷ xs) x found = by_test (test first) refl found (λ later. find_at test xs x later)
@@ -78,18 +79,6 @@ find_at test (first ∷ xs) x found = by_test (test first) refl found (λ later.
         → (place : ℕ) × (slice_get (first ∷ xs) place ≡ Some x) × (test x ≡ true)
     by_test true is found later = (0, found, ap test (sym (same_Some first x found)) ∙ is)
     by_test false is found later = let (place, at, passed) = later found in (suc place, at, passed)
-
-got_front : (xs ys : List Message) (place : ℕ) (x : Message) → slice_get xs place ≡ Some x → slice_get (xs ++ ys) place ≡ Some x
-got_front [] ys place x got = absurd (cc (got))
-got_front (first ∷ xs) ys zero x got = got
-got_front (first ∷ xs) ys (suc place) x got = got_front xs ys place x got
-
-any_at : (test : Message → Bool) (xs : List Message) (place : ℕ) (x : Message) → slice_get xs place ≡ Some x → test x ≡ true
-    → list_any test xs ≡ true
-any_at test [] place x got passed = absurd (cc (got))
-any_at test (first ∷ xs) zero x got passed =
-    or_left (test first) (list_any test xs) (ap test (same_Some first x got) ∙ passed)
-any_at test (first ∷ xs) (suc place) x got passed = or_right (test first) (list_any test xs) (any_at test xs place x got passed)
 
 -- ---- what a log says of an object's policy
 
@@ -230,9 +219,7 @@ module _ (script : List Statement) (range : RunsAreInRange script) (start : Mome
             search = search;
             place = place;
             answer = answer;
-            there = on;
-            awaited = any_at (is_of_search search.oid) stepping.host.node.recovery.unanswered found.0 message found.1
-                (ap (is_read_of search.oid) asks_row ∙ eq-eqb oid search.oid (sym own));
+            there = (is_on stepping.host.node.peer.pending stepping.host.node.recovery.search search on).search;
             among = got;
             from_it = refl;
             told = is_row;
@@ -259,7 +246,7 @@ module _ (script : List Statement) (range : RunsAreInRange script) (start : Mome
             place = found.0;
             message = message;
             reply = rsp;
-            unanswered = got_front stepping.host.node.recovery.unanswered stepping.host.node.recovery.older found.0 message found.1;
+            unanswered = found.1;
             asked = asks_row;
             of_epoch = refl;
             answering = answering;

@@ -1,10 +1,9 @@
 -- Over each change of a moment copies stay of attempts, where the attempts go by whole units and what recoveries were told is of attempts.
-use Rattle.std.proofs.Common.{◌≡◌, ◌⊎◌, inl, inr, ⊎_elim, ℕ, Bool, List, [], ◌∷◌, slice_get, Some, refl, sym, ap, subst, ◌∙◌}
+use Rattle.std.proofs.Common.{◌≡◌, ℕ, Bool, List, [], ◌∷◌, slice_get, Some, sym, ap, subst, ◌∙◌}
 use Rattle.std.specs.FinMap as tree
 use Rattle.std.proofs.lemmas.Option.{same_Some}
 use Rattle.object_id.specs.declared.entry.Entry.{Entry}
 use Rattle.object_id.specs.declared.entry.VdiSpec.{VdiSpec}
-use Rattle.object_id.specs.declared.policy.Policy.{Policy}
 use Rattle.object_id.specs.Oid.{kind_of, vid_of}
 use Rattle.object_store.specs.Store.{SeenRow, rows_of}
 use Rattle.object_store.proofs.StoreLaws.{rows_of-empty}
@@ -24,7 +23,6 @@ use Rattle.overlap_law.specs.Attempts.{object_of}
 use Rattle.overlap_law.specs.Each.{spec_in, policy_in}
 use Rattle.overlap_law.specs.Fates.{AttemptsAreWhole, IsWhole}
 use Rattle.overlap_law.specs.Past.{MomentWithPast}
-use Rattle.overlap_law.specs.MomentChanges as moments
 use Rattle.overlap_law.specs.MomentChanges.{MomentChange, RunsAreInRange}
 use Rattle.overlap_law.specs.Searches.{ToldCopiesAreOfAttempts}
 use Rattle.overlap_law.specs.ShapedAttempts.{AreShaped}
@@ -34,12 +32,12 @@ use Rattle.overlap_law.specs.Traffic.{MakersAreOfAttempts}
 use Rattle.overlap_law.proofs.CopiesInSteps.{RowIsSo, IsSoCopy}
 use Rattle.overlap_law.proofs.GrantedEpochs.{spec_stays}
 use Rattle.overlap_law.proofs.GrownAttempts.{traffic_goes_on, grows-object}
+use Rattle.overlap_law.proofs.KnownPolicies.{policy_was_known}
 use Rattle.overlap_law.proofs.LogsInMoments.{LogGrows, log_grows}
 use Rattle.overlap_law.proofs.NodesInMoments.{NodeChange, PeerStays, NodeSteps, NodeReturns, NodeIsNew, nodes_change}
-use Rattle.overlap_law.proofs.RangeOfFewObjects.{rows_told}
 use Rattle.overlap_law.proofs.RowLists.{all_at}
 use Rattle.overlap_law.proofs.TrafficOfChanges.{traffic}
-use Rattle.overlap_law.proofs.CopiesAtSteps.{policy_spec, policy_later, policy_before, CopiesBefore, stepped_so, returned_so}
+use Rattle.overlap_law.proofs.CopiesAtSteps.{policy_spec, policy_later, CopiesBefore, stepped_so, returned_so}
 
 module _ (script : List Statement) (range : RunsAreInRange script) (start before after : MomentWithPast) (began : Began script start.world)
     (change : MomentChange script start before after) (live : ℕ → Bool) (shaped : AreShaped before)
@@ -52,35 +50,6 @@ module _ (script : List Statement) (range : RunsAreInRange script) (start before
 
   abbrev effects_after : List Effect
   effects_after = log_effects after.world.log
-
-  -- the log is as it was, or the event begins here
-  same_or_start : {start before after : MomentWithPast} → MomentChange script start before after
-      → (after.world.log ≡ before.world.log) ⊎ (start ≡ before)
-  same_or_start (moments.StepBegins stepping is by) = inr refl
-  same_or_start (moments.StepGoesOn stepping so_far next is by within) = inl refl
-  same_or_start (moments.StepIsMade stepping is by) = inr refl
-  same_or_start (moments.LossIsUntold event made happened h) = inr refl
-  same_or_start (moments.DeliveryIsUnread event made happened h) = inr refl
-  same_or_start (moments.NodeIsLost event made happened h) = inr refl
-  same_or_start (moments.NodeLeaves event made happened h) = inr refl
-  same_or_start (moments.NodeIsReweighted event made happened h) = inr refl
-  same_or_start (moments.NodeJoins event made happened h) = inr refl
-  same_or_start (moments.NodeComesBack event made happened h) = inr refl
-  same_or_start (moments.PhaseEnds event made happened h) = inr refl
-
-  -- the policy of an object of which there is a row was known
-  was_known : (n : ℕ) (host : Host) → tree.get before.world.hosts n ≡ Some host → (oid i : ℕ) (row : SeenRow)
-      → slice_get (rows_of host.node.peer.rows oid) i ≡ Some row → (policy : Policy) → policy_in effects_after oid ≡ Some policy
-      → policy_in (log_effects before.world.log) oid ≡ Some policy
-  was_known n host there oid i row got policy known = ⊎_elim
-      (λ (same : after.world.log ≡ before.world.log). ap (λ (log : List Entry). policy_in (log_effects log) oid) (sym same) ∙ known)
-      (λ (first : start ≡ before).
-      let can = rows_told script range.is_script range.room before.world
-      (subst (λ (m : MomentWithPast). Began script m.world) first began) in
-      let of = can.rows n host there oid i row got in
-      policy_before before.world.log longer.rest oid policy of.spec of.made
-      (ap (λ (log : List Entry). policy_in (log_effects log) oid) (sym longer.is) ∙ known))
-      (same_or_start change)
 
   holds_then : CopiesBefore effects_after live before
   holds_then = record {
@@ -100,7 +69,8 @@ module _ (script : List Statement) (range : RunsAreInRange script) (start before
     };
     makers = makers;
     rows = λ n host there oid i row got policy alive known.
-        copies.each n host there oid i row got policy alive (was_known n host there oid i row got policy known);
+        copies.each n host there oid i row got policy alive
+        (policy_was_known script range start before after began change n host there oid i row got policy known);
     told = told;
   }
 

@@ -54,10 +54,10 @@ use Rattle.overlap_law.proofs.RowLists.{all_at}
 
 -- ---- what an attempt's message asks
 
-abbrev key_oid : PeerAsk → ℕ
+abbrev pub key_oid : PeerAsk → ℕ
 key_oid ask = (key_asked ask).oid
 
-asked_object : (work : ObjWork) (index : ℕ) → key_oid (ask_for work index) ≡ oid_of work
+pub asked_object : (work : ObjWork) (index : ℕ) → key_oid (ask_for work index) ≡ oid_of work
 asked_object (works.Create oid policy size offset bytes) index = refl
 asked_object (works.Write oid policy offset bytes) index = refl
 asked_object (works.Read oid policy offset size) index = refl
@@ -230,7 +230,7 @@ module _ (effects : List Effect) (live : ℕ → Bool) (attempts : List AttemptR
           let whole : is_in_strips shown_policy (kind_of search.oid) ≡ false
           = ap (λ (p : Policy). is_in_strips p (kind_of search.oid)) same ∙ copies in
           let rows = found-rows (λ (row : RowCopy). IsSoCopy search.oid row.index (row_bytes row)) state shown_policy search
-          (λ i row got.
+          (λ i row got held.
           subst (IsSoCopy search.oid row.index) (sym (row_bytes-copy_of row))
           (all_at (RowIsSo node.peer.epoch search.oid) (rows_of node.peer.rows search.oid) i row got (are search.oid)))
           answers in
@@ -249,7 +249,8 @@ module _ (effects : List Effect) (live : ℕ → Bool) (attempts : List AttemptR
             written_so request key offset bytes row comes is (open_index key.index row unshut) fits
             (length-laid_over row.bytes offset bytes fits) had;
         answered = told;
-        anew = λ oid level place answer got. absurd (cc (got));
+        anew = λ search on place answer got. absurd (cc (got));
+        first = λ oid place answer got. absurd (cc (got));
         found = λ may recovery me epoch search policy answers live_so pending enough.
             found_so recovery search policy answers live_so enough
             (own_index policy search (record { recovery = recovery; shown = shown_node node }));

@@ -46,6 +46,20 @@ vain_later hosts hosts_after epoch (target ∷ targets) (fate ∷ fates) (now �
     (λ place other f n among got is. so (suc place) other f n among got is) rest))
     (or_cases (is_in_vain hosts epoch target fate) (is_one_in_vain hosts epoch targets fates) vain)
 
+-- an attempt has other fates, and each message of it that was in vain is so still
+pub record StaysInVain (hosts hosts_after : Hosts) (was now : AttemptRecord) : Type 0 where
+  pub same : record was { fates = now.fates } ≡ now
+  pub long : length now.fates ≡ length was.fates
+  pub each : (place : ℕ) (target : NodeId) (fate then : MessageFate) → slice_get was.targets place ≡ Some target
+      → slice_get was.fates place ≡ Some fate → slice_get now.fates place ≡ Some then
+      → is_in_vain hosts was.epoch target fate ≡ true → is_in_vain hosts_after was.epoch target then ≡ true
+
+pub doomed_by : (hosts hosts_after : Hosts) (was now : AttemptRecord) → StaysInVain hosts hosts_after was now → is_doomed hosts was ≡ true
+    → is_doomed hosts_after now ≡ true
+doomed_by hosts hosts_after was now stays doomed =
+    subst (λ (a : AttemptRecord). is_doomed hosts_after a ≡ true) stays.same
+    (vain_later hosts hosts_after was.epoch was.targets was.fates now.fates stays.long stays.each doomed)
+
 -- what is told of a message leaves it in vain, if none is served whose target is beyond
 told_vain : (hosts hosts_after : Hosts) (epoch : ℕ) (target : NodeId) (told fate : MessageFate)
     → (told ≡ Served → fate ≡ Flying → is_beyond hosts epoch target ≡ false)
@@ -67,15 +81,17 @@ BeyondLater hosts hosts_after attempts = (j : ℕ) (attempt : AttemptRecord) →
 
 module _ (hosts hosts_after : Hosts) (wire : Wire) (attempts : List AttemptRecord) (fates : FatesAreOfTheWire wire attempts)
     (beyond : BeyondLater hosts hosts_after attempts) where
-  abbrev IsDoomedLater : AttemptRecord → AttemptRecord → Type 0
-  IsDoomedLater was now = is_doomed hosts was ≡ true → is_doomed hosts_after now ≡ true
+  abbrev StaysSo : AttemptRecord → AttemptRecord → Type 0
+  StaysSo was now = StaysInVain hosts hosts_after was now
 
-  same_doomed : (j : ℕ) (was : AttemptRecord) → slice_get attempts j ≡ Some was → IsDoomedLater was was
-  same_doomed j was at doomed =
-      vain_later hosts hosts_after was.epoch was.targets was.fates was.fates refl
-      (λ place target fate now among got again vain.
-      subst (λ (f : MessageFate). is_in_vain hosts_after was.epoch target f ≡ true) (same_Some fate now (sym got ∙ again))
-      (in_vain-grows hosts hosts_after was.epoch target fate (beyond j was at place target among) vain)) doomed
+  same_vain : (j : ℕ) (was : AttemptRecord) → slice_get attempts j ≡ Some was → StaysSo was was
+  same_vain j was at = record {
+    same = refl;
+    long = refl;
+    each = λ place target fate now among got again vain.
+        subst (λ (f : MessageFate). is_in_vain hosts_after was.epoch target f ≡ true) (same_Some fate now (sym got ∙ again))
+        (in_vain-grows hosts hosts_after was.epoch target fate (beyond j was at place target among) vain);
+  }
 
   -- who answers with success is in the epoch that it serves
   abbrev NotBeyond : AttemptRecord → NodeId → Type 0
@@ -92,19 +108,21 @@ module _ (hosts hosts_after : Hosts) (wire : Wire) (attempts : List AttemptRecor
       ∙ ap (λ (b : Bool). b || nat_le (attempt.epoch + 1) answer.host.node.peer.epoch) answer.answers
       ∙ lt-leb (attempt.epoch + 1) answer.host.node.peer.epoch (omega (arith, epoch))
 
-  marked_doomed : (told : MessageFate) (name : MessageName) → (told ≡ Served → IsServedNow hosts hosts_after wire attempts fates NotBeyond name)
+  marked_vain : (told : MessageFate) (name : MessageName)
+      → (told ≡ Served → IsServedNow hosts hosts_after wire attempts fates NotBeyond name)
       → (j : ℕ) (was : AttemptRecord) → slice_get attempts j ≡ Some was
-      → IsDoomedLater was (record was { fates = fates_told told name.sender name.number was })
-  marked_doomed told name served j was at doomed =
-      vain_later hosts hosts_after was.epoch was.targets was.fates (fates_told told name.sender name.number was)
-      (long (has_message name.sender name.number was))
-      (λ place target fate now among got again vain. ⊎_elim
-      (λ (own : message_name_at was place ≡ name). own_vain place target fate now among own got again vain)
-      (λ (apart : message_name_at was place ≢ name).
-      subst (λ (f : MessageFate). is_in_vain hosts_after was.epoch target f ≡ true)
-      (same_Some fate now (sym got ∙ sym (other_place was name told place apart) ∙ again))
-      (in_vain-grows hosts hosts_after was.epoch target fate (beyond j was at place target among) vain))
-      (tied_to wire name (message_name_at was place))) doomed
+      → StaysSo was (record was { fates = fates_told told name.sender name.number was })
+  marked_vain told name served j was at = record {
+    same = refl;
+    long = long (has_message name.sender name.number was);
+    each = λ place target fate now among got again vain. ⊎_elim
+        (λ (own : message_name_at was place ≡ name). own_vain place target fate now among own got again vain)
+        (λ (apart : message_name_at was place ≢ name).
+        subst (λ (f : MessageFate). is_in_vain hosts_after was.epoch target f ≡ true)
+        (same_Some fate now (sym got ∙ sym (other_place was name told place apart) ∙ again))
+        (in_vain-grows hosts hosts_after was.epoch target fate (beyond j was at place target among) vain))
+        (tied_to wire name (message_name_at was place));
+  }
     where
       long : (b : Bool) → length (cond b (fates_with (name.number - was.first) told was.fates) was.fates) ≡ length was.fates
       long true = told-length (name.number - was.first) told was.fates
@@ -127,31 +145,36 @@ module _ (hosts hosts_after : Hosts) (wire : Wire) (attempts : List AttemptRecor
           (λ is_served flying. served is_served j was at place target among own (got ∙ ap (λ (f : MessageFate). Some f) flying))
           (beyond j was at place target among) vain)
 
-  same_so : (j : ℕ) (was now : AttemptRecord) → slice_get attempts j ≡ Some was → slice_get attempts j ≡ Some now → IsDoomedLater was now
-  same_so j was now at at_now = subst (IsDoomedLater was) (same_Some was now (sym at ∙ at_now)) (same_doomed j was at)
+  same_so : (j : ℕ) (was now : AttemptRecord) → slice_get attempts j ≡ Some was → slice_get attempts j ≡ Some now → StaysSo was now
+  same_so j was now at at_now = subst (StaysSo was) (same_Some was now (sym at ∙ at_now)) (same_vain j was at)
 
   marked_so : (told : MessageFate) (name : MessageName) → (told ≡ Served → IsServedNow hosts hosts_after wire attempts fates NotBeyond name)
       → (j : ℕ) (was now : AttemptRecord) → slice_get attempts j ≡ Some was
-      → slice_get (attempts_with_fate told name.sender name.number attempts) j ≡ Some now → IsDoomedLater was now
+      → slice_get (attempts_with_fate told name.sender name.number attempts) j ≡ Some now → StaysSo was now
   marked_so told name served j was now at at_now =
       let (old, at_old, is) = got_marked told name.sender name.number attempts j now at_now in
-      subst (λ (a : AttemptRecord). IsDoomedLater a now) (same_Some old was (sym at_old ∙ at))
-      (subst (IsDoomedLater old) is (marked_doomed told name served j old at_old))
+      subst (λ (a : AttemptRecord). StaysSo a now) (same_Some old was (sym at_old ∙ at))
+      (subst (StaysSo old) is (marked_vain told name served j old at_old))
 
-  pub traffic_doomed : {later : Wire} {after : List AttemptRecord} → Traffic hosts hosts_after wire attempts later after
-      → (j : ℕ) (was now : AttemptRecord) → slice_get attempts j ≡ Some was → slice_get after j ≡ Some now → IsDoomedLater was now
-  traffic_doomed NothingMoves = same_so
-  traffic_doomed (MessageIsLost name packet there) = lost packet
+  pub traffic_vain : {later : Wire} {after : List AttemptRecord} → Traffic hosts hosts_after wire attempts later after
+      → (j : ℕ) (was now : AttemptRecord) → slice_get attempts j ≡ Some was → slice_get after j ≡ Some now → StaysSo was now
+  traffic_vain NothingMoves = same_so
+  traffic_vain (MessageIsLost name packet there) = lost packet
     where
       lost : (packet : Packet) → (j : ℕ) (was now : AttemptRecord) → slice_get attempts j ≡ Some was
-          → slice_get (attempts_with_loss name packet attempts) j ≡ Some now → IsDoomedLater was now
+          → slice_get (attempts_with_loss name packet attempts) j ≡ Some now → StaysSo was now
       lost (Request to bytes) = marked_so Doomed name (λ is. absurd (cc (is)))
       lost (Reply sender bytes) = same_so
-  traffic_doomed (ReplyIsReceived name sender bytes there) = same_so
-  traffic_doomed (RequestIsAnswered name to bytes up rsp there answer) =
+  traffic_vain (ReplyIsReceived name sender bytes there) = same_so
+  traffic_vain (RequestIsAnswered name to bytes up rsp there answer) =
       marked_so (fate_of_say rsp.say) name
       (λ served. answered hosts hosts_after wire attempts fates NotBeyond not_beyond name to bytes up rsp there answer served)
-  traffic_doomed (RequestsAreSent n sends by nothing) = same_so
-  traffic_doomed (AttemptBegins n sends new begun) = λ j was now at at_now.
-      subst (IsDoomedLater was) (same_Some was now (sym (got_still attempts new j was at) ∙ at_now)) (same_doomed j was at)
-  traffic_doomed (RepliesGo n) = same_so
+  traffic_vain (RequestsAreSent n sends by nothing) = same_so
+  traffic_vain (AttemptBegins n sends new begun) = λ j was now at at_now.
+      subst (StaysSo was) (same_Some was now (sym (got_still attempts new j was at) ∙ at_now)) (same_vain j was at)
+  traffic_vain (RepliesGo n) = same_so
+
+  pub traffic_doomed : {later : Wire} {after : List AttemptRecord} → Traffic hosts hosts_after wire attempts later after
+      → (j : ℕ) (was now : AttemptRecord) → slice_get attempts j ≡ Some was → slice_get after j ≡ Some now
+      → is_doomed hosts was ≡ true → is_doomed hosts_after now ≡ true
+  traffic_doomed kind j was now at at_now = doomed_by hosts hosts_after was now (traffic_vain kind j was now at at_now)

@@ -218,10 +218,12 @@ module _ (Q : Search → Type 0) (R : ℕ → ℕ → SeenRow → Type 0) (node 
     state = recovery_state_of node
 
     -- a tick begins with a search that was told nothing
-    next_anew : (epoch : ℕ) (first : Option ℕ) (on : Option Search) (search : Search) → or_next epoch first on ≡ Some search → Q search
-    next_anew epoch first (Some one) search is = subst Q (same_Some (search_at one.oid one.level) search is) (keeps.anew one.oid one.level)
-    next_anew epoch None None search is = absurd (cc (is))
-    next_anew epoch (Some oid) None search is = subst Q (same_Some (search_at oid (epoch - 1)) search is) (keeps.anew oid (epoch - 1))
+    next_anew : (first : Option ℕ) (on : Option Search) → search_on state ≡ on → (search : Search)
+        → or_next node.recovery.epoch first on ≡ Some search → Q search
+    next_anew first (Some one) is search next = subst Q (same_Some (search_at one.oid one.level) search next) (keeps.anew one is)
+    next_anew None None is search next = absurd (cc (next))
+    next_anew (Some oid) None is search next =
+        subst Q (same_Some (search_at oid (node.recovery.epoch - 1)) search next) (keeps.first oid)
 
     ticked_so : MayFind input → PeerRowsSo Q R node (on_recover_tick (at_first node)).node.peer
     unfolding on_recover_tick state_after_tick
@@ -237,7 +239,7 @@ module _ (Q : Search → Type 0) (R : ℕ → ℕ → SeenRow → Type 0) (node 
         by_search None next = are
         by_search (Some search) next =
             searching_so may sent.recovery (record { me = refl; epoch = refl }) search
-            (next_anew node.recovery.epoch (first_in node.peer.pending) (search_on state) search next)
+            (next_anew (first_in node.peer.pending) (search_on state) refl search next)
             (next-is_pending state search next)
 
     module _ (may : MayFind input) (number : ℕ) (said : Option PeerSay) (tells : TellsOf input number said) where

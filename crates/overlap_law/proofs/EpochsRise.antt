@@ -116,7 +116,7 @@ stepped_rises script range world began n host cause there next =
     (step_reads (input_of_cause cause) host.node ∙ read_with_more cause host.node.peer.entries)
 
 module _ (script : List Statement) (range : RunsAreInRange script) (start : MomentWithPast) (began : Began script start.world) where
-  step_rises : (stepping : SteppingNode) → IsStepping script start.world stepping
+  pub step_rises : (stepping : SteppingNode) → IsStepping script start.world stepping
       → stepping.host.node.peer.epoch ≤ (last_in_step stepping).node.peer.epoch
   step_rises stepping is =
       stepped_rises script range start.world began stepping.n stepping.host stepping.cause is.there
@@ -124,7 +124,7 @@ module _ (script : List Statement) (range : RunsAreInRange script) (start : Mome
       (outcome_of_step script stepping.n stepping.host stepping.cause start.world) began is.made)
 
   -- once the input was received, which is all that the step reads
-  first_rises : (stepping : SteppingNode) → IsStepping script start.world stepping
+  pub first_rises : (stepping : SteppingNode) → IsStepping script start.world stepping
       → stepping.host.node.peer.epoch ≤ (first_in_step stepping).node.peer.epoch
   first_rises stepping is =
       subst (λ (peer : Peer). stepping.host.node.peer.epoch ≤ peer.epoch) (step_peer (input_of_cause stepping.cause) stepping.host.node) (step_rises stepping is)

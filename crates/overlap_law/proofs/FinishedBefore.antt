@@ -209,7 +209,7 @@ module _ (script : List Statement) (range : RunsAreInRange script) (start : Mome
     })
 
     -- what the step put into the log was in its outbox
-    put_logs : LogsOnlyPut start (moment_in_step script stepping start (last_in_step stepping))
+    pub put_logs : LogsOnlyPut start (moment_in_step script stepping start (last_in_step stepping))
     put_logs = by_cause stepping.cause is.caused
       where
         by_cause : (cause : NodeCause) → IsCause script start.world stepping.n stepping.host cause → (n epoch : ℕ)

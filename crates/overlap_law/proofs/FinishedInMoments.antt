@@ -34,16 +34,16 @@ use Rattle.sheep_world.proofs.ControlLaws.{next_fits}
 use Rattle.sheep_world.proofs.WireAtOpening.{opening_found}
 use Rattle.overlap_law.specs.Reached.{has_finished}
 use Rattle.overlap_law.specs.Past.{MomentWithPast, first_moment}
-use Rattle.overlap_law.specs.StepMoments.{first_in_step, last_in_step}
+use Rattle.overlap_law.specs.StepMoments.{moment_in_step, first_in_step, last_in_step}
 use Rattle.overlap_law.specs.MomentChanges as moments
 use Rattle.overlap_law.specs.MomentChanges.{MomentChange, RunsAreInRange, KeptByChanges}
 use Rattle.overlap_law.proofs.AnswerersInMoments.{AnswersHold, kept_answers}
 use Rattle.overlap_law.proofs.AskedEpochs as asked_epochs
 use Rattle.overlap_law.proofs.EpochsRise.{epochs_rise}
-use Rattle.overlap_law.proofs.FinishedBefore.{same_log, plain_log, same_finished, one_finished, same_go, one_goes, ends_now, begins_finished, made_finished, on_finished, step_goes, on_goes}
+use Rattle.overlap_law.proofs.FinishedBefore.{LogsOnlyPut, put_logs, same_log, plain_log, same_finished, one_finished, same_go, one_goes, ends_now, begins_finished, made_finished, on_finished, step_goes, on_goes}
 use Rattle.overlap_law.proofs.KnownSteps.{together}
 use Rattle.overlap_law.proofs.ListMessages.{AsksListsIn}
-use Rattle.overlap_law.proofs.LogsInMoments.{log_grows}
+use Rattle.overlap_law.proofs.LogsInMoments.{log_grows, log_by_changes}
 use Rattle.overlap_law.proofs.ReadInMoments.{HostsAreSound, epoch_within, sound_hosts, hosts_after_sound, kept_sound}
 use Rattle.overlap_law.proofs.RecoveredEntries.{IsOwnEnd, PutsOnlyItsEnd, stepped_puts, opening_only}
 use Rattle.overlap_law.proofs.RecoveredInMoments.{node_of, IsToPut, finished_cases, EndsNow, TheFinishedCame, FinishedBefore, RecoveriesGo, came_after}
@@ -95,6 +95,32 @@ module _ (script : List Statement) (range : RunsAreInRange script) (start : Mome
 
   -- ---- each change
 
+  -- the log gets no `Recovered` but one that was to be put
+  pub logs_only_put : {before after : MomentWithPast} → MomentChange script start before after → LogsOnlyPut before after
+  logs_only_put (moments.StepBegins stepping is by) =
+      same_log start (moment_in_step script stepping start (first_in_step stepping)) (log_by_changes stepping.cause by start.world.log)
+  logs_only_put (moments.StepGoesOn stepping so_far next is by within) =
+      same_log (moment_in_step script stepping start so_far) (moment_in_step script stepping start next) refl
+  logs_only_put (moments.StepIsMade stepping is by) = put_logs script range start began stepping is
+  logs_only_put {before} {after} (moments.LossIsUntold event made happened h) =
+      same_log before after (ap (λ (m : EventOutcome). m.world.log) (sym h.made_so))
+  logs_only_put {before} {after} (moments.DeliveryIsUnread event made happened h) =
+      same_log before after (ap (λ (m : EventOutcome). m.world.log) (sym h.made_so))
+  logs_only_put {before} {after} (moments.NodeIsLost event made happened h) =
+      same_log before after (ap (λ (m : EventOutcome). m.world.log) (sym h.made_so))
+  logs_only_put {before} {after} (moments.PhaseEnds event made happened h) =
+      same_log before after (ap (λ (m : EventOutcome). m.world.log) (sym h.made_so))
+  logs_only_put {before} {after} (moments.NodeLeaves event made happened h) =
+      plain_log before after (entries.Leave (record { 0 = h.n })) (ap (λ (m : EventOutcome). m.world.log) (sym h.made_so)) (λ n epoch. refl)
+  logs_only_put {before} {after} (moments.NodeIsReweighted event made happened h) =
+      plain_log before after (entries.Reweight (record { 0 = h.n }) h.vnodes) (ap (λ (m : EventOutcome). m.world.log) (sym h.made_so))
+      (λ n epoch. refl)
+  logs_only_put {before} {after} (moments.NodeJoins event made happened h) =
+      plain_log before after (join_of script h.n (vnodes_of script)) (ap (λ (m : EventOutcome). m.world.log) (sym h.made_so)) (λ n epoch. refl)
+  logs_only_put {before} {after} (moments.NodeComesBack event made happened h) =
+      plain_log before after (join_of script h.n (last_weight start.world.log h.n)) (ap (λ (m : EventOutcome). m.world.log) (sym h.made_so))
+      (λ n epoch. refl)
+
   pub finished_before : {before after : MomentWithPast} → MomentChange script start before after → FinishedBefore before after
   finished_before (moments.StepBegins stepping is by) = begins_finished script range start began stepping is by
   finished_before (moments.StepGoesOn stepping so_far next is by within) = on_finished script range start began stepping is so_far next within
@@ -127,7 +153,7 @@ module _ (script : List Statement) (range : RunsAreInRange script) (start : Mome
   finished_before {before} {after} (moments.PhaseEnds event made happened h) =
       same_finished before after (ap (λ (m : EventOutcome). m.world.hosts) (sym h.made_so)) (same_log before after (ap (λ (m : EventOutcome). m.world.log) (sym h.made_so)))
 
-  recoveries_go : {before after : MomentWithPast} → MomentChange script start before after → RecoveriesGo before after
+  pub recoveries_go : {before after : MomentWithPast} → MomentChange script start before after → RecoveriesGo before after
   recoveries_go (moments.StepBegins stepping is by) = step_goes script range start began stepping is (first_in_step stepping) changes.Still
   recoveries_go (moments.StepGoesOn stepping so_far next is by within) = on_goes script range start began stepping is so_far next within
   recoveries_go (moments.StepIsMade stepping is by) =

@@ -188,7 +188,7 @@ same_object from (Some says.NoRow) search = refl
 same_object from (Some (says.Refused refusal)) search = refl
 
 -- a node whose list is unanswered is waited for
-unlisted_at : (state : RecoveryState) → AsksListsIn state → (message : Message) → Contains state.recovery.unanswered message
+pub unlisted_at : (state : RecoveryState) → AsksListsIn state → (message : Message) → Contains state.recovery.unanswered message
     → message.request.ask ≡ asks.List → is_listed state.recovery ≡ false
 unlisted_at state lists message there asked = by_waiting state.recovery.lists.waiting (lists.asked message there asked)
   where

@@ -1,5 +1,5 @@
--- At each moment on the way of an event of a run in range nothing is known to be pending, and nothing is searched, before a recovery's list
--- is finished; and a search is of the first pending object, at a level from 1 to the one before the recovery's epoch.
+-- At each moment on the way of an event of a run in range nothing is known to be pending, nothing is searched, and nothing is missing, before
+-- a recovery's list is finished; and a search is of the first pending object, at a level from 1 to the one before the recovery's epoch.
 use Rattle.std.proofs.Common.{◌≡◌, ℕ, ◌<◌, ◌≤◌, List, [], Option, Some, None, subst}
 use Rattle.std.specs.Option.{IfSome}
 use Rattle.std.specs.FinMap as tree
@@ -17,6 +17,7 @@ use Rattle.overlap_law.specs.MomentChanges.{MomentTrail, RunsAreInRange}
 use Rattle.overlap_law.specs.Lists.{ListsComeFirst}
 use Rattle.overlap_law.specs.Searches.{SearchesAreOfTheFirst}
 use Rattle.overlap_law.proofs.FirstSearches.{SearchesInOrder, searches_kept, is_on}
+use Rattle.overlap_law.proofs.MissingLater.{MissesLater, misses_kept}
 use Rattle.overlap_law.proofs.RangeOfRuns.{nodes_sound}
 use Rattle.overlap_law.proofs.RecoveriesInWorlds.{recoveries_so, recoveries-on_the_way}
 
@@ -53,6 +54,14 @@ module _ (script : List Statement) (range : RunsAreInRange script) where
       → SearchesWithin n host.node.recovery host.node.peer
   within-in_world world began n host there = (in_order-in_world world began n host there, levels-in_world world began n host there)
 
+  abbrev MissesLaterAt : ℕ → Recovery → Peer → Type 0
+  MissesLaterAt n recovery peer = MissesLater recovery peer.pending
+
+  misses-in_world : (world : World) → Began script world → (n : ℕ) (host : Host) → tree.get world.hosts n ≡ Some host
+      → MissesLater host.node.recovery host.node.peer.pending
+  misses-in_world =
+      recoveries_so script range MissesLater misses_kept (λ me. (λ unlisted. absurd (cc (unlisted)), λ unlisted. absurd (cc (unlisted))))
+
   module _ (events : List Event) (start moment : MomentWithPast) (is : run_with_past script events ≡ Some start)
       (trail : MomentTrail script start moment) where
     within : (n : ℕ) (host : Host) → tree.get moment.world.hosts n ≡ Some host → SearchesWithin n host.node.recovery host.node.peer
@@ -62,6 +71,8 @@ module _ (script : List Statement) (range : RunsAreInRange script) where
     listing-on_the_way = record {
       pending = λ n host there up unlisted. ((within n host there).0.0 unlisted).0;
       search = λ n host there up unlisted. ((within n host there).0.0 unlisted).1;
+      missing = λ n host there up unlisted.
+          (recoveries-on_the_way script MissesLaterAt misses-in_world events start moment is trail n host there).1 unlisted;
     }
 
     levels_of : (n : ℕ) (host : Host) → tree.get moment.world.hosts n ≡ Some host → (search : Search)

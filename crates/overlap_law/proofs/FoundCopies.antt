@@ -1,6 +1,7 @@
 -- The part that a search finds of an object whose rows are copies is one of the rows that it found: the node's own at the level, or one
 -- that was told.
-use Rattle.std.proofs.Common.{◌≡◌, ℕ, suc, Bool, true, false, cond, List, [], ◌∷◌, ◌++◌, length, slice_get, Option, Some, None, refl, ap, ◌∙◌}
+use Rattle.std.proofs.Common.{◌≡◌, ℕ, suc, Bool, true, false, cond, List, [], ◌∷◌, ◌++◌, length, slice_get, Option, Some, None, refl, ap}
+use Rattle.std.proofs.Common.{◌∙◌}
 use Rattle.std.specs.List.{filter_map, cons_option}
 use Rattle.std.specs.Option.{IfSome, option_map}
 use Rattle.object_id.specs.declared.node.NodeId.{NodeId}
@@ -13,7 +14,7 @@ use Rattle.object_id.specs.Policy.{wanted_of}
 use Rattle.gf256.specs.Part.{part, bytes_of_parts, is_in_strips}
 use Rattle.object_list.specs.Gathered.{is_same_node}
 use Rattle.object_store.specs.declared.row.RowCopy.{RowCopy}
-use Rattle.object_store.specs.Rows.{row_holding}
+use Rattle.object_store.specs.Rows.{row_holding, holds}
 use Rattle.object_store.specs.Store.{SeenRow, rows_of, row_bytes, copy_of}
 use Rattle.object_store.proofs.CopyLaws.{row_at-some}
 use Rattle.recovery.specs.declared.search.RowAnswer.{RowAnswer}
@@ -33,9 +34,9 @@ each-found P f (node ∷ nodes) all = by_row (f node) (all node) (each-found P f
     by_row None one rest = rest
     by_row (Some row) one rest = (one, rest)
 
--- the node's own row of the level is the copy of a row that it has
+-- the node's own row of the level is the copy of a row that it has, and that holds the level
 own-copy : (P : RowCopy → Type 0) (shown : NodeView) (oid level : ℕ)
-    → ((i : ℕ) (row : SeenRow) → slice_get (rows_of shown.rows oid) i ≡ Some row → P (copy_of row))
+    → ((i : ℕ) (row : SeenRow) → slice_get (rows_of shown.rows oid) i ≡ Some row → holds level row ≡ true → P (copy_of row))
     → IfSome (own_row shown oid level) P
 own-copy P shown oid level each = by_policy (shown.policy_of oid) (row_holding level (rows_of shown.rows oid)) refl
   where
@@ -56,7 +57,7 @@ own-copy P shown oid level each = by_policy (shown.policy_of oid) (row_holding l
         let stands = row_at-some level (rows_of shown.rows oid) row is in
         let got : slice_get (rows_of shown.rows oid) (length stands.0) ≡ Some row
         = ap (λ (rows : List SeenRow). slice_get rows (length stands.0)) stands.2 ∙ place stands.0 stands.1 row in
-        by_test row (each (length stands.0) row got) (shown.size_of oid) (wanted_of policy (kind_of oid))
+        by_test row (each (length stands.0) row got stands.3) (shown.size_of oid) (wanted_of policy (kind_of oid))
         (is_asked_row level (wanted_of policy (kind_of oid)) (shown.size_of oid) (copy_of row))
 
 answered-told : (P : RowCopy → Type 0) (node : NodeId) (answers : List RowAnswer)
@@ -76,7 +77,8 @@ answered-told P node (answer ∷ answers) each =
 
 -- each row that is found is the copy of an own one, or was told
 pub found-rows : (P : RowCopy → Type 0) (state : RecoveryState) (policy : Policy) (search : Search)
-    → ((i : ℕ) (row : SeenRow) → slice_get (rows_of state.shown.rows search.oid) i ≡ Some row → P (copy_of row))
+    → ((i : ℕ) (row : SeenRow) → slice_get (rows_of state.shown.rows search.oid) i ≡ Some row → holds search.level row ≡ true
+    → P (copy_of row))
     → ((place : ℕ) (answer : RowAnswer) → slice_get search.answers place ≡ Some answer → (row : RowCopy) → answer.row ≡ Some row → P row)
     → Each P (rows_found state policy search)
 found-rows P state policy search own told =

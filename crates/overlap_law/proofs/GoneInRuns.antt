@@ -62,7 +62,7 @@ none_of_node n (member ∷ members) = by_node (is_member_node n member) refl (no
     by_node true is rest = rest
     by_node false is rest = ap (λ (b : Bool). b || is_member n (members_without n members)) is ∙ rest
 
-leaves_none : (n : ℕ) → leaves_of [] n ≡ []
+pub leaves_none : (n : ℕ) → leaves_of [] n ≡ []
 unfolding dated_effects
 leaves_none n = refl
 

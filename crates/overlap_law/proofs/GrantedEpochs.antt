@@ -84,7 +84,7 @@ used_push log entry vid =
     ap (λ (known : List Effect). is_used known vid) (log_effects-push log entry) ∙ is_used-push (log_effects log) (effect_of log entry) vid
 
 -- an id that is used is granted by no later entry
-not_again : (log : List Entry) (entry : Entry) (vid : ℕ) → is_used (log_effects log) vid ≡ true → grants vid (effect_of log entry) ≡ false
+pub not_again : (log : List Entry) (entry : Entry) (vid : ℕ) → is_used (log_effects log) vid ≡ true → grants vid (effect_of log entry) ≡ false
 not_again log entry vid used = by_effect (effect_of log entry) refl
   where
     by_tie : (grant : Grant) → effect_of log entry ≡ effects.Reserved grant → (b : Bool) → (grant.reservation.vid.0 == vid) ≡ b → b ≡ false
@@ -106,7 +106,7 @@ not_again log entry vid used = by_effect (effect_of log entry) refl
     by_effect (effects.Withdrawn id) what = refl
     by_effect (effects.Left node) what = refl
 
-used_next : (log : List Entry) (entry : Entry) (vid : ℕ) → is_used (log_effects log) vid ≡ true → is_used (log_effects (log ++ entry ∷ [])) vid ≡ true
+pub used_next : (log : List Entry) (entry : Entry) (vid : ℕ) → is_used (log_effects log) vid ≡ true → is_used (log_effects (log ++ entry ∷ [])) vid ≡ true
 used_next log entry vid used = used_push log entry vid ∙ ap (λ (b : Bool). b || grants vid (effect_of log entry)) used
 
 abbrev AsReserved : List Entry → ℕ → List Entry → Type 0
@@ -151,6 +151,38 @@ reserved_within log vid = from_front (λ (log : List Entry). is_used (log_effect
         by_used : (u : Bool) → (u || false) ≡ true → u ≡ true
         by_used true is = refl
         by_used false is = is
+
+-- what isn't used yet is reserved in no earlier epoch
+pub unused_later : (log later : List Entry) (vid : ℕ) → is_used (log_effects log) vid ≡ false
+    → is_used (log_effects (log ++ later)) vid ≡ true → epoch_of log ≤ reserved_in (log ++ later) vid
+unused_later log later vid unused =
+    (from_front IsNoEarlier
+    (λ all entry is.
+    (let grows : epoch_of (all ++ entry ∷ []) ≡ epoch_of all + length (filter begins_epoch (entry ∷ [])) = epoch_of-append all (entry ∷ []) in
+    let most = is.0 in (
+      omega (arith, most, grows),
+      λ used.
+          by_grant all entry is (omega (arith, most, grows)) (grants vid (effect_of all entry)) (reserved_push all entry vid)
+          (sym (used_push all entry vid) ∙ used),
+    ))) log later
+    (same_epoch (epoch_of log), λ used. absurd (cc (used, unused)))).1
+  where
+    IsNoEarlier : List Entry → Type 0
+    IsNoEarlier all = (epoch_of log ≤ epoch_of all) × (is_used (log_effects all) vid ≡ true → epoch_of log ≤ reserved_in all vid)
+
+    same_epoch : (k : ℕ) → k ≤ k
+    same_epoch k = omega arith
+
+    by_grant : (all : List Entry) (entry : Entry) → IsNoEarlier all → epoch_of log ≤ epoch_of (all ++ entry ∷ []) → (b : Bool)
+        → reserved_in (all ++ entry ∷ []) vid ≡ cond b (epoch_of (all ++ entry ∷ [])) (reserved_in all vid)
+        → (is_used (log_effects all) vid || b) ≡ true → epoch_of log ≤ reserved_in (all ++ entry ∷ []) vid
+    by_grant all entry is most true so used = omega (arith, so, most)
+    by_grant all entry is most false so used =
+        let before = is.1 (by_used (is_used (log_effects all) vid) used) in omega (arith, so, before)
+      where
+        by_used : (u : Bool) → (u || false) ≡ true → u ≡ true
+        by_used true known = refl
+        by_used false known = known
 
 -- ---- what the disk of an id was made with
 

@@ -29,7 +29,7 @@ use Rattle.vdi_directory.specs.Decisions.{nothing, refusal_outcome, is_held_by, 
 use Rattle.vdi_directory.specs.Effects.{is_used, header_of, name_of, reservations_after, reservations_of, reservation_on, holder_after, holder_of}
 use Rattle.vdi_directory.specs.Names.{snapshot_with_tag, is_live_name}
 use Rattle.vdi_directory.specs.Sources.{tag_for}
-use Rattle.vdi_directory.specs.Sound.{IsNameTaken}
+use Rattle.vdi_directory.specs.Sound.{IsLiveSnapshot, IsNameTaken}
 use Rattle.vdi_directory.specs.States.{Working, Reserved, rank, state_of}
 use Rattle.vdi_directory.specs.Vids.{free_id}
 use Rattle.vdi_directory.proofs.DecisionLaws.{grant_outcome-unused, held-was-free, held-works}
@@ -87,7 +87,7 @@ module _ (log : List Entry) (me : NodeId) (session : ℕ) (name : List ℕ) (vid
   abbrev locks : Entry
   locks = Lock me session name None
 
-  locked_effect : decision_after log (Lock me session name None) ≡ decisions.Granted vid
+  pub locked_effect : decision_after log (Lock me session name None) ≡ decisions.Granted vid
       → (outcome (log_effects log) (Lock me session name None)).effect ≡ effects.Held vid (holder_at me session)
   locked_effect is = by_target (target (log_effects log) name None) refl is
     where
@@ -119,12 +119,12 @@ module _ (log : List Entry) (me : NodeId) (session : ℕ) (name : List ℕ) (vid
         }
 
 -- a snapshot is opened
-pub snapshot_given : (log : List Entry) (me : NodeId) (session : ℕ) (name tag : List ℕ) (vid : Vid)
-    → decision_after log (Lock me session name (Some tag)) ≡ decisions.Granted vid → IsGivenNoMore log vid.0
-snapshot_given log me session name tag vid is = by_target (target (log_effects log) name (Some tag)) refl is
+pub snapshot_found : (log : List Entry) (me : NodeId) (session : ℕ) (name tag : List ℕ) (vid : Vid)
+    → decision_after log (Lock me session name (Some tag)) ≡ decisions.Granted vid → IsLiveSnapshot (state_of (log_effects log) vid.0)
+snapshot_found log me session name tag vid is = by_target (target (log_effects log) name (Some tag)) refl is
   where
     by_target : (of : Result Vid Cause) → target (log_effects log) name (Some tag) ≡ of
-        → (lock (holder_at me session) true of).decision ≡ decisions.Granted vid → IsGivenNoMore log vid.0
+        → (lock (holder_at me session) true of).decision ≡ decisions.Granted vid → IsLiveSnapshot (state_of (log_effects log) vid.0)
     by_target (Err cause) found is = absurd (cc (is))
     by_target (Ok other) found is =
         let same : other ≡ vid = cc (is) in
@@ -134,20 +134,25 @@ snapshot_given log me session name tag vid is = by_target (target (log_effects l
         let taken : IsNameTaken (log_effects log) name other.0
         = subst (λ (v : Vid). IsNameTaken (log_effects log) name v.0) listed.2
         ((sound-log_effects log).live_snapshots name listed.0 listed.1) in
-        let at : rank (state_of (log_effects log) other.0) ≡ 3 = ap rank taken.state.1 in
-        subst (λ (v : Vid). IsGivenNoMore log v.0) same (omega (arith, at))
+        subst (λ (v : Vid). IsLiveSnapshot (state_of (log_effects log) v.0)) same taken.state
+
+pub snapshot_given : (log : List Entry) (me : NodeId) (session : ℕ) (name tag : List ℕ) (vid : Vid)
+    → decision_after log (Lock me session name (Some tag)) ≡ decisions.Granted vid → IsGivenNoMore log vid.0
+snapshot_given log me session name tag vid is =
+    let at : rank (state_of (log_effects log) vid.0) ≡ 3 = ap rank (snapshot_found log me session name tag vid is).1 in
+    omega (arith, at)
 
 -- ---- an id is reserved
 
 module _ (log : List Entry) (by : NodeId) (session : ℕ) where
   -- what it is to become
-  abbrev IsSourceOf : List ℕ → Origin → Source → Type 0
+  abbrev pub IsSourceOf : List ℕ → Origin → Source → Type 0
   IsSourceOf name (Fresh spec) source = Unit {0}
   IsSourceOf name (SnapshotOf tag) source =
       (old : Vid) × ((name_of (log_effects log) name).working ≡ Some old) × (source ≡ sources.Snapshot old tag)
-  IsSourceOf name (CloneOf base tag) source = Unit {0}
+  IsSourceOf name (CloneOf base tag) source = source ≡ sources.Clone
 
-  record IsGrant (vid : Vid) (name : List ℕ) (origin : Origin) (effect : Effect) : Type 0 where
+  pub record IsGrant (vid : Vid) (name : List ℕ) (origin : Origin) (effect : Effect) : Type 0 where
     pub grant : Grant
     pub reserved : effect ≡ effects.Reserved grant
     pub of : grant.reservation.vid ≡ vid
@@ -198,9 +203,9 @@ module _ (log : List Entry) (by : NodeId) (session : ℕ) where
       cond_either (Grants name (CloneOf base tag)) (is_taken (log_effects log) name) (refusal_outcome causes.VdiExist)
       (with_spec (header_of (log_effects log) from.0) (reservation_outcome (log_effects log) by session name sources.Clone (Some from)))
       (refused_grants name (CloneOf base tag) causes.VdiExist)
-      (spec_grants name (CloneOf base tag) sources.Clone tt (Some from) (header_of (log_effects log) from.0))
+      (spec_grants name (CloneOf base tag) sources.Clone refl (Some from) (header_of (log_effects log) from.0))
 
-  reserve_grants : (name : List ℕ) (origin : Origin) → Grants name origin (reserve_outcome (log_effects log) by session name origin)
+  pub reserve_grants : (name : List ℕ) (origin : Origin) → Grants name origin (reserve_outcome (log_effects log) by session name origin)
   reserve_grants name (Fresh spec) =
       cond_either (Grants name (Fresh spec)) (is_taken (log_effects log) name) (refusal_outcome causes.VdiExist)
       (reservation_outcome (log_effects log) by session name sources.Fresh None spec) (refused_grants name (Fresh spec) causes.VdiExist)

@@ -98,7 +98,7 @@ module _ (script : List Statement) (range : RunsAreInRange script) (start : Mome
   -- ---- who asked for the entry
 
   -- a command of the session to which it gives something waits for it
-  record PutsFor (holder : Holder) : Type 0 where
+  pub record PutsFor (holder : Holder) : Type 0 where
     pub req : ℕ
     pub request : Request
     pub asked : tree.get host.node.requests req ≡ Some request
@@ -173,7 +173,8 @@ module _ (script : List Statement) (range : RunsAreInRange script) (start : Mome
           sole = ap is_disk_course p.command;
         }
 
-  puts_for : (holder : Holder) → given_to (outcome (log_effects start.world.log) entry).effect ≡ Some holder → (put : Entry) → entry ≡ put
+  pub puts_for : (holder : Holder) → given_to (outcome (log_effects start.world.log) entry).effect ≡ Some holder → (put : Entry)
+      → entry ≡ put
       → GivesTo holder put → PutsFor holder
   puts_for holder to (Format members) same gives = absurd gives
   puts_for holder to (Join node zone vnodes) same gives = absurd gives

@@ -1,14 +1,17 @@
 -- A reply that a node hears to a message of a recovery was in the wire under the message's name; so it is from the node that was asked,
--- which came to the recovery's epoch.
-use Rattle.std.proofs.Common.{◌≡◌, ℕ, false, true, List, Contains, Some, Ok, sym, ap, subst, ◌∙◌}
+-- which came to the recovery's epoch. What is asked for the object of a search is asked of the search's level.
+use Rattle.std.proofs.Common.{◌≡◌, ℕ, false, true, List, Contains, Option, Some, Ok, refl, sym, ap, subst, ◌∙◌}
+use Rattle.std.specs.Option.{IfSome}
 use Rattle.std.specs.FinMap as tree
-use Rattle.std.proofs.lemmas.List.Elements.{Contains-append_left}
+use Rattle.std.proofs.lemmas.List.Elements.{All-contains, Contains-append_left}
+use Rattle.object_id.specs.declared.node.Epoch.{Epoch}
 use Rattle.object_id.specs.declared.node.NodeId.{NodeId}
 use Rattle.cluster_script.specs.declared.statement.Statement.{Statement}
+use Rattle.peer_proto.specs.declared.ask.PeerAsk.TheVariants as asks
 use Rattle.peer_proto.specs.declared.say.PeerRsp.{PeerRsp}
 use Rattle.peer_proto.specs.Say.{say_in}
 use Rattle.peer_service.specs.Serve.{tells_refusal}
-use Rattle.recovery.specs.State.{Message, all_unanswered}
+use Rattle.recovery.specs.State.{Message, Search, all_unanswered}
 use Rattle.message_wire.specs.declared.packet.Packet.TheVariants.{Reply}
 use Rattle.message_wire.specs.Message.{message_name}
 use Rattle.sheep_node.specs.declared.input.Input.{Input}
@@ -17,14 +20,18 @@ use Rattle.sheep_world.specs.World.{Host, World, is_host_up}
 use Rattle.sheep_world.specs.NodeCauses.{NodeCause, GuestAsks, RequestComes, ReplyComes, LossIsTold, EntryIsRead, EntryIsPut, RecoveryTicks}
 use Rattle.sheep_world.specs.NodeCauses.{WorkIsRetried, input_of_cause, IsCause}
 use Rattle.sheep_world.specs.Began.{Began}
+use Rattle.sheep_world.proofs.BegunWorlds.{each_began}
 use Rattle.sheep_world.proofs.RecoveryMessages.{same_said}
 use Rattle.overlap_law.specs.Each.{has_reached}
+use Rattle.overlap_law.specs.Flight.{IsAtLevel}
 use Rattle.overlap_law.specs.Packets.{IsAnswering}
 use Rattle.overlap_law.specs.MomentChanges.{RunsAreInRange}
 use Rattle.overlap_law.proofs.AllAnswersInMoments.{AllMessagesAreTold}
 use Rattle.overlap_law.proofs.AnswersInMoments.{not_lost}
 use Rattle.overlap_law.proofs.KnownSteps.{together}
+use Rattle.overlap_law.proofs.RecoveryMessages.{AsksSo}
 use Rattle.overlap_law.proofs.SoundNodes.{sound_in_worlds}
+use Rattle.overlap_law.proofs.WireInRuns.{recoveries_ask_so}
 
 abbrev rsp_or : PeerRsp → Input → PeerRsp
 rsp_or none (inputs.Reply rsp) = rsp
@@ -62,6 +69,19 @@ module _ (script : List Statement) (range : RunsAreInRange script) (world : Worl
   heard_reply (EntryIsPut entry) so rsp is message own = absurd (cc (is))
   heard_reply RecoveryTicks so rsp is message own = absurd (cc (is))
   heard_reply WorkIsRetried so rsp is message own = absurd (cc (is))
+
+  -- a message for the object of the search is for the search's level
+  pub at_level : (one : Search) → host.node.recovery.search ≡ Some one → (message : Message)
+      → Contains host.node.recovery.unanswered message → (level : Epoch) → message.request.ask ≡ asks.RecoverRead one.oid level
+      → level.0 ≡ one.level
+  at_level one searched message among level asked =
+      subst (IsAtLevel one) asked
+      (subst (λ (o : Option Search). IfSome o (λ (search : Search). IsAtLevel search message.request.ask)) searched
+      (All-contains (λ (m : Message). (m.request.epoch.0 ≡ host.node.recovery.epoch)
+      × IfSome host.node.recovery.search (λ (search : Search). IsAtLevel search m.request.ask)) host.node.recovery.unanswered message
+      (each_began script (λ (w : World) (k : ℕ) (h : Host). AsksSo h.node.recovery) (recoveries_ask_so script) world began n host there)
+      among).1)
+      refl
 
   module _ (up : is_host_up host ≡ true) (told : AllMessagesAreTold world.hosts world.wire) (message : Message)
       (among : Contains host.node.recovery.unanswered message) (rsp : PeerRsp) (heard : IsHeardReply world n message rsp) where

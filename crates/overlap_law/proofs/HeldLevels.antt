@@ -1,5 +1,6 @@
--- That the invariant gives at which level the nodes hold what was made, and that a recovery whose list is finished can find it there.
-use Rattle.std.proofs.Common.{◌≡◌, ◌⊎◌, inl, inr, ⊎_elim, arith, ℕ, ◌≤◌, ◌<◌, ◌==◌, ◌&&◌, ◌||◌, nat_le, max, not, Bool, true, false, List, [], ◌∷◌, length, Option, Some, None, refl, sym, ap, subst, ◌∙◌, slice_get}
+-- At which level the nodes hold what was made, where recovered rows are kept and attempts are carried; and that a recovery whose list is
+-- finished can find it there.
+use Rattle.std.proofs.Common.{◌≡◌, ◌⊎◌, inl, inr, ⊎_elim, arith, ℕ, ◌≤◌, ◌<◌, ◌==◌, ◌&&◌, ◌||◌, nat_le, max, not, Bool, true, false, List, [], ◌∷◌, ◌++◌, length, Option, Some, None, refl, sym, ap, subst, ◌∙◌, slice_get}
 use Rattle.std.specs.List.{list_any}
 use Rattle.std.specs.Option.{option_map_or}
 use Rattle.std.specs.FinMap as tree
@@ -10,28 +11,37 @@ use Rattle.object_id.specs.declared.entry.Entry.{Entry}
 use Rattle.object_id.specs.declared.entry.Member.{Member}
 use Rattle.object_id.specs.declared.policy.Policy.{Policy}
 use Rattle.epoch_log.specs.Members.{is_member_node, is_member}
-use Rattle.epoch_log.specs.Epochs.{members_in, settled_of}
+use Rattle.epoch_log.specs.Epochs.{members_in, settled_of, has_recovered}
 use Rattle.epoch_log.proofs.EpochLemmas.{settled_of-begun}
 use Rattle.object_list.specs.Gathered.{has_node}
 use Rattle.vdi_directory.specs.Decisions.{log_effects}
 use Rattle.peer_proto.specs.Work.{policy_of}
 use Rattle.recovery.specs.State.{is_listed}
+use Rattle.cluster_script.specs.declared.statement.Statement.{Statement}
+use Rattle.sheep_node.specs.declared.event.Event.{Event}
 use Rattle.sheep_world.specs.World.{Host}
 use Rattle.overlap_law.specs.Attempts.{AttemptRecord, object_of}
 use Rattle.overlap_law.specs.Words.{Hosts, is_made, is_doomed}
 use Rattle.overlap_law.specs.Reached.{is_beyond, has_finished, is_dying}
-use Rattle.overlap_law.specs.Holders.{targets_by}
-use Rattle.overlap_law.specs.Past.{MomentWithPast}
+use Rattle.overlap_law.specs.Holders.{targets_by, is_dead_by_log}
+use Rattle.overlap_law.specs.Past.{MomentWithPast, run_with_past}
 use Rattle.overlap_law.specs.Each.{EachHost, EachAttempt, has_reached, has_row_at, holds_level, policy_in}
 use Rattle.overlap_law.specs.Fates.{AttemptsAreShaped, IdsAreKnown}
-use Rattle.overlap_law.specs.NodeEpochs.{RecoveriesArePresent, AnswerersHaveCome, SettledIsRead}
-use Rattle.overlap_law.specs.Rows.{ServedRowsStay, RecoveredRowsAreKept, AttemptsAreCarried, IsCarriedFrom}
+use Rattle.overlap_law.specs.NodeEpochs.{RecoveriesArePresent, AnswerersHaveCome}
+use Rattle.overlap_law.specs.Rows.{IsMadeBy, ServedRowsStay, RecoveredRowsAreKept, AttemptsAreCarried, IsCarriedFrom}
 use Rattle.overlap_law.specs.HeldLevels.{level_of, IsHeldAt, TheMadeIsHeld, TheMadeCanBeFound}
-use Rattle.overlap_law.specs.Overlap.{OverlapAt}
+use Rattle.overlap_law.specs.MomentChanges.{MomentTrail, RunsAreInRange}
 use Rattle.overlap_law.proofs.BaseLemmas.{made-served}
+use Rattle.overlap_law.proofs.EpochsInRuns.{settled_less}
 use Rattle.overlap_law.proofs.FateLemmas.{made-not_doomed}
+use Rattle.overlap_law.proofs.FinishedInMoments.{TermsHold, kept_terms}
 use Rattle.overlap_law.proofs.HolderLemmas.{target-member, greater}
-use Rattle.overlap_law.proofs.OverlapLemmas.{settled-recovered}
+use Rattle.overlap_law.proofs.OverlapLemmas.{settled-recovered, settled-stands}
+use Rattle.overlap_law.proofs.ReadInMoments.{are_present}
+use Rattle.overlap_law.proofs.RecoveredInMoments.{finished_by_log}
+use Rattle.overlap_law.proofs.RunsByChanges.{on_the_way}
+use Rattle.overlap_law.proofs.ServedPlaces.{served_at}
+use Rattle.overlap_law.proofs.StayingRows.{RowsHold, kept_rows}
 
 -- ---- the settled epoch isn't dying
 
@@ -56,14 +66,21 @@ settled-not_dying log hosts later =
 -- ---- what was made
 
 -- what it rests on
+-- targets that have recovered in the settled epoch, by the log, have a row that covers it, of each object made by then
+pub record SettledRowsAreKept (log : List Entry) (good : ℕ → Bool) (hosts : Hosts) (attempts : List AttemptRecord) : Type 0 where
+  pub each : EachHost hosts (λ n host. (oid : ℕ) (policy : Policy) → good oid ≡ true → policy_in (log_effects log) oid ≡ Some policy
+      → has_recovered log (settled_of log) n ≡ true → host.node.peer.settled ≤ settled_of log
+      → has_node (record { 0 = n }) (targets_by log (settled_of log) oid policy) ≡ true → IsMadeBy attempts oid (settled_of log)
+      → has_row_at host.node.peer.epoch host.node.peer.rows oid (settled_of log) ≡ true)
+
 pub record HoldTheMade (log : List Entry) (live good : ℕ → Bool) (hosts : Hosts) (attempts : List AttemptRecord) : Type 0 where
   pub lives : (oid : ℕ) → good oid ≡ true → live oid ≡ true
   pub whole : EachAttempt attempts (λ j attempt. length attempt.fates ≡ length attempt.targets)
   pub shape : AttemptsAreShaped (targets_by log) log attempts
   pub known : IdsAreKnown log attempts
-  pub settled : SettledIsRead log hosts
+  pub settled : EachHost hosts (λ n host. host.node.peer.settled ≤ settled_of log)
   pub stays : ServedRowsStay live hosts attempts
-  pub kept : RecoveredRowsAreKept (targets_by log) log (log_effects log) good hosts attempts
+  pub kept : SettledRowsAreKept log good hosts attempts
   pub carried : AttemptsAreCarried (targets_by log) log (log_effects log) good hosts attempts
 
 module _ (log : List Entry) (live good : ℕ → Bool) (hosts : Hosts) (attempts : List AttemptRecord) (holds : HoldTheMade log live good hosts attempts) where
@@ -93,7 +110,7 @@ module _ (log : List Entry) (live good : ℕ → Bool) (hosts : Hosts) (attempts
     own_rows later n host at placed =
         let own : has_node (record { 0 = n }) attempt.targets ≡ true
         = subst (λ (nodes : List NodeId). has_node (record { 0 = n }) nodes ≡ true) (sym (holds.shape.targets j attempt there)) placed in
-        let read = holds.settled.most n host at in
+        let read = holds.settled n host at in
         ⊎_elim
         (λ (covers : has_row_at host.node.peer.epoch host.node.peer.rows oid attempt.epoch ≡ true). covers)
         (λ (below : attempt.epoch < host.node.peer.settled). absurd (omega (arith, below, read, later)))
@@ -106,10 +123,10 @@ module _ (log : List Entry) (live good : ℕ → Bool) (hosts : Hosts) (attempts
         → has_row_at host.node.peer.epoch host.node.peer.rows oid (settled_of log) ≡ true)
     settled_rows later n host at placed =
         let least = first in
-        holds.kept.each n host at oid (settled_of log) policy is_good policy_so
-        ((settled-recovered log hosts).each (record { 0 = n }) (omega (arith, later, least))
+        holds.kept.each n host at oid policy is_good policy_so
+        (settled-stands log n (omega (arith, later, least))
         (target-member log (settled_of log) oid policy (record { 0 = n }) placed))
-        (holds.settled.most n host at) placed
+        (holds.settled n host at) placed
         (record { place = j; attempt = attempt; there = there; object = refl; made = made; before = omega (arith, later) })
 
     settled_carried : attempt.epoch < settled_of log → IsCarriedFrom (targets_by log) log (settled_of log) oid policy
@@ -121,12 +138,12 @@ module _ (log : List Entry) (live good : ℕ → Bool) (hosts : Hosts) (attempts
     at_level : (level : ℕ) → ((level ≡ attempt.epoch) × (settled_of log ≤ attempt.epoch)) ⊎ ((level ≡ settled_of log) × (attempt.epoch < settled_of log))
         → IsHeldAt (targets_by log) log hosts oid level policy
     at_level level (inl own) = subst (λ (l : ℕ). IsHeldAt (targets_by log) log hosts oid l policy) (sym own.0) (record {
-      read = λ n host at. (let read = holds.settled.most n host at in let above = own.1 in omega (arith, read, above));
+      read = λ n host at. (let read = holds.settled n host at in let above = own.1 in omega (arith, read, above));
       rows = own_rows own.1;
       carried = holds.carried.own j attempt there policy is_good policy_so stands own.1;
     })
     at_level level (inr settled) = subst (λ (l : ℕ). IsHeldAt (targets_by log) log hosts oid l policy) (sym settled.0) (record {
-      read = holds.settled.most;
+      read = holds.settled;
       rows = settled_rows settled.1;
       carried = settled_carried settled.1;
     })
@@ -191,28 +208,79 @@ module _ (log : List Entry) (live good : ℕ → Bool) (hosts : Hosts) (attempts
         };
   }
 
--- ---- by the whole invariant
+-- ---- at a moment of a run
 
-module _ (live good good_id : ℕ → Bool) (moment : MomentWithPast) (overlap : OverlapAt live good good_id moment)
-    (lives : (oid : ℕ) → good oid ≡ true → live oid ≡ true) where
-  pub overlap_holds : HoldTheMade moment.world.log live good moment.world.hosts moment.past.attempts
-  overlap_holds = record {
-    lives = lives;
-    whole = overlap.attempts.fates.whole;
-    shape = overlap.attempts.shape;
-    known = overlap.attempts.known;
-    settled = overlap.terms.settled_read;
-    stays = overlap.rows.stays;
-    kept = overlap.rows.kept;
-    carried = overlap.rows.carried;
+-- what every run has of a moment, and what is carried along the way of an event
+pub record HasMade (good : ℕ → Bool) (moment : MomentWithPast) : Type 0 where
+  pub rows : RowsHold moment
+  pub terms : TermsHold moment
+  pub alive : (oid : ℕ) → good oid ≡ true → is_dead_by_log moment.world.log oid ≡ false
+  pub kept : SettledRowsAreKept moment.world.log good moment.world.hosts moment.past.attempts
+  pub carried : AttemptsAreCarried (targets_by moment.world.log) moment.world.log (log_effects moment.world.log) good moment.world.hosts
+      moment.past.attempts
+
+-- whether an object's id isn't dead
+abbrev pub lives_by : List Entry → ℕ → Bool
+lives_by log oid = not (is_dead_by_log log oid)
+
+unless_dead : (b : Bool) → not b ≡ true → b ≡ false
+unless_dead true is = absurd (cc (is))
+unless_dead false is = refl
+
+-- recovered rows are kept, so those of the settled epoch are
+pub settled_kept : (log : List Entry) (good : ℕ → Bool) (hosts : Hosts) (attempts : List AttemptRecord)
+    → RecoveredRowsAreKept (targets_by log) log (log_effects log) good hosts attempts → SettledRowsAreKept log good hosts attempts
+settled_kept log good hosts attempts kept = record {
+  each = λ n host at oid policy is_good policy_so recovered settled placed made.
+      kept.each n host at oid (settled_of log) policy is_good policy_so (finished_by_log hosts log n (settled_of log) recovered) settled placed made;
+}
+
+pub has_made : (script : List Statement) → RunsAreInRange script → (events : List Event) (start moment : MomentWithPast)
+    → run_with_past script events ≡ Some start → MomentTrail script start moment → (good : ℕ → Bool)
+    → ((oid : ℕ) → good oid ≡ true → is_dead_by_log moment.world.log oid ≡ false)
+    → RecoveredRowsAreKept (targets_by moment.world.log) moment.world.log (log_effects moment.world.log) good moment.world.hosts
+    moment.past.attempts
+    → AttemptsAreCarried (targets_by moment.world.log) moment.world.log (log_effects moment.world.log) good moment.world.hosts
+    moment.past.attempts
+    → HasMade good moment
+has_made script range events start moment is trail good alive kept carried = record {
+  rows = on_the_way script RowsHold (kept_rows script range) events start moment is trail;
+  terms = on_the_way script TermsHold (kept_terms script range) events start moment is trail;
+  alive = alive;
+  kept = settled_kept moment.world.log good moment.world.hosts moment.past.attempts kept;
+  carried = carried;
+}
+
+module _ (good : ℕ → Bool) (moment : MomentWithPast) (has : HasMade good moment) where
+  pub holds_made : HoldTheMade moment.world.log (lives_by moment.world.log) good moment.world.hosts moment.past.attempts
+  holds_made = record {
+    lives = λ oid is. ap not (has.alive oid is);
+    whole = has.rows.tied.fates.whole;
+    shape = has.rows.shaped.shape;
+    known = has.rows.shaped.known;
+    settled = λ n host at.
+        let read = (has.terms.sound.each n host at).read in
+        let own : host.node.peer.settled ≡ settled_of host.node.peer.entries = read.settled_so in
+        let less : settled_of host.node.peer.entries ≤ settled_of (host.node.peer.entries ++ read.front.rest)
+        = settled_less host.node.peer.entries read.front.rest in
+        let all : settled_of moment.world.log ≡ settled_of (host.node.peer.entries ++ read.front.rest) = ap settled_of read.front.is in
+        omega (arith, own, less, all);
+    stays = record {
+      each = λ j attempt there n host got live served_so.
+          let (place, target, among, served, own) = served_at (record { 0 = n }) attempt.targets attempt.fates served_so in
+          has.rows.served j attempt there place target among served host (ap (tree.get moment.world.hosts) own ∙ got)
+          (unless_dead (is_dead_by_log moment.world.log (object_of attempt)) live);
+    };
+    kept = has.kept;
+    carried = has.carried;
   }
 
   pub gives-held : TheMadeIsHeld (targets_by moment.world.log) moment.world.log (log_effects moment.world.log) good moment.world.hosts
       moment.past.attempts
-  gives-held = made_held moment.world.log live good moment.world.hosts moment.past.attempts overlap_holds
+  gives-held = made_held moment.world.log (lives_by moment.world.log) good moment.world.hosts moment.past.attempts holds_made
 
   pub gives-found : TheMadeCanBeFound (targets_by moment.world.log) moment.world.log (log_effects moment.world.log) good moment.world.hosts
       moment.past.attempts
   gives-found =
-      can_be_found moment.world.log live good moment.world.hosts moment.past.attempts overlap_holds overlap.terms.present
-      overlap.terms.answered
+      can_be_found moment.world.log (lives_by moment.world.log) good moment.world.hosts moment.past.attempts holds_made
+      (are_present moment has.terms.sound) has.terms.answers.answered

@@ -1,10 +1,10 @@
--- A write that may have items, began on a disk and has no reply has none where its reply refuses it: what the replies of an event leave of
--- a request that may have items.
-use Rattle.std.proofs.Common.{◌≡◌, ⊎_elim, ℕ, ◌+◌, ◌==◌, Bool, true, false, cond, List, [], ◌∷◌, ◌++◌, map, filter, fold, length, Contains, Option, Some, None, is_some, refl, sym, ap, subst, ◌∙◌}
+-- A write, or a check that has come to one, that may have items, began on a disk and has no reply has none where its reply refuses it: what
+-- the replies of an event leave of a request that may have items.
+use Rattle.std.proofs.Common.{◌≡◌, ⊎_elim, ℕ, ◌+◌, ◌==◌, Bool, true, false, ◌||◌, ◌&&◌, cond, List, [], ◌∷◌, ◌++◌, map, filter, fold, length, Contains, Option, Some, None, is_some, refl, sym, ap, subst, ◌∙◌}
 use Rattle.std.specs.Prelude.{◌/◌, flat_map, find}
 use Rattle.std.specs.List.{range_with_len}
 use Rattle.std.specs.Option.{option_map_or, option_and_then}
-use Rattle.std.proofs.lemmas.Bool.{and_parts, eqb-true, eq-eqb, or_cases}
+use Rattle.std.proofs.lemmas.Bool.{and_parts, eqb-true, eq-eqb, or_cases, or_right}
 use Rattle.std.proofs.lemmas.List.Folds.{list_any-append}
 use Rattle.proof_tools.proofs.Lists.{Contains-nil, Contains-cons, Contains-cons_cases, Contains-head, Contains-flat_map}
 use Rattle.disk_history.specs.declared.event.HistEvent.{HistEvent}
@@ -13,6 +13,7 @@ use Rattle.object_id.specs.declared.limits.TheConstants.{BLOCK_BYTES}
 use Rattle.cluster_script.specs.declared.statement.Statement.{Statement}
 use Rattle.cluster_script.specs.declared.statement.Statement.TheVariants as lines
 use Rattle.cluster_script.specs.NumberedRequests.{request_at}
+use Rattle.cluster_script.specs.Statements.{is_check}
 use Rattle.peer_proto.specs.declared.guest.GuestRsp.{GuestRsp}
 use Rattle.peer_proto.specs.declared.guest.GuestRsp.TheVariants as answers
 use Rattle.sheep_node.specs.declared.check_write.CheckWrite.{CheckWrite}
@@ -80,16 +81,43 @@ module _ (script : List Statement) where
   abbrev pub is_write_at : ℕ → Bool
   is_write_at req = option_map_or is_write (request_at script req) false
 
-  -- a reply that refuses a write which began on a disk adds its refusal
+  -- or a check
+  abbrev pub is_check_at : ℕ → Bool
+  is_check_at req = option_map_or is_check (request_at script req) false
+
+  -- whether a statement's request writes, where this says of a check that it has come to a write
+  abbrev pub does_write : Bool → Statement → Bool
+  does_write written s = is_write s || (is_check s && written)
+
+  abbrev pub does_write_at : Bool → ℕ → Bool
+  does_write_at written req = option_map_or (does_write written) (request_at script req) false
+
+  pub write_does : (written : Bool) (req : ℕ) → is_write_at req ≡ true → does_write_at written req ≡ true
+  write_does written req is = by_statement (request_at script req) is
+    where
+      by_statement : (s : Option Statement) → option_map_or is_write s false ≡ true → option_map_or (does_write written) s false ≡ true
+      by_statement None is = is
+      by_statement (Some s) is = λ i. is i || (is_check s && written)
+
+  pub check_does : (written : Bool) (req : ℕ) → is_check_at req ≡ true → written ≡ true → does_write_at written req ≡ true
+  check_does written req is has = by_statement (request_at script req) is
+    where
+      by_statement : (s : Option Statement) → option_map_or is_check s false ≡ true → option_map_or (does_write written) s false ≡ true
+      by_statement None is = is
+      by_statement (Some s) is = or_right (is_write s) (is_check s && written) (λ i. is i && has i)
+
+  -- a reply that refuses a request that writes and began on a disk adds its refusal
   refusal_ends : (req : ℕ) (rsp : GuestRsp) → is_refusal rsp ≡ true → write_ended req rsp ≡ WriteRefused req
   refusal_ends req (answers.Refused cause) is = refl
   refusal_ends req rsp is = absurd (cc (is))
 
   write_adds : (written : Bool) (req : ℕ) (rsp : GuestRsp) (disk : Option ℕ) (s : Option Statement) → is_some disk ≡ true
-      → option_map_or is_write s false ≡ true → added_by written req rsp disk s ≡ write_ended req rsp ∷ []
+      → option_map_or (does_write written) s false ≡ true → added_by written req rsp disk s ≡ write_ended req rsp ∷ []
   write_adds written req rsp None s on writes = absurd (cc (on))
   write_adds written req rsp (Some disk) None on writes = absurd (cc (writes))
   write_adds written req rsp (Some disk) (Some (lines.Write session offset length pattern)) on writes = refl
+  write_adds true req rsp (Some disk) (Some (lines.Check session)) on writes = refl
+  write_adds false req rsp (Some disk) (Some (lines.Check session)) on writes = absurd (cc (writes))
   write_adds written req rsp (Some disk) (Some s) on writes = absurd (cc (writes))
 
   -- what is looked up among requests without reply
@@ -116,14 +144,15 @@ module _ (script : List Statement) where
 
   -- ---- what is known of a request that may have items
 
-  -- it wasn't refused; it was begun, and is a write; and where it has no reply it began on a disk
+  -- it wasn't refused, and was begun; where it has no reply it began on a disk, and on one alone
   pub record IsKnown (req : ℕ) (guests : Guests) (refused : List ℕ) (may : Bool) : Type 0 where
     pub unrefused : is_object_among req refused ≡ true → may ≡ false
     pub begun : may ≡ true → (session : ℕ) × WasBegun script guests session req
     pub on_disk : may ≡ true → (session : ℕ) (started : StartedRequest) → Contains (unanswered_in session guests) started
         → started.req ≡ req
         → is_some started.disk ≡ true
-    pub writes : may ≡ true → is_write_at req ≡ true
+    pub single : (session : ℕ) (one other : StartedRequest) → Contains (unanswered_in session guests) one
+        → Contains (unanswered_in session guests) other → one.req ≡ req → other.req ≡ req → one.disk ≡ other.disk
 
   -- ---- what an event's replies leave
 
@@ -185,7 +214,9 @@ module _ (script : List Statement) where
           );
       on_disk = λ now session started there own.
           known.on_disk (might_before req ends may none now) session started (left_by script replies guests session started there).0 own;
-      writes = λ now. known.writes (might_before req ends may none now);
+      single = λ session one other there again.
+          known.single session one other (left_by script replies guests session one there).0
+          (left_by script replies guests session other again).0;
     }
 
   -- a request has no reply, in the session that asks it
@@ -201,26 +232,28 @@ module _ (script : List Statement) where
     unrefused = λ is. none_behind req events may none (known.unrefused is);
     begun = λ now. known.begun (might_before req events may none now);
     on_disk = λ now. known.on_disk (might_before req events may none now);
-    writes = λ now. known.writes (might_before req events may none now);
+    single = known.single;
   }
 
   -- what the replies of a step add ends what they refuse
   module _ (req : ℕ) (found : World) (refused : List ℕ) (may : Bool) (known : IsKnown req found.guests refused may)
       (replies : List (ℕ × GuestRsp)) (waits : (reply : ℕ × GuestRsp) → Contains replies reply → IsOpenRequest found.guests reply.0)
-      (write : Option CheckWrite) where
+      (write : Option CheckWrite)
+      (writes : (reply : ℕ × GuestRsp) → Contains replies reply → reply.0 ≡ req → may ≡ true
+      → does_write_at (has_begun_check_write script reply.0 found write) reply.0 ≡ true) where
     reply_ends : (reply : ℕ × GuestRsp) → IsOpenRequest found.guests reply.0 → reply.0 ≡ req → is_refusal reply.1 ≡ true → may ≡ true
+        → does_write_at (has_begun_check_write script reply.0 found write) reply.0 ≡ true
         → Contains (reply_grown script found write reply) (WriteRefused req)
-    reply_ends reply asked same refuses was =
+    reply_ends reply asked same refuses was does =
         let on : is_some (disk_of script reply.0 found) ≡ true
         = ap (λ (o : Option ℕ). is_some (option_and_then (λ (one : StartedRequest). one.disk)
         (option_and_then (λ session. find (is_started_request reply.0) (progress_at session found).unanswered) o))) asked.asking
         ∙ started_on_disk reply.0
         (unanswered_in asked.session found.guests) asked.unanswered.started asked.unanswered.there asked.unanswered.number
         (λ one among own. known.on_disk was asked.session one among (own ∙ same)) in
-        let writes : is_write_at reply.0 ≡ true = ap is_write_at same ∙ known.writes was in
         let is : reply_grown script found write reply ≡ WriteRefused req ∷ []
         = write_adds (has_begun_check_write script reply.0 found write) reply.0 reply.1 (disk_of script reply.0 found)
-        (request_at script reply.0) on writes
+        (request_at script reply.0) on does
         ∙ ap (λ (event : HistEvent). event ∷ []) (refusal_ends reply.0 reply.1 refuses ∙ ap (λ (k : ℕ). WriteRefused k) same) in
         subst (λ (events : List HistEvent). Contains events (WriteRefused req)) (sym is) (Contains-head (WriteRefused req) [])
 
@@ -231,4 +264,4 @@ module _ (script : List Statement) where
         (replies_none req found write replies)
         (λ reply among same refuses was.
         Contains-flat_map (reply_grown script found write) replies reply (WriteRefused req) among
-        (reply_ends reply (waits reply among) same refuses was))
+        (reply_ends reply (waits reply among) same refuses was (writes reply among same was)))

@@ -120,7 +120,7 @@ unmade_within hosts epoch (target ∷ targets) (Served ∷ fates) long stands un
 unmade_within hosts epoch (target ∷ targets) (Doomed ∷ fates) long stands unmade = absurd (cc (stands))
 
 -- messages that fly make nothing
-none_fly : (messages : List Message) → list_all is_served (map (λ (message : Message). Flying) messages) ≡ true
+pub none_fly : (messages : List Message) → list_all is_served (map (λ (message : Message). Flying) messages) ≡ true
     → map (λ (message : Message). message.node) messages ≡ []
 none_fly [] made = refl
 none_fly (message ∷ messages) made = absurd (cc (made))
@@ -130,7 +130,6 @@ none_fly (message ∷ messages) made = absurd (cc (made))
 module _ (script : List Statement) (range : RunsAreInRange script) (start before after : MomentWithPast) (began : Began script start.world)
     (change : MomentChange script start before after) (rows : RowsHold before) (terms : TermsHold before) (good : ℕ → Bool)
     (alive : (oid : ℕ) → good oid ≡ true → is_dead_by_log after.world.log oid ≡ false)
-    (has : WhatIsNotPendingIsThere (targets_by after.world.log) (log_effects after.world.log) good after.world.hosts after.past.attempts)
     (kept : RecoveredRowsAreKept (targets_by before.world.log) before.world.log (log_effects before.world.log) good before.world.hosts
     before.past.attempts) where
   rows_after : RowsHold after
@@ -143,8 +142,7 @@ module _ (script : List Statement) (range : RunsAreInRange script) (start before
   grows = log_grows script change
 
   module _ (n : ℕ) (host : Host) (at : tree.get after.world.hosts n ≡ Some host) (oid epoch : ℕ) (policy : Policy) (is_good : good oid ≡ true)
-      (policy_so : policy_in (log_effects after.world.log) oid ≡ Some policy)
-      (finished : has_finished after.world.hosts after.world.log epoch (node_of n) ≡ true) (settled : host.node.peer.settled ≤ epoch)
+      (policy_so : policy_in (log_effects after.world.log) oid ≡ Some policy) (settled : host.node.peer.settled ≤ epoch)
       (placed : has_node (node_of n) (targets_by after.world.log epoch oid policy) ≡ true) (made : IsMadeBy after.past.attempts oid epoch) where
     -- the node has a row that covers the epoch
     abbrev HasRow : Host → Type 0
@@ -289,7 +287,7 @@ module _ (script : List Statement) (range : RunsAreInRange script) (start before
             by_made true was_made = still was_made
             by_made false unmade = now_served (late unmade)
 
-      had_finished : HasRow host
+      pub had_finished : HasRow host
       had_finished = ⊎_elim
           (λ (w : WasAttempt before made.place made.attempt). was_there w)
           (λ (o : IsOpened script start after made.attempt). not_opened o)
@@ -297,7 +295,8 @@ module _ (script : List Statement) (range : RunsAreInRange script) (start before
 
     -- ---- who recovers now
 
-    module _ (ends : EndsNow after.world.hosts n epoch) where
+    module _ (has : WhatIsNotPendingIsThere (targets_by after.world.log) (log_effects after.world.log) good after.world.hosts after.past.attempts)
+        (finished : has_finished after.world.hosts after.world.log epoch (node_of n) ≡ true) (ends : EndsNow after.world.hosts n epoch) where
       abbrev own_host : Host
       own_host = ends.host
 
@@ -346,17 +345,18 @@ module _ (script : List Statement) (range : RunsAreInRange script) (start before
       ended : HasRow host
       ended = subst HasRow (same_Some own_host host (sym ends.there ∙ at)) ends_there
 
-    kept_there : HasRow host
-    kept_there = ⊎_elim
+    kept_there : WhatIsNotPendingIsThere (targets_by after.world.log) (log_effects after.world.log) good after.world.hosts after.past.attempts
+        → has_finished after.world.hosts after.world.log epoch (node_of n) ≡ true → HasRow host
+    kept_there has finished = ⊎_elim
         (λ (old : has_finished before.world.hosts before.world.log epoch (node_of n) ≡ true). had_finished old)
-        (λ (ends : EndsNow after.world.hosts n epoch). ended ends)
+        (λ (ends : EndsNow after.world.hosts n epoch). ended has finished ends)
         (finished_before script range start began change n epoch finished)
 
-  pub kept_after : RecoveredRowsAreKept (targets_by after.world.log) after.world.log (log_effects after.world.log) good after.world.hosts
-      after.past.attempts
-  kept_after = record {
+  pub kept_after : WhatIsNotPendingIsThere (targets_by after.world.log) (log_effects after.world.log) good after.world.hosts after.past.attempts
+      → RecoveredRowsAreKept (targets_by after.world.log) after.world.log (log_effects after.world.log) good after.world.hosts after.past.attempts
+  kept_after has = record {
     each = λ n host at oid epoch policy is_good policy_so finished settled placed made.
-        kept_there n host at oid epoch policy is_good policy_so finished settled placed made;
+        kept_there n host at oid epoch policy is_good policy_so settled placed made has finished;
   }
 
 module _ (script : List Statement) (range : RunsAreInRange script) (events : List Event) (start before after : MomentWithPast)
@@ -370,4 +370,4 @@ module _ (script : List Statement) (range : RunsAreInRange script) (events : Lis
   kept-on_the_way good alive has kept =
       kept_after script range start before after (began-with_past script events start is) change
       (on_the_way script RowsHold (kept_rows script range) events start before is trail)
-      (on_the_way script TermsHold (kept_terms script range) events start before is trail) good alive has kept
+      (on_the_way script TermsHold (kept_terms script range) events start before is trail) good alive kept has

@@ -5,7 +5,7 @@ use Rattle.sheep_node.specs.declared.event.Event.{Event}
 use Rattle.overlap_law.specs.Past.{MomentWithPast, run_with_past}
 use Rattle.overlap_law.specs.MomentChanges as moments
 use Rattle.overlap_law.specs.MomentChanges.{RunsAreInRange}
-use Rattle.overlap_law.specs.Groups.{FlightIsKept}
+use Rattle.overlap_law.specs.Groups.{FlightIsKept, WritersAreKept}
 use Rattle.overlap_law.specs.TiedAttempts.{IsTied}
 use Rattle.overlap_law.specs.ShapedAttempts.{AreShaped}
 use Rattle.overlap_law.specs.Holders.{is_live_object}
@@ -32,10 +32,10 @@ use Rattle.overlap_law.proofs.RefusedInRuns.{refused_in_run}
 use Rattle.overlap_law.proofs.LatestInRuns.{latest-in_run}
 use Rattle.overlap_law.proofs.OrderedInRuns.{ordered-in_run}
 use Rattle.overlap_law.proofs.MakersApart.{sessions_apart-in_run, makers_apart-in_run}
-use Rattle.overlap_law.proofs.OneInodeWork.{one_inode_work-in_run}
-use Rattle.overlap_law.proofs.ApartInRuns.{begun_apart-in_run}
 use Rattle.overlap_law.proofs.GrantsOfCommands.{grants-in_run}
 use Rattle.overlap_law.proofs.HeldDisks.{held-in_run}
+use Rattle.overlap_law.proofs.LastReads.{last_reads-in_run}
+use Rattle.overlap_law.proofs.WorksApart.{works_apart-in_run}
 use Rattle.overlap_law.proofs.GrantedAttempts.{only_writer-in_run}
 use Rattle.overlap_law.proofs.TurnsInRuns.{one_writer-in_run}
 use Rattle.overlap_law.proofs.EpochLemmas.{run-changes_nothing}
@@ -48,7 +48,11 @@ use Rattle.overlap_law.proofs.BegunInMoments.{begun-in_run}
 use Rattle.overlap_law.proofs.FirstSearchesInRuns.{listing-on_the_way, search_first-on_the_way}
 use Rattle.overlap_law.proofs.TellersInMoments.{tellers-on_the_way}
 use Rattle.overlap_law.proofs.WholeLists.{lists_whole-on_the_way}
+use Rattle.overlap_law.proofs.LevelsAskedInRuns.{levels_asked-on_the_way}
+use Rattle.overlap_law.proofs.PassedInRuns.{passed-on_the_way}
 use Rattle.overlap_law.proofs.NoRowsStand.{no_rows_true-on_the_way}
+use Rattle.overlap_law.proofs.ToldCopies.{copies-on_the_way, told_copies-on_the_way}
+use Rattle.overlap_law.proofs.TrueRows.{rows_true-on_the_way}
 
 pub flight-in_run : (script : List Statement) → RunsAreInRange script → (events : List Event) (moment : MomentWithPast)
     → run_with_past script events ≡ Some moment
@@ -64,6 +68,17 @@ flight-in_run script range events moment is =
       fate_told = tied.told;
       fenced = fenced-in_run script range events moment is;
     }
+
+pub writers-in_run : (script : List Statement) → RunsAreInRange script → (events : List Event) (moment : MomentWithPast)
+    → run_with_past script events ≡ Some moment
+    → WritersAreKept moment.world.log moment.world.hosts moment.world.wire moment.past.attempts
+writers-in_run script range events moment is = record {
+  may_write = only_writer-in_run script range events moment moment is moments.Still;
+  one_writer = one_writer-in_run script range events moment moment is moments.Still;
+  one_work = works_apart-in_run script range events moment is;
+  held = held-in_run script range events moment moment is moments.Still;
+  read_last = last_reads-in_run script range events moment moment is moments.Still;
+}
 
 pub kept_so_far : (script : List Statement) → RunsAreInRange script → (events : List Event) (moment : MomentWithPast)
     → run_with_past script events ≡ Some moment → IsKeptSoFar script moment
@@ -81,7 +96,7 @@ kept_so_far script range events moment is = record {
   losers = losers-in_run script range events moment is;
   untouched = untouched-in_run script range events moment is;
   nothing_made = nothing_made-in_run script range events moment is;
-  no_items = λ req disk block no_check refused. refused_none-in_run script range req no_check events moment is refused disk block;
+  no_items = λ req disk block refused. refused_none-in_run script range req events moment is refused disk block;
   messages = messages_in_run script range events moment is;
   begun = begun_in_run script range events moment is;
   scripts = attempts_of_script script range events moment is;
@@ -90,11 +105,7 @@ kept_so_far script range events moment is = record {
   refused = refused_in_run script events moment is;
   works_apart = sessions_apart-in_run script range events moment moment is moments.Still;
   makers_apart = makers_apart-in_run script range events moment moment is moments.Still;
-  inodes = one_inode_work-in_run script range events moment is;
-  apart = begun_apart-in_run script range events moment is;
-  may_write = only_writer-in_run script range events moment moment is moments.Still;
-  one_writer = one_writer-in_run script range events moment moment is moments.Still;
-  held = held-in_run script range events moment moment is moments.Still;
+  writers = writers-in_run script range events moment is;
   waited_for = waited-in_run script range events moment is;
   granted = grants-in_run script range events moment moment is moments.Still;
   ends = ends-in_run script range events moment is;
@@ -103,12 +114,17 @@ kept_so_far script range events moment is = record {
   row_shape = whole-in_run script range.is_script range.room events moment is;
   placed = placed-in_run script range events moment is;
   rows_begun = begun-in_run script range events moment is (is_live_object moment.world.log moment.past.attempts);
+  of_attempts = λ live. copies-on_the_way script range events moment moment is moments.Still live;
   stays = stays-on_the_way script range events moment moment is moments.Still;
   listing = listing-on_the_way script range events moment moment is moments.Still;
   search_first = search_first-on_the_way script range events moment moment is moments.Still;
   told_beyond = tellers-on_the_way script range events moment moment is moments.Still;
   list_told = λ live. lists_whole-on_the_way script range events moment moment is moments.Still live;
   pending = λ live. pending_lacked-on_the_way script range events moment moment is moments.Still live;
+  row_told = λ good. rows_true-on_the_way script range events moment moment is moments.Still good;
+  told_of_attempts = λ live. told_copies-on_the_way script range events moment moment is moments.Still live;
   norow_told = λ good. no_rows_true-on_the_way script range events moment moment is moments.Still good;
+  levels_asked = λ good. levels_asked-on_the_way script range events moment moment is moments.Still good;
+  passed = λ good. passed-on_the_way script range events moment moment is moments.Still good;
   peers = run-changes_nothing script events moment is;
 }

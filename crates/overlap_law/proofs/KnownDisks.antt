@@ -232,13 +232,13 @@ module _ (known : List Effect) where
     writes_known payload [] few = record { inode = is; few = few; outcome = tt }
     writes_known payload (piece ∷ rest) few = piece_known payload piece rest (backing_of inode piece) few
 
-    all_few : (offset size : ℕ) → 1 ≤ size → offset + size ≤ inode.spec.size → All FewAt (pieces inode.spec.shift offset size)
+    pub all_few : (offset size : ℕ) → 1 ≤ size → offset + size ≤ inode.spec.size → All FewAt (pieces inode.spec.shift offset size)
     all_few offset size some within =
         let most : objects_of inode.spec ≤ OBJECTS_MAX = objects_most inode.spec is.disk.spec_valid in
         All-weaker (IsPieceOf inode.spec) FewAt (λ piece of. let here = of.object in omega (arith, most, here)) (pieces inode.spec.shift offset size)
         (pieces-are inode.spec offset size some within)
 
-    with_entry : (piece : Piece) → IsKnownInode (table_with_entry inode piece)
+    pub with_entry : (piece : Piece) → IsKnownInode (table_with_entry inode piece)
     with_entry piece =
         let same : length (table_with_entry inode piece).table ≡ length inode.table = length-set inode.table piece.index inode.vid in
         let count = is.count in

@@ -189,35 +189,39 @@ chain_known log reservable vid header there =
 
 -- ---- tables
 
-module _ (known : List Effect) (spec : VdiSpec) where
-  among_known : (ids : List ℕ) (entry : ℕ) → AreOfSpec known spec ids → list_any (λ id. id == entry) ids ≡ true
-      → IsKnownDisk known entry spec
-  among_known [] entry all is = absurd (cc (is))
-  among_known (id ∷ ids) entry all is =
-      by_tie (id == entry) refl (among_known ids entry (All-tail (λ (id : ℕ). IsKnownDisk known id spec) id ids all)) is
+-- of the entries of a table those are kept that are among some ids
+module _ (P : ℕ → Type 0) where
+  pub among_so : (ids : List ℕ) (entry : ℕ) → All P ids → list_any (λ id. id == entry) ids ≡ true → P entry
+  among_so [] entry all is = absurd (cc (is))
+  among_so (id ∷ ids) entry all is = by_tie (id == entry) refl (among_so ids entry (All-tail P id ids all)) is
     where
-      by_tie : (b : Bool) → (id == entry) ≡ b → (list_any (λ id. id == entry) ids ≡ true → IsKnownDisk known entry spec)
-          → (b || list_any (λ id. id == entry) ids) ≡ true → IsKnownDisk known entry spec
-      by_tie true same rest is =
-          subst (λ (n : ℕ). IsKnownDisk known n spec) (eqb-true id entry same) (All-head (λ (id : ℕ). IsKnownDisk known id spec) id ids all)
+      by_tie : (b : Bool) → (id == entry) ≡ b → (list_any (λ id. id == entry) ids ≡ true → P entry)
+          → (b || list_any (λ id. id == entry) ids) ≡ true → P entry
+      by_tie true same rest is = subst P (eqb-true id entry same) (All-head P id ids all)
       by_tie false other rest is = rest is
 
-  kept_known : (ids : List ℕ) (entry : ℕ) → AreOfSpec known spec ids → IsKnownEntry known spec (kept_entry ids entry)
-  kept_known ids entry all = by_test (list_any (λ id. id == entry) ids) refl
+  abbrev pub IsNoneOr : ℕ → Type 0
+  IsNoneOr entry = (entry ≡ 0) ⊎ P entry
+
+  kept_so : (ids : List ℕ) (entry : ℕ) → All P ids → IsNoneOr (kept_entry ids entry)
+  kept_so ids entry all = by_test (list_any (λ id. id == entry) ids) refl
     where
-      by_test : (b : Bool) → list_any (λ id. id == entry) ids ≡ b → IsKnownEntry known spec (cond b entry 0)
-      by_test true is = inr (among_known ids entry all is)
+      by_test : (b : Bool) → list_any (λ id. id == entry) ids ≡ b → IsNoneOr (cond b entry 0)
+      by_test true is = inr (among_so ids entry all is)
       by_test false is = inl refl
 
-  entries_known : (ids entries : List ℕ) → AreOfSpec known spec ids → All (IsKnownEntry known spec) (map (kept_entry ids) entries)
-  entries_known ids [] all = All-nil (IsKnownEntry known spec)
-  entries_known ids (entry ∷ entries) all =
-      All-cons (IsKnownEntry known spec) (kept_entry ids entry) (map (kept_entry ids) entries) (kept_known ids entry all)
-      (entries_known ids entries all)
+  entries_so : (ids entries : List ℕ) → All P ids → All IsNoneOr (map (kept_entry ids) entries)
+  entries_so ids [] all = All-nil IsNoneOr
+  entries_so ids (entry ∷ entries) all =
+      All-cons IsNoneOr (kept_entry ids entry) (map (kept_entry ids) entries) (kept_so ids entry all) (entries_so ids entries all)
 
-  -- a table that is read has entries of these disks
-  pub table_known : (ids bytes : List ℕ) → AreOfSpec known spec ids → All (IsKnownEntry known spec) (table_in ids spec bytes)
-  table_known ids bytes all = entries_known ids _ all
+  -- so a table that is read has no others
+  pub table_so : (spec : VdiSpec) (ids bytes : List ℕ) → All P ids → All IsNoneOr (table_in ids spec bytes)
+  table_so spec ids bytes all = entries_so ids _ all
+
+pub table_known : (known : List Effect) (spec : VdiSpec) (ids bytes : List ℕ) → AreOfSpec known spec ids
+    → All (IsKnownEntry known spec) (table_in ids spec bytes)
+table_known known spec = table_so (λ (id : ℕ). IsKnownDisk known id spec) spec
 
 -- what an entry names, if it names a disk
 pub entry_known : (known : List Effect) (spec : VdiSpec) (table : List ℕ) (index : ℕ) → All (IsKnownEntry known spec) table
@@ -244,7 +248,7 @@ with_chain_known log reservable vid header there =
 
 -- ---- a snapshot
 
-held_is : (known : List Effect) (by : NodeId) (session : ℕ) (working : Option Vid) (old : Vid)
+pub held_is : (known : List Effect) (by : NodeId) (session : ℕ) (working : Option Vid) (old : Vid)
     → held_disk known by session working ≡ Some old → working ≡ Some old
 held_is known by session None old is = absurd (cc (is))
 held_is known by session (Some vid) old is = by_test (is_held_by by session (holder_of known vid.0)) is

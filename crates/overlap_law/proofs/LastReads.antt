@@ -1,5 +1,5 @@
--- An open read of a session comes behind every attempt on its object, if it is on an id that its session may write, or on a snapshot: over each
--- change of a moment, and so in every run in range.
+-- An open read of a session comes behind every attempt on its object, since it is on an id that its session may write, or on a snapshot:
+-- over each change of a moment, and so in every run in range.
 use Rattle.std.proofs.Common.{◌≡◌, ◌⊎◌, inl, inr, ⊎_elim, arith, ℕ, ◌≤◌, ◌<◌, Bool, true, false, cond, List, Option, Some, None, is_some, slice_get, refl, sym, ap, subst, ◌∙◌}
 use Rattle.std.specs.Option.{option_map_or}
 use Rattle.std.specs.FinMap as tree
@@ -54,6 +54,7 @@ use Rattle.overlap_law.proofs.MakersApart.{sessions_apart-after}
 use Rattle.overlap_law.proofs.NewAttempts.{WasAttempt, IsOpened, come_from}
 use Rattle.overlap_law.proofs.OpenInSteps.{WasOpenAt, each_was_open}
 use Rattle.overlap_law.proofs.ReadInMoments.{HostsAreSound, hosts_after_sound}
+use Rattle.overlap_law.proofs.ReadsInMoments.{known_after}
 use Rattle.overlap_law.proofs.ReadsApart.{reads_apart}
 use Rattle.overlap_law.proofs.RunsByChanges.{on_the_way}
 use Rattle.overlap_law.proofs.TiedInRuns.{change_tied}
@@ -327,34 +328,38 @@ module _ (script : List Statement) (range : RunsAreInRange script) where
       → MomentTrail script start moment → AttemptsAreOfThePast moment.world.hosts moment.past.attempts
   past-in_run events start moment is trail = (on_the_way script HasLastReads kept_rest events start moment is trail).past
 
-  module _ (known : (start before after : MomentWithPast) → Began script start.world → MomentChange script start before after
-      → ReadsAreKnown after.world.log after.world.hosts) where
-    apart : (start before after : MomentWithPast) → Began script start.world → MomentChange script start before after → ReadsAreApart after.world.hosts
-    apart start before after began change =
-        reads_apart after (hosts_after_sound script range start began change) (works_may-after script range start began change)
-        (sessions_apart-after script range start began change) (known start before after began change)
+  known : (start before after : MomentWithPast) → Began script start.world → MomentChange script start before after
+      → ReadsAreKnown after.world.log after.world.hosts
+  known start before after began change = known_after script range start began change
 
-    abbrev HasAll : MomentWithPast → Type 0
-    HasAll moment = HasLastReads moment × OpenReadsAreLast moment.world.hosts moment.world.wire moment.past.attempts
+  apart : (start before after : MomentWithPast) → Began script start.world → MomentChange script start before after
+      → ReadsAreApart after.world.hosts
+  apart start before after began change =
+      reads_apart after (hosts_after_sound script range start began change) (works_may-after script range start began change)
+      (sessions_apart-after script range start began change) (known start before after began change)
 
-    kept_last : KeptByChanges script HasAll
-    kept_last = record {
-      opens = (kept_rest.opens, λ n host there up req work current got reads stage j attempt at. absurd (cc (at)));
-      keeps = λ start before after began change has.
-          let rest = keeps_rest start before after began change has.0 in (
-            rest,
-            keeps_last script range start began change has.0.tied rest.one rest.closed rest.awaited rest.past (apart start before after began change)
-                (known start before after began change) (well_after script range start began change) has.1,
-          );
-    }
+  abbrev HasAll : MomentWithPast → Type 0
+  HasAll moment = HasLastReads moment × OpenReadsAreLast moment.world.hosts moment.world.wire moment.past.attempts
 
-    pub last_reads-in_run : (events : List Event) (start moment : MomentWithPast) → run_with_past script events ≡ Some start
-        → MomentTrail script start moment → ReadsAreLast moment.world.hosts moment.world.wire moment.past.attempts
-    last_reads-in_run events start moment is trail =
-        let last = (on_the_way script HasAll kept_last events start moment is trail).1 in
-        record {
-          epochs = λ n host there up req work current got reads own stage j attempt at same.
-              (last n host there up req work current got reads stage j attempt at same).epochs;
-          flying = λ n host there up req work current got reads own stage j attempt at same place target packet.
-              (last n host there up req work current got reads stage j attempt at same).flying place target packet;
-        }
+  kept_last : KeptByChanges script HasAll
+  kept_last = record {
+    opens = (kept_rest.opens, λ n host there up req work current got reads stage j attempt at. absurd (cc (at)));
+    keeps = λ start before after began change has.
+        let rest = keeps_rest start before after began change has.0 in (
+          rest,
+          keeps_last script range start began change has.0.tied rest.one rest.closed rest.awaited rest.past
+              (apart start before after began change)
+              (known start before after began change) (well_after script range start began change) has.1,
+        );
+  }
+
+  pub last_reads-in_run : (events : List Event) (start moment : MomentWithPast) → run_with_past script events ≡ Some start
+      → MomentTrail script start moment → ReadsAreLast moment.world.hosts moment.world.wire moment.past.attempts
+  last_reads-in_run events start moment is trail =
+      let last = (on_the_way script HasAll kept_last events start moment is trail).1 in
+      record {
+        epochs = λ n host there up req work current got reads own stage j attempt at same.
+            (last n host there up req work current got reads stage j attempt at same).epochs;
+        flying = λ n host there up req work current got reads own stage j attempt at same place target packet.
+            (last n host there up req work current got reads stage j attempt at same).flying place target packet;
+      }

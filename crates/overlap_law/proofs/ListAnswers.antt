@@ -73,14 +73,14 @@ waits_on search state =
     (record state { recovery = record state.recovery { search = Some search } }) (level_over search state) refl
     (judged_each (λ (s : RecoveryState). s.recovery.lists.waiting ≡ state.recovery.lists.waiting) search state refl (λ index bytes. refl) refl (λ level. refl))
 
-waits_on_read : (oid : ℕ) (from : NodeId) (said : Option PeerSay) (search : Option Search) (state : RecoveryState)
+pub waits_on_read : (oid : ℕ) (from : NodeId) (said : Option PeerSay) (search : Option Search) (state : RecoveryState)
     → (after_read oid from said search state).recovery.lists.waiting ≡ state.recovery.lists.waiting
 waits_on_read oid from said None state = refl
 waits_on_read oid from said (Some search) state =
     cond_either (λ (s : RecoveryState). s.recovery.lists.waiting ≡ state.recovery.lists.waiting) (search.oid == oid)
     (searching (search_after_answer from said search) state) state (waits_on (search_after_answer from said search) state) refl
 
-ticked_waits : (first : ℕ) (state : RecoveryState) → (state_after_tick first state).recovery.lists.waiting ≡ state.recovery.lists.waiting
+pub ticked_waits : (first : ℕ) (state : RecoveryState) → (state_after_tick first state).recovery.lists.waiting ≡ state.recovery.lists.waiting
 unfolding state_after_tick
 ticked_waits first state =
     cond_either (λ (s : RecoveryState). s.recovery.lists.waiting ≡ state.recovery.lists.waiting) (is_listed state.recovery)

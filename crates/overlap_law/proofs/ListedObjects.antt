@@ -1,6 +1,6 @@
 -- A finished list has what was made before its recovery's epoch, or the node itself has a row of it: another node that holds it there came to
 -- the epoch, and told of each object of which it has a row from before.
-use Rattle.std.proofs.Common.{◌≡◌, ◌≢◌, ◌⊎◌, inl, inr, ⊎_elim, arith, ℕ, ◌≤◌, ◌<◌, nat_le, Bool, true, false, cond, List, [], ◌∷◌, length, filter, Option, Some, None, refl, sym, ap, subst, ◌∙◌, slice_get}
+use Rattle.std.proofs.Common.{◌≡◌, ◌≢◌, ◌⊎◌, inl, inr, ⊎_elim, arith, ℕ, ◌≤◌, ◌<◌, nat_le, not, Bool, true, false, cond, List, [], ◌∷◌, length, filter, Option, Some, None, refl, sym, ap, subst, ◌∙◌, slice_get}
 use Rattle.std.specs.FinMap as tree
 use Rattle.std.proofs.lemmas.Bool.{and_parts, cases_eq, eq-eqb, leb-true, or_left, or_right}
 use Rattle.std.proofs.lemmas.Option.{same_Some}
@@ -21,9 +21,10 @@ use Rattle.overlap_law.specs.Holders.{targets_by, is_object_among}
 use Rattle.overlap_law.specs.Past.{MomentWithPast}
 use Rattle.overlap_law.specs.Each.{row_covers, end_of_row, has_row_at, holds_level, policy_in}
 use Rattle.overlap_law.specs.HeldLevels.{level_of, CanBeFoundAt, TheMadeIsListed}
-use Rattle.overlap_law.specs.Overlap.{OverlapAt}
-use Rattle.overlap_law.proofs.HeldLevels.{first, none_waits, overlap_holds, gives-found}
+use Rattle.overlap_law.specs.Lists.{ListsAreWhole}
+use Rattle.overlap_law.proofs.HeldLevels.{first, none_waits, lives_by, HasMade, holds_made, gives-found}
 use Rattle.overlap_law.proofs.IndexesHeld.{any_found}
+use Rattle.overlap_law.proofs.ReadInMoments.{are_present}
 
 -- one of some nodes passes a test
 pub some_passes : (p : NodeId → Bool) (nodes : List NodeId) → 1 ≤ length (filter p nodes)
@@ -39,8 +40,8 @@ some_passes p (node ∷ nodes) some = by_test (p node) refl some (λ more. some_
         let (other, among, passes) = others some_so in
         (other, or_right (is_same_node other node) (has_node other nodes) among, passes)
 
-module _ (live good good_id : ℕ → Bool) (moment : MomentWithPast) (overlap : OverlapAt live good good_id moment)
-    (lives : (oid : ℕ) → good oid ≡ true → live oid ≡ true) where
+module _ (good : ℕ → Bool) (moment : MomentWithPast) (has : HasMade good moment)
+    (lists : ListsAreWhole (lives_by moment.world.log) moment.world.hosts moment.world.wire) where
   module _ (n : ℕ) (host : Host) (at : tree.get moment.world.hosts n ≡ Some host) (up : host.is_lost ≡ false) (j : ℕ) (attempt : AttemptRecord)
       (got : slice_get moment.past.attempts j ≡ Some attempt) (policy : Policy) (me_so : host.node.recovery.me.0 ≡ n)
       (listed : is_listed host.node.recovery ≡ true) (settled : settled_of moment.world.log < host.node.recovery.epoch)
@@ -60,12 +61,12 @@ module _ (live good good_id : ℕ → Bool) (moment : MomentWithPast) (overlap :
 
     found : CanBeFoundAt (targets_by moment.world.log) moment.world.log moment.world.hosts oid level host.node.recovery.epoch policy
     found =
-        (gives-found live good good_id moment overlap lives).each n host at j attempt got policy listed settled within good_so policy_so made before
+        (gives-found good moment has).each n host at j attempt got policy listed settled within good_so policy_so made before
 
     later : 1 < host.node.recovery.epoch
     later =
         let least : 1 ≤ attempt.epoch
-        = first moment.world.log live good moment.world.hosts moment.past.attempts (overlap_holds live good good_id moment overlap lives)
+        = first moment.world.log (lives_by moment.world.log) good moment.world.hosts moment.past.attempts (holds_made good moment has)
         j attempt got made good_so in
         omega (arith, least, before)
 
@@ -78,13 +79,13 @@ module _ (live good good_id : ℕ → Bool) (moment : MomentWithPast) (overlap :
         let begins = leb-true row.from.0 level
         (and_parts (nat_le row.from.0 level) (nat_le level (end_of_row teller.node.peer.epoch row.to)) covers).0 in
         let below = found.below in
-        overlap.searches.list_told.each n host at up q.0 teller teller_at host.node.recovery.lists.objects (inr (record {
-          member = overlap.terms.present.members n host at q later ∙ member;
+        lists.each n host at up q.0 teller teller_at host.node.recovery.lists.objects (inr (record {
+          member = (are_present moment has.terms.sound).members n host at q later ∙ member;
           other = λ (same : q.0 ≡ host.node.recovery.me.0). apart (same ∙ me_so);
-          answered = none_waits moment.world.log moment.world.hosts overlap.terms.present overlap.terms.answered
+          answered = none_waits moment.world.log moment.world.hosts (are_present moment has.terms.sound) has.terms.answers.answered
               host.node.recovery.lists.waiting q listed;
           joined = refl;
-        })) oid (lives oid good_so) i row row_at (omega (arith, begins, below))
+        })) oid (ap not (has.alive oid good_so)) i row row_at (omega (arith, begins, below))
 
     listed_or_own : IsThere
     listed_or_own =

@@ -51,7 +51,7 @@ lists_read oid from said (Some search) state =
     cond_either (λ (s : RecoveryState). s.recovery.lists ≡ state.recovery.lists) (search.oid == oid)
     (searching (search_after_answer from said search) state) state (lists_on (search_after_answer from said search) state) refl
 
-lists_ticked : (first : ℕ) (state : RecoveryState) → (state_after_tick first state).recovery.lists ≡ state.recovery.lists
+pub lists_ticked : (first : ℕ) (state : RecoveryState) → (state_after_tick first state).recovery.lists ≡ state.recovery.lists
 unfolding state_after_tick
 lists_ticked first state =
     cond_either (λ (s : RecoveryState). s.recovery.lists ≡ state.recovery.lists) (is_listed state.recovery)
@@ -69,16 +69,16 @@ lists_ticked first state =
 
 module _ (number : ℕ) (said : Option PeerSay) (state : RecoveryState) where
   -- a list joins the others
-  record IsListTold (new : Recovery) : Type 0 where
-    message : Message
-    there : Contains state.recovery.unanswered message
-    asked : message.request.ask ≡ asks.List
-    number_so : message.request.number ≡ number
-    oids : List ℕ
-    told : said ≡ Some (says.Objects oids)
-    lists_so : new.lists ≡ gathered_with_answer message.to oids state.recovery.lists
+  pub record IsListTold (new : Recovery) : Type 0 where
+    pub message : Message
+    pub there : Contains state.recovery.unanswered message
+    pub asked : message.request.ask ≡ asks.List
+    pub number_so : message.request.number ≡ number
+    pub oids : List ℕ
+    pub told : said ≡ Some (says.Objects oids)
+    pub lists_so : new.lists ≡ gathered_with_answer message.to oids state.recovery.lists
 
-  abbrev ListsTo : RecoveryState → Type 0
+  abbrev pub ListsTo : RecoveryState → Type 0
   ListsTo new = (new.recovery.lists ≡ state.recovery.lists) ⊎ IsListTold new.recovery
 
   abbrev rest : RecoveryState
@@ -108,7 +108,7 @@ module _ (number : ℕ) (said : Option PeerSay) (state : RecoveryState) where
     by_ask asks.List is = by_list is said refl
     by_ask (asks.RecoverRead oid level) is = inl (lists_read oid message.to said (search_on rest) rest)
 
-  ended_lists : ListsTo (message_end number said state)
+  pub ended_lists : ListsTo (message_end number said state)
   ended_lists = by_message (message_of number state.recovery.unanswered) refl
     where
       by_message : (o : Option Message) → message_of number state.recovery.unanswered ≡ o → ListsTo (option_map_or

@@ -54,7 +54,7 @@ pub record ListsHold (moment : MomentWithPast) : Type 0 where
 any_contains : (oids : List ℕ) (oid : ℕ) → list_any (λ other. other == oid) oids ≡ true → Contains oids oid
 any_contains oids oid any = Contains-from_any {eq = λ (x y : ℕ). y == x} (λ x y same. sym (eqb-true y x same)) oid oids any
 
-among_union : (oids others : List ℕ) (oid : ℕ)
+pub among_union : (oids others : List ℕ) (oid : ℕ)
     → (list_any (λ other. other == oid) oids ≡ true) ⊎ (list_any (λ other. other == oid) others ≡ true)
     → list_any (λ other. other == oid) (union oids others) ≡ true
 among_union oids others oid either =

@@ -16,7 +16,7 @@ use Rattle.overlap_law.specs.MomentChanges.{MomentChange}
 abbrev pub GrowsTo : List Entry → List Entry → Type 0
 GrowsTo log later = (more : List Entry) × (later ≡ log ++ more)
 
-same_log : (log later : List Entry) → later ≡ log → GrowsTo log later
+pub same_log : (log later : List Entry) → later ≡ log → GrowsTo log later
 same_log log later same = ([], same ∙ sym (append-nil log))
 
 -- a step that goes by changes puts nothing
@@ -30,7 +30,7 @@ log-by_changes (EntryIsPut entry) by log = absurd by
 log-by_changes RecoveryTicks by log = absurd by
 log-by_changes WorkIsRetried by log = refl
 
-log-by_cause : (cause : NodeCause) (log : List Entry) → GrowsTo log (log_after_cause cause log)
+pub log-by_cause : (cause : NodeCause) (log : List Entry) → GrowsTo log (log_after_cause cause log)
 log-by_cause (GuestAsks session req ask) log = same_log log log refl
 log-by_cause (RequestComes name to request) log = same_log log log refl
 log-by_cause (ReplyComes name from rsp) log = same_log log log refl

@@ -63,10 +63,16 @@ pub record WasAttempt (before : MomentWithPast) (j : ℕ) (now : AttemptRecord) 
   pub fates : List MessageFate
   pub same : record was { fates = fates } ≡ now
 
+-- an attempt that a node has opened by this change of its step
+pub record IsOpenedNow (script : List Statement) (start before after : MomentWithPast) (j : ℕ) (new : AttemptRecord) : Type 0 where
+  pub opened : IsOpened script start after new
+  pub before_so : before ≡ moment_in_step script opened.stepping start opened.so_far
+  pub last : j ≡ length before.past.attempts
+
 -- each attempt comes from there
 abbrev pub ComeFrom : List Statement → MomentWithPast → MomentWithPast → MomentWithPast → Type 0
 ComeFrom script start before after = (j : ℕ) (now : AttemptRecord) → slice_get after.past.attempts j ≡ Some now
-    → WasAttempt before j now ⊎ IsOpened script start after now
+    → WasAttempt before j now ⊎ IsOpenedNow script start before after j now
 
 module _ (script : List Statement) (start before after : MomentWithPast) where
   same_attempts : after.past.attempts ≡ before.past.attempts → ComeFrom script start before after
@@ -95,11 +101,14 @@ module _ (script : List Statement) (start before after : MomentWithPast) where
   caused_attempts node WorkIsRetried same = same_attempts same
 
   more_attempts : (o : Option AttemptRecord) → after.past.attempts ≡ before.past.attempts ++ option_to_list o
-      → ((new : AttemptRecord) → o ≡ Some new → IsOpened script start after new) → ComeFrom script start before after
+      → ((new : AttemptRecord) → o ≡ Some new → IsOpenedNow script start before after (length before.past.attempts) new)
+      → ComeFrom script start before after
   more_attempts None same opened j now got = same_attempts (same ∙ append-nil before.past.attempts) j now got
   more_attempts (Some new) same opened j now got = ⊎_elim
       (λ (old : slice_get before.past.attempts j ≡ Some now). inl (record { was = now; at = old; fates = now.fates; same = refl }))
-      (λ (own : (j ≡ length before.past.attempts) × (new ≡ now)). inr (subst (IsOpened script start after) own.1 (opened new refl)))
+      (λ (own : (j ≡ length before.past.attempts) × (new ≡ now)).
+      inr (subst (λ (k : ℕ). IsOpenedNow script start before after k now) (sym own.0)
+      (subst (IsOpenedNow script start before after (length before.past.attempts)) own.1 (opened new refl))))
       (got_more before.past.attempts new j now (ap (λ (all : List AttemptRecord). slice_get all j) (sym same) ∙ got))
 
 -- what begins is an attempt to create or write, of a request that is there
@@ -137,27 +146,31 @@ module _ (script : List Statement) (range : RunsAreInRange script) (start : Mome
         let (making, request, there, opened) = begun_is (is_making asked.work) (is_first lined.node.sends current.messages)
         (tree.get lined.node.requests req) (beginning host lined.node.sends req asked.work current) new made in
         record {
-          stepping = stepping;
-          is = is;
-          by = by;
-          so_far = so_far;
-          leads = leads;
-          session = session;
-          req = req;
-          asked = asked;
-          lined = lined;
-          comes = comes;
-          enough = enough;
-          next = next;
-          moment_so = refl;
-          making = making;
-          request = request;
-          there = there;
-          at_gateway = get-insert_same lined.node.gateway.works req (record asked { stage = Open current });
-          requests_so = refl;
-          me_so = refl;
-          epoch_so = refl;
-          opened = opened;
+          opened = record {
+            stepping = stepping;
+            is = is;
+            by = by;
+            so_far = so_far;
+            leads = leads;
+            session = session;
+            req = req;
+            asked = asked;
+            lined = lined;
+            comes = comes;
+            enough = enough;
+            next = next;
+            moment_so = refl;
+            making = making;
+            request = request;
+            there = there;
+            at_gateway = get-insert_same lined.node.gateway.works req (record asked { stage = Open current });
+            requests_so = refl;
+            me_so = refl;
+            epoch_so = refl;
+            opened = opened;
+          };
+          before_so = refl;
+          last = refl;
         })
     of_change so_far next leads (changes.Holds session req asked lined comes short touched) grows = none_begins so_far next grows
     of_change so_far next leads (changes.Denies session req asked lined request comes short untouched there own) grows = none_begins so_far next grows
@@ -170,42 +183,49 @@ module _ (script : List Statement) (range : RunsAreInRange script) (start : Mome
     of_change so_far next leads (changes.Recovers due) grows = none_begins so_far next grows
 
   -- an event at which no node steps
-  attempts_made : (event : Event) (made : EventOutcome) (attempts : List AttemptRecord) → attempts_after script event start.world made.world start.past.attempts ≡ attempts
+  pub attempts_made : (event : Event) (made : EventOutcome) (attempts : List AttemptRecord) → attempts_after script event start.world made.world start.past.attempts ≡ attempts
       → (moment_after script event start made).past.attempts ≡ attempts
   unfolding past_after_event
   attempts_made event made attempts so = so
 
-  pub come_from : {before after : MomentWithPast} → MomentChange script start before after → ComeFrom script start before after
-  come_from (moments.StepBegins stepping is by) =
+  pub come_now : {before after : MomentWithPast} → MomentChange script start before after → ComeFrom script start before after
+  come_now (moments.StepBegins stepping is by) =
       caused_attempts script start start (moment_in_step script stepping start (first_in_step stepping)) stepping.host.node stepping.cause
       (attempts-at_first script start stepping is by)
-  come_from (moments.StepGoesOn stepping so_far next is by within) =
+  come_now (moments.StepGoesOn stepping so_far next is by within) =
       let known = known_step script range start.world began stepping is in
       of_change stepping is by so_far next within.leads within.change (attempts-grow script start stepping is known.sound known.given by so_far next within)
-  come_from (moments.StepIsMade stepping is by) =
+  come_now (moments.StepIsMade stepping is by) =
       caused_attempts script start start (moment_in_step script stepping start (last_in_step stepping)) stepping.host.node stepping.cause
       (attempts-at_end script start stepping is by)
-  come_from (moments.LossIsUntold event made happened h) =
+  come_now (moments.LossIsUntold event made happened h) =
       lost_attempts script start start (moment_after script event start made) h.name h.packet
       (attempts_made event made (attempts_with_loss h.name h.packet start.past.attempts) (attempts-of_untold_loss script event start.world made start.past.attempts h))
-  come_from (moments.DeliveryIsUnread event made happened h) =
+  come_now (moments.DeliveryIsUnread event made happened h) =
       same_attempts script start start (moment_after script event start made)
       (attempts_made event made start.past.attempts (attempts-of_unread_delivery script event start.world made start.past.attempts h))
-  come_from (moments.NodeIsLost event made happened h) =
+  come_now (moments.NodeIsLost event made happened h) =
       same_attempts script start start (moment_after script event start made)
       (attempts_made event made start.past.attempts (attempts-of_loss script event start.world made start.past.attempts h))
-  come_from (moments.NodeLeaves event made happened h) =
+  come_now (moments.NodeLeaves event made happened h) =
       same_attempts script start start (moment_after script event start made)
       (attempts_made event made start.past.attempts (attempts-of_leave script event start.world made start.past.attempts h))
-  come_from (moments.NodeIsReweighted event made happened h) =
+  come_now (moments.NodeIsReweighted event made happened h) =
       same_attempts script start start (moment_after script event start made)
       (attempts_made event made start.past.attempts (attempts-of_reweight script event start.world made start.past.attempts h))
-  come_from (moments.NodeJoins event made happened h) =
+  come_now (moments.NodeJoins event made happened h) =
       same_attempts script start start (moment_after script event start made)
       (attempts_made event made start.past.attempts (attempts-of_join script event start.world made start.past.attempts h))
-  come_from (moments.NodeComesBack event made happened h) =
+  come_now (moments.NodeComesBack event made happened h) =
       same_attempts script start start (moment_after script event start made)
       (attempts_made event made start.past.attempts (attempts-of_return script event start.world made start.past.attempts h))
-  come_from (moments.PhaseEnds event made happened h) =
+  come_now (moments.PhaseEnds event made happened h) =
       same_attempts script start start (moment_after script event start made)
       (attempts_made event made start.past.attempts (attempts-of_phase_end script event start.world made start.past.attempts h))
+
+  pub come_from : {before after : MomentWithPast} → MomentChange script start before after → (j : ℕ) (now : AttemptRecord)
+      → slice_get after.past.attempts j ≡ Some now → WasAttempt before j now ⊎ IsOpened script start after now
+  come_from {before} {after} change j now got = ⊎_elim
+      (λ (w : WasAttempt before j now). inl w)
+      (λ (o : IsOpenedNow script start before after j now). inr o.opened)
+      (come_now change j now got)

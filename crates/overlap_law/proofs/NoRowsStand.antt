@@ -5,18 +5,17 @@ use Rattle.std.proofs.Common.{Some, None, refl, sym, ap, subst, ◌∙◌}
 use Rattle.std.specs.Option.{IfSome}
 use Rattle.std.specs.List.{AllByRecursion, list_any}
 use Rattle.std.specs.FinMap as tree
-use Rattle.std.proofs.lemmas.List.Elements.{All-contains}
+use Rattle.std.proofs.lemmas.List.Elements.{Contains-append_left}
 use Rattle.object_id.specs.declared.node.Epoch.{Epoch}
 use Rattle.object_id.specs.declared.node.NodeId.{NodeId}
 use Rattle.object_store.specs.Rows.{reaches, holds}
 use Rattle.object_store.specs.Store.{SeenRow, rows_of}
 use Rattle.cluster_script.specs.declared.statement.Statement.{Statement}
-use Rattle.peer_proto.specs.declared.ask.PeerAsk.TheVariants as asks
 use Rattle.peer_proto.specs.declared.say.PeerSay.TheVariants as says
 use Rattle.peer_service.specs.State.{Peer}
 use Rattle.peer_service.specs.Serve.{row_or_none, tells_refusal}
 use Rattle.recovery.specs.declared.search.RowAnswer.{RowAnswer}
-use Rattle.recovery.specs.State.{Message, Search, Recovery, all_unanswered}
+use Rattle.recovery.specs.State.{Message, Search, Recovery}
 use Rattle.sheep_node.specs.declared.event.Event.{Event}
 use Rattle.sheep_node.specs.declared.input.Input.{Input}
 use Rattle.sheep_node.specs.declared.input.Input.TheVariants as inputs
@@ -24,11 +23,8 @@ use Rattle.sheep_world.specs.World.{Host, is_host_up}
 use Rattle.sheep_world.specs.NodeCauses.{NodeCause, IsCause, input_of_cause}
 use Rattle.sheep_world.specs.EventKinds.{log_after_return}
 use Rattle.sheep_world.specs.Began.{Began}
-use Rattle.sheep_world.proofs.BegunWorlds.{each_began}
-use Rattle.sheep_world.specs.World.{World}
 use Rattle.overlap_law.specs.Reached.{Hosts}
 use Rattle.overlap_law.specs.Each.{EachHost, end_of_row, row_covers, holds_level}
-use Rattle.overlap_law.specs.Flight.{IsAtLevel}
 use Rattle.overlap_law.specs.Past.{MomentWithPast, run_with_past}
 use Rattle.overlap_law.specs.MomentChanges.{MomentChange, MomentTrail, RunsAreInRange, KeptByChanges}
 use Rattle.overlap_law.specs.Searches.{NoRowIsTrue}
@@ -37,13 +33,11 @@ use Rattle.overlap_law.proofs.AllAnswersInMoments.{reached_at}
 use Rattle.overlap_law.proofs.AnswerersInMoments.{opening_recovery}
 use Rattle.overlap_law.proofs.AnswersInMoments.{not_lost}
 use Rattle.overlap_law.proofs.AttemptMessages.{contains_at}
-use Rattle.overlap_law.proofs.FirstSearches.{is_on}
 use Rattle.overlap_law.proofs.FirstSearchesInRuns.{IsWithinLevels, levels-in_world}
-use Rattle.overlap_law.proofs.HeardReplies.{IsHeardReply, heard_reply, heard_among, heard_from, heard_epoch}
+use Rattle.overlap_law.proofs.HeardReplies.{IsHeardReply, heard_reply, at_level, heard_among, heard_from, heard_epoch}
 use Rattle.overlap_law.proofs.NodePartsInMoments.{PartsChange, PartsStay, PartsStep, PartsReturn, PartsAreNew, parts_change}
 use Rattle.overlap_law.proofs.PastLevels.{past-on_the_way}
 use Rattle.overlap_law.proofs.RecoveriesInWorlds.{recoveries-on_the_way}
-use Rattle.overlap_law.proofs.RecoveryMessages.{AsksSo}
 use Rattle.overlap_law.proofs.RowsInTurn.{all_weaker}
 use Rattle.overlap_law.proofs.RunsByChanges.{on_the_way}
 use Rattle.overlap_law.proofs.SearchAnswers.{AnswerCame, AnswersReceived, IsRowHeard, answers_received}
@@ -51,7 +45,6 @@ use Rattle.overlap_law.proofs.StandingAnswers.{ToldAndStand, kept_standing}
 use Rattle.overlap_law.proofs.StandingRows.{AllStand, StandsFrom, rows-stand}
 use Rattle.overlap_law.proofs.TellersInMoments.{TellersHold, answer_come, kept_tellers}
 use Rattle.overlap_law.proofs.ToldOfRows.{LacksLevel, NoRowTells, lacks-closed, lacks-begun, no_rows_told}
-use Rattle.overlap_law.proofs.WireInRuns.{recoveries_ask_so}
 
 -- a node whose answer that it has no row is kept has none that holds the search's level
 pub record NoRowsKept (hosts : Hosts) : Type 0 where
@@ -90,19 +83,6 @@ module _ (script : List Statement) (range : RunsAreInRange script) (before : Mom
       (λ (heard : IsRowHeard input was.node.recovery.unanswered came.one answer). by_heard came.one came.was heard)
       came.kept)))
 
-  -- the message of a search's object is for the search's level
-  at_level : (began : Began script before.world) (n : ℕ) (was : Host) → tree.get before.world.hosts n ≡ Some was → (one : Search)
-      → was.node.recovery.search ≡ Some one → (message : Message) → Contains was.node.recovery.unanswered message → (level : Epoch)
-      → message.request.ask ≡ asks.RecoverRead one.oid level → level.0 ≡ one.level
-  at_level began n was there one searched message among level asked =
-      subst (IsAtLevel one) asked
-      (subst (λ (o : Option Search). IfSome o (λ (search : Search). IsAtLevel search message.request.ask)) searched
-      (All-contains (λ (m : Message). (m.request.epoch.0 ≡ was.node.recovery.epoch)
-      × IfSome was.node.recovery.search (λ (search : Search). IsAtLevel search m.request.ask)) was.node.recovery.unanswered message
-      (each_began script (λ (world : World) (n : ℕ) (host : Host). AsksSo host.node.recovery) (recoveries_ask_so script) before.world
-      began n was there) among).1)
-      refl
-
   module _ (n : ℕ) (was : Host) (cause : NodeCause) (began : Began script before.world) (there : tree.get before.world.hosts n ≡ Some was)
       (up : is_host_up was ≡ true) (caused : IsCause script before.world n was cause) where
     heard_none : (one : Search) → was.node.recovery.search ≡ Some one → (answer : RowAnswer) → answer.row ≡ None → (other : Host)
@@ -120,7 +100,8 @@ module _ (script : List Statement) (range : RunsAreInRange script) (before : Mom
         let said : heard.rsp.say ≡ says.NoRow = heard.told ∙ ap row_or_none none in
         let all = holds_before.told.stand.each n was there (not_lost was up) message among reply.from heard.rsp reply.answering
         (ap tells_refusal said) other node in
-        let level : heard.level.0 ≡ one.level = at_level began n was there one searched message heard.there heard.level heard.asked in
+        let level : heard.level.0 ≡ one.level
+        = at_level script range before.world began n was there one searched message heard.there heard.level heard.asked in
         subst (λ (k : ℕ). AllStand (LacksLevel was.node.recovery.epoch one.oid k) other.node.peer) level
         (subst (λ (k : ℕ). AllStand (LacksLevel k one.oid heard.level.0) other.node.peer) epoch
         (λ oid. all_weaker (NoRowTells message.request heard.rsp.say oid) (LacksLevel message.request.epoch.0 one.oid heard.level.0 oid)
@@ -230,7 +211,8 @@ module _ (script : List Statement) (range : RunsAreInRange script) (events : Lis
       → holds_level (tree.get moment.world.hosts from.0) oid level ≡ false
   under_way n host there up from epoch oid level way = no_level (tree.get moment.world.hosts from.0) oid level (λ other at.
       let message : Message = way.message in
-      let among = contains_at (all_unanswered host.node.recovery) way.place message way.unanswered in
+      let among = Contains-append_left host.node.recovery.unanswered host.node.recovery.older message
+      (contains_at host.node.recovery.unanswered way.place message way.unanswered) in
       let below : level < message.request.epoch.0
       = past-on_the_way script range events start moment is trail n host there message among oid (record { 0 = level }) way.asked in
       all_weaker (NoRowTells message.request way.reply.say oid) (λ row. holds level row ≡ false)
@@ -241,15 +223,14 @@ module _ (script : List Statement) (range : RunsAreInRange script) (events : Lis
       → IsRowKept host.node from epoch oid level None → holds_level (tree.get moment.world.hosts from.0) oid level ≡ false
   kept_by n host there from epoch oid level kept =
       let search : Search = kept.search in
-      let found = is_on host.node.peer.pending host.node.recovery.search search kept.there in
       let below : search.level < host.node.recovery.epoch
-      = (subst (λ (o : Option Search). IfSome o (IsWithinLevels host.node.recovery.epoch)) found.search (levels n host there)).1 in
+      = (subst (λ (o : Option Search). IfSome o (IsWithinLevels host.node.recovery.epoch)) kept.there (levels n host there)).1 in
       subst (λ (k : ℕ). holds_level (tree.get moment.world.hosts from.0) oid k ≡ false) kept.of_level
       (subst (λ (k : ℕ). holds_level (tree.get moment.world.hosts from.0) k search.level ≡ false) kept.of_object
       (no_level (tree.get moment.world.hosts from.0) search.oid search.level (λ other at.
       all_weaker (LacksLevel host.node.recovery.epoch search.oid search.level search.oid) (λ row. holds search.level row ≡ false)
       (λ row lacks. lacks refl below) (rows_of other.node.peer.rows search.oid)
-      (no_rows_hold.none.each n host there search found.search kept.answer
+      (no_rows_hold.none.each n host there search kept.there kept.answer
       (contains_at search.answers kept.place kept.answer kept.among) kept.told other
       (ap (λ (q : NodeId). tree.get moment.world.hosts q.0) kept.from_it ∙ at) search.oid))))
 

@@ -1,6 +1,6 @@
 -- What holds of each node in every world of a run, and speaks of nothing that a change of its step touches, holds of it at each moment on
 -- the way of an event.
-use Rattle.std.proofs.Common.{◌≡◌, ◌≢◌, ⊎_elim, ℕ, List, Some, sym, ap, subst, ◌∙◌}
+use Rattle.std.proofs.Common.{◌≡◌, ◌≢◌, ⊎_elim, ℕ, List, [], Some, refl, sym, ap, subst, ◌∙◌}
 use Rattle.std.specs.FinMap as tree
 use Rattle.proof_tools.proofs.FiniteMaps.{get-insert_same, get-insert_cases}
 use Rattle.cluster_script.specs.declared.statement.Statement.{Statement}
@@ -16,10 +16,10 @@ use Rattle.sheep_world.specs.NodeCauses.{input_of_cause, event_of_cause, host_wi
 use Rattle.sheep_world.specs.EventKinds.{outcome_of_step}
 use Rattle.sheep_world.specs.Began.{Began}
 use Rattle.sheep_world.proofs.BegunWorlds.{goes_on}
-use Rattle.overlap_law.specs.Past.{MomentWithPast, run_with_past}
+use Rattle.overlap_law.specs.Past.{MomentWithPast, run_on, first_moment, run_with_past}
 use Rattle.overlap_law.specs.StepMoments.{SteppingNode, IsStepping, first_in_step, last_in_step, LeadsInStep, hosts_in_step}
 use Rattle.overlap_law.specs.MomentChanges as moments
-use Rattle.overlap_law.specs.MomentChanges.{MomentChange, MomentTrail, Still, Then}
+use Rattle.overlap_law.specs.MomentChanges.{MomentChange, MomentTrail, Still, Then, KeptByChanges}
 use Rattle.overlap_law.proofs.NodePartsInMoments.{HasPartsOf, parts_of}
 use Rattle.overlap_law.proofs.NoRecoveredDue.{began-with_past}
 use Rattle.overlap_law.proofs.SendsOfChanges.{in_order_so_far}
@@ -77,3 +77,11 @@ module _ (script : List Statement) (Q : ℕ → Node → Type 0)
   pub nodes-on_the_way : (events : List Event) (start moment : MomentWithPast) → run_with_past script events ≡ Some start
       → MomentTrail script start moment → HoldsOf moment
   nodes-on_the_way events start moment is trail = trail_so start (began-with_past script events start is) trail
+
+  -- so each change of a moment keeps it
+  pub nodes-kept : KeptByChanges script HoldsOf
+  unfolding run_with_past run_on
+  nodes-kept = record {
+    opens = holds (first_moment script).world (began-with_past script [] (first_moment script) refl);
+    keeps = λ start before after began change were. nodes_then start began change;
+  }

@@ -23,7 +23,7 @@ use Rattle.sheep_node.specs.SessionQueues.{session_among}
 use Rattle.sheep_node.proofs.OneWorkParts.{Requests, Sessions}
 use Rattle.sheep_node.proofs.SessionViews.{open_in, IsSeen}
 use Rattle.overlap_law.proofs.ObjectsOfRequests.{IsOwn, CreatesWithin, IsAskWithin, IsLeftWithin, IsCourseWithin, AreWithin}
-use Rattle.overlap_law.proofs.ObjectsOfRows.{AskWithin, SaidWithin, HasWithin}
+use Rattle.overlap_law.proofs.ObjectsOfRows.{AskWithin, IsRowAskWithin, IsAskedWithin, SaidWithin, HasWithin}
 
 module _ (K L : ℕ → Type 0) (more : (oid : ℕ) → K oid → L oid) where
   pub ask_grows : (ask : PeerAsk) → AskWithin K ask → AskWithin L ask
@@ -47,8 +47,17 @@ module _ (K L : ℕ → Type 0) (more : (oid : ℕ) → K oid → L oid) where
     pending = by_pending node.peer.pending is.pending;
     listed = All-weaker K L more node.recovery.lists.objects is.listed;
     searched = by_search node.recovery.search is.searched;
+    asked = All-weaker (IsAskedWithin K) (IsAskedWithin L) (λ message asked. asked_grows message.request.ask asked) node.recovery.unanswered
+        is.asked;
   }
     where
+      asked_grows : (ask : PeerAsk) → IsRowAskWithin K ask → IsRowAskWithin L ask
+      asked_grows (asks.Create key size offset bytes) own = tt
+      asked_grows (asks.Write key offset bytes) own = tt
+      asked_grows (asks.Read key offset size) own = tt
+      asked_grows asks.List own = tt
+      asked_grows (asks.RecoverRead oid level) own = more oid own
+
       by_pending : (o : Option (List ℕ)) → IfSome o (All K) → IfSome o (All L)
       by_pending None all = tt
       by_pending (Some oids) all = All-weaker K L more oids all

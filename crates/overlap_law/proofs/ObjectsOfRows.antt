@@ -34,7 +34,7 @@ use Rattle.peer_service.specs.Back.{closed_at_end, with_log, come_back}
 use Rattle.peer_service.specs.Serve as serve
 use Rattle.peer_service.specs.Serve.{piece_or_refusal, peer_say_step, peer_write_step, step_if_recovered, step_behind_fence, peer_step}
 use Rattle.recovery.specs.Shown.{live_policy, is_to_recover, shown_with_pending}
-use Rattle.recovery.specs.State.{Search, RecoveryState, is_listed}
+use Rattle.recovery.specs.State.{Message, Search, RecoveryState, is_listed}
 use Rattle.recovery.specs.Steps.{to_recover, when_listed, at_start, recovery_from_epoch}
 use Rattle.recovery.specs.Level.{are_enough, with_part_found, with_object_missing, to_ask, one_lower, level_without_part, own_index, own_part, rows_found, level_over_by, level_over, is_of_search, searching}
 use Rattle.sheep_node.specs.State.{Node}
@@ -72,12 +72,24 @@ module _ (K : ℕ → Type 0) where
     pub rows : AreRowsOf peer.rows
     pub pending : IsPending peer.pending
 
-  -- and what its recovery was named, and searches
+  -- of what a recovery asks for a row
+  abbrev pub IsRowAskWithin : PeerAsk → Type 0
+  IsRowAskWithin (asks.Create key size offset bytes) = Unit {0}
+  IsRowAskWithin (asks.Write key offset bytes) = Unit {0}
+  IsRowAskWithin (asks.Read key offset size) = Unit {0}
+  IsRowAskWithin asks.List = Unit {0}
+  IsRowAskWithin (asks.RecoverRead oid level) = K oid
+
+  abbrev pub IsAskedWithin : Message → Type 0
+  IsAskedWithin message = IsRowAskWithin message.request.ask
+
+  -- and what its recovery was named, searches, and asks for
   pub record IsStateWithin (state : RecoveryState) : Type 0 where
     pub rows : AreRowsOf state.shown.rows
     pub pending : IsPending state.shown.pending
     pub listed : All K state.recovery.lists.objects
     pub searched : IfSome state.recovery.search (λ (search : Search). K search.oid)
+    pub asked : All IsAskedWithin state.recovery.unanswered
 
   abbrev pub HasWithin : Node → Type 0
   HasWithin node = IsStateWithin (recovery_state_of node)
@@ -276,17 +288,18 @@ module _ (K : ℕ → Type 0) where
             (union_within state.recovery.lists.objects (tree.keys state.shown.rows) is.listed is.rows);
         listed = is.listed;
         searched = is.searched;
+        asked = is.asked;
       }) is
 
   pub begun_within : (epoch : ℕ) (members : List NodeId) (state : RecoveryState) → AreRowsOf state.shown.rows
       → IsStateWithin (recovery_from_epoch epoch members state)
   unfolding recovery_from_epoch
   begun_within epoch members state rows =
-      named_within (at_start epoch members state) (record { rows = rows; pending = tt; listed = All-nil K; searched = tt })
+      named_within (at_start epoch members state) (record { rows = rows; pending = tt; listed = All-nil K; searched = tt; asked = All-nil IsAskedWithin })
 
   module _ (search : Search) (state : RecoveryState) (own : K search.oid) (is : IsStateWithin state) where
     asked_within : (level : ℕ) → IsStateWithin (to_ask search.oid level state)
-    asked_within level = record { rows = is.rows; pending = is.pending; listed = is.listed; searched = own }
+    asked_within level = record { rows = is.rows; pending = is.pending; listed = is.listed; searched = own; asked = is.asked }
 
     missing_within : IsStateWithin (with_object_missing search.oid state)
     missing_within = record {
@@ -294,6 +307,7 @@ module _ (K : ℕ → Type 0) where
       pending = filtered (λ (other : ℕ). not (other == search.oid)) state.shown.pending is.pending;
       listed = is.listed;
       searched = tt;
+      asked = is.asked;
     }
 
     found_within : (index : ℕ) (bytes : List ℕ) → IsStateWithin (with_part_found search.oid index bytes state)
@@ -303,6 +317,7 @@ module _ (K : ℕ → Type 0) where
       pending = filtered (λ (other : ℕ). not (other == search.oid)) state.shown.pending is.pending;
       listed = is.listed;
       searched = tt;
+      asked = is.asked;
     }
 
     level_within : IsStateWithin (level_over search state)
@@ -328,4 +343,4 @@ module _ (K : ℕ → Type 0) where
     searching_within =
         cond_either IsStateWithin (list_any (is_of_search search.oid) state.recovery.unanswered)
         (record state { recovery = record state.recovery { search = Some search } }) (level_over search state)
-        (record { rows = is.rows; pending = is.pending; listed = is.listed; searched = own }) level_within
+        (record { rows = is.rows; pending = is.pending; listed = is.listed; searched = own; asked = is.asked }) level_within

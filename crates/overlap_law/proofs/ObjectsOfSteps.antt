@@ -1,9 +1,13 @@
 -- A step leaves what a node has rows of, has still to recover, was named and searches among some objects, if what it is asked to create and
 -- what it is named is among them.
-use Rattle.std.proofs.Common.{ℕ, ◌==◌, nat_lt, List, [], ◌∷◌, map, All, Option, Some, None, IfSome, sym, subst}
+use Rattle.std.proofs.Common.{ℕ, ◌==◌, nat_lt, not, List, [], ◌∷◌, map, All, Option, Some, None, IfSome, sym, subst}
 use Rattle.std.specs.Option.{option_map_or}
+use Rattle.std.specs.List.{enumerate_from}
+use Rattle.object_id.specs.declared.policy.Policy.{Policy}
+use Rattle.object_id.specs.Oid.{kind_of}
+use Rattle.object_id.specs.Policy.{wanted_of}
 use Rattle.std.specs.FinMap as tree
-use Rattle.std.proofs.lemmas.List.Elements.{All-nil, All-head}
+use Rattle.std.proofs.lemmas.List.Elements.{All-nil, All-cons, All-head, All-filter, All-append}
 use Rattle.proof_tools.proofs.Booleans.{cond_either}
 use Rattle.object_id.specs.declared.entry.Entry.{Entry}
 use Rattle.object_id.specs.declared.entry.Member.{Member}
@@ -21,13 +25,13 @@ use Rattle.peer_service.specs.Epochs.{peer_settled_to}
 use Rattle.peer_service.specs.LogReading.{read_entry}
 use Rattle.vnode_table.specs.Targets.{targets_in}
 use Rattle.gateway.specs.State as gateways
-use Rattle.recovery.specs.Shown.{first_in, is_pending_object}
+use Rattle.recovery.specs.Shown.{first_in, is_pending_object, live_policy}
 use Rattle.recovery.specs.State as recoveries
-use Rattle.recovery.specs.State.{Message, Search, Recovery, RecoveryState, search_on, is_listed, message_of}
+use Rattle.recovery.specs.State.{Message, Search, Recovery, RecoveryState, search_on, is_listed, message_of, has_number}
 use Rattle.recovery.specs.Steps as recovery_steps
 use Rattle.recovery.specs.Steps.{without_unanswered, search_after_answer, after_list, after_read, after_ask, message_end}
 use Rattle.recovery.specs.Level.{searching}
-use Rattle.recovery.specs.Tick.{or_next, next_search, tick_messages, with_messages, state_after_tick}
+use Rattle.recovery.specs.Tick.{request_message, lists_asked, asked_of, level_asked, level_messages, or_next, next_search, tick_messages, with_messages, state_after_tick}
 use Rattle.sheep_node.specs.declared.input.Input.{Input}
 use Rattle.sheep_node.specs.declared.input.Input.TheVariants as inputs
 use Rattle.sheep_node.specs.State as nodes
@@ -38,7 +42,7 @@ use Rattle.sheep_node.specs.LogReading.{epoch_members, epochs_with_entry, peer_w
 use Rattle.sheep_node.specs.Step.{on_request, recovery_stepped, on_put, on_recover_tick, node_step}
 use Rattle.sheep_node.specs.Changes.{input_received}
 use Rattle.sheep_node.proofs.StepResults.{step_peer, step_recovery}
-use Rattle.overlap_law.proofs.ObjectsOfRows.{AskWithin, SaidWithin, IsPeerWithin, IsStateWithin, HasWithin, keys_made, union_within, served_within, entered_within, settled_within, read_within, back_within, named_within, begun_within, searching_within}
+use Rattle.overlap_law.proofs.ObjectsOfRows.{AskWithin, SaidWithin, IsPeerWithin, IsStateWithin, HasWithin, IsAskedWithin, keys_made, union_within, served_within, entered_within, settled_within, read_within, back_within, named_within, begun_within, searching_within}
 
 module _ (K : ℕ → Type 0) where
   -- ---- a message of a recovery ends, and a tick
@@ -55,6 +59,7 @@ module _ (K : ℕ → Type 0) where
         pending = is.pending;
         listed = union_within K state.recovery.lists.objects oids is.listed told;
         searched = is.searched;
+        asked = is.asked;
       })
   list_within from (Some (says.Row row)) state told is = is
   list_within from (Some says.NoRow) state told is = is
@@ -108,7 +113,13 @@ module _ (K : ℕ → Type 0) where
       let_go = without_unanswered number state
 
       still : IsStateWithin K let_go
-      still = record { rows = is.rows; pending = is.pending; listed = is.listed; searched = is.searched }
+      still = record {
+        rows = is.rows;
+        pending = is.pending;
+        listed = is.listed;
+        searched = is.searched;
+        asked = All-filter (λ (message : Message). not (has_number number message)) (IsAskedWithin K) state.recovery.unanswered is.asked;
+      }
 
       by_message : (o : Option Message)
           → IsStateWithin K (option_map_or (λ (message : Message). after_ask message.request.ask message.to said let_go) o let_go)
@@ -129,6 +140,41 @@ module _ (K : ℕ → Type 0) where
       by_search None own = by_pending state.shown.pending is.pending
       by_search (Some search) own = own
 
+  -- a level is asked for the object of the search
+  each_asked : (recovery : Recovery) (wanted oid level : ℕ) (targets : List (ℕ × NodeId)) → K oid
+      → All (IsAskedWithin K) (map (request_message recovery wanted (asks.RecoverRead oid (record { 0 = level }))) targets)
+  each_asked recovery wanted oid level [] own = All-nil (IsAskedWithin K)
+  each_asked recovery wanted oid level (target ∷ targets) own =
+      All-cons (IsAskedWithin K) (request_message recovery wanted (asks.RecoverRead oid (record { 0 = level })) target)
+      (map (request_message recovery wanted (asks.RecoverRead oid (record { 0 = level }))) targets) own
+      (each_asked recovery wanted oid level targets own)
+
+  each_listed : (recovery : Recovery) (targets : List (ℕ × NodeId))
+      → All (IsAskedWithin K) (map (request_message recovery 0 asks.List) targets)
+  each_listed recovery [] = All-nil (IsAskedWithin K)
+  each_listed recovery (target ∷ targets) =
+      All-cons (IsAskedWithin K) (request_message recovery 0 asks.List target) (map (request_message recovery 0 asks.List) targets) tt
+      (each_listed recovery targets)
+
+  tick_asks : (first : ℕ) (state : RecoveryState) → IsStateWithin K state → All (IsAskedWithin K) (tick_messages first state)
+  unfolding tick_messages
+  tick_asks first state is =
+      cond_either (All (IsAskedWithin K)) (is_listed state.recovery)
+      (option_map_or (level_messages first state) (next_search state) []) (lists_asked first state.recovery)
+      (by_search (next_search state) (next_within state is)) (each_listed state.recovery (enumerate_from first state.recovery.lists.waiting))
+    where
+      by_policy : (search : Search) (o : Option Policy) → K search.oid
+          → All (IsAskedWithin K) (option_map_or (level_asked first state search) o [])
+      by_policy search None own = All-nil (IsAskedWithin K)
+      by_policy search (Some policy) own =
+          each_asked state.recovery (wanted_of policy (kind_of search.oid)) search.oid search.level
+          (enumerate_from first (asked_of state policy search)) own
+
+      by_search : (o : Option Search) → IfSome o (λ (search : Search). K search.oid)
+          → All (IsAskedWithin K) (option_map_or (level_messages first state) o [])
+      by_search None own = All-nil (IsAskedWithin K)
+      by_search (Some search) own = by_policy search (live_policy state.shown search.oid) own
+
   ticks_within : (first : ℕ) (state : RecoveryState) → IsStateWithin K state → IsStateWithin K (state_after_tick first state)
   unfolding state_after_tick
   ticks_within first state is =
@@ -140,7 +186,13 @@ module _ (K : ℕ → Type 0) where
       sent = with_messages (tick_messages first state) state
 
       still : IsStateWithin K sent
-      still = record { rows = is.rows; pending = is.pending; listed = is.listed; searched = is.searched }
+      still = record {
+        rows = is.rows;
+        pending = is.pending;
+        listed = is.listed;
+        searched = is.searched;
+        asked = All-append (IsAskedWithin K) state.recovery.unanswered (tick_messages first state) is.asked (tick_asks first state is);
+      }
 
       by_search : (o : Option Search) → IfSome o (λ (search : Search). K search.oid)
           → IsStateWithin K (option_map_or (λ (search : Search). searching search sent) o sent)
@@ -150,7 +202,7 @@ module _ (K : ℕ → Type 0) where
   -- ---- a node
 
   pub none_had : (me : NodeId) (tries : ℕ) → HasWithin K (nodes.initial_node me tries)
-  none_had me tries = record { rows = keys_made K [] (All-nil K); pending = All-nil K; listed = All-nil K; searched = tt }
+  none_had me tries = record { rows = keys_made K [] (All-nil K); pending = All-nil K; listed = All-nil K; searched = tt; asked = All-nil (IsAskedWithin K) }
 
   module _ (node : Node) (is : HasWithin K node) where
     abbrev state : RecoveryState
@@ -173,13 +225,13 @@ module _ (K : ℕ → Type 0) where
         let recovering : IsStateWithin K (recovery_with_entry entry node)
         = cond_either (IsStateWithin K) (begins_recovery entry node) (recovery_in_epoch new) (recovery_state_of new)
         (begun_within K new.peer.epoch (map (λ (member : Member). member.node) (epoch_members new)) (recovery_state_of new) entered.rows)
-        (record { rows = entered.rows; pending = entered.pending; listed = is.listed; searched = is.searched }) in
+        (record { rows = entered.rows; pending = entered.pending; listed = is.listed; searched = is.searched; asked = is.asked }) in
         let settled : ℕ = settled_of (read_entry entry node.peer).entries in
         let back : Peer = with_recovered_rows (recovery_with_entry entry node) peer in
         let back_is : IsPeerWithin K back = record { rows = recovering.rows; pending = recovering.pending } in
         let left = cond_either (IsPeerWithin K) (nat_lt back.settled settled) (peer_settled_to settled back) back
         (settled_within K back back_is settled) back_is in
-        record { rows = left.rows; pending = left.pending; listed = recovering.listed; searched = recovering.searched }
+        record { rows = left.rows; pending = left.pending; listed = recovering.listed; searched = recovering.searched; asked = recovering.asked }
 
     comes_back_within : (entries : List Entry) → HasWithin K (on_back entries node)
     unfolding on_back
@@ -187,7 +239,7 @@ module _ (K : ℕ → Type 0) where
         let back : Node = come_back_with entries node in
         let begun = begun_within K back.peer.epoch (map (λ (member : Member). member.node) (epoch_members back)) (recovery_state_of back)
         (back_within K entries node.peer peer_is).rows in
-        record { rows = begun.rows; pending = begun.pending; listed = begun.listed; searched = begun.searched }
+        record { rows = begun.rows; pending = begun.pending; listed = begun.listed; searched = begun.searched; asked = begun.asked }
 
     -- what is asked of the step
     abbrev pub BringsWithin : Input → Type 0
@@ -197,7 +249,7 @@ module _ (K : ℕ → Type 0) where
 
     state_stepped : (after : RecoveryState) → IsStateWithin K after → HasWithin K (recovery_stepped after (at_first node)).node
     state_stepped after within =
-        record { rows = within.rows; pending = within.pending; listed = within.listed; searched = within.searched }
+        record { rows = within.rows; pending = within.pending; listed = within.listed; searched = within.searched; asked = within.asked }
 
     replied : (rsp : PeerRsp) → SaidWithin K rsp.say
         → HasWithin K (recovery_stepped (recovery_steps.recovery_on_reply rsp state) (at_first node)).node
@@ -217,7 +269,7 @@ module _ (K : ℕ → Type 0) where
     received_has (inputs.Guest req session ask) brings = is
     received_has (inputs.Request request) brings =
         let served = served_within K node.peer peer_is request brings in
-        record { rows = served.rows; pending = served.pending; listed = is.listed; searched = is.searched }
+        record { rows = served.rows; pending = served.pending; listed = is.listed; searched = is.searched; asked = is.asked }
     received_has (inputs.Reply rsp) brings =
         cond_either (λ (start : StepState). HasWithin K start.node) (gateways.gateway_awaits rsp.number node.gateway) (at_first node)
         (recovery_stepped (recovery_steps.recovery_on_reply rsp state) (at_first node)) is (replied rsp brings)
@@ -243,4 +295,5 @@ module _ (K : ℕ → Type 0) where
           listed = subst (λ (recovery : Recovery). All K recovery.lists.objects) (sym (step_recovery input node)) now.listed;
           searched = subst (λ (recovery : Recovery). IfSome recovery.search (λ (search : Search). K search.oid))
               (sym (step_recovery input node)) now.searched;
+          asked = subst (λ (recovery : Recovery). All (IsAskedWithin K) recovery.unanswered) (sym (step_recovery input node)) now.asked;
         }

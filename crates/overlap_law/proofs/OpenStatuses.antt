@@ -85,7 +85,7 @@ module _ (input : Input) (node : Node) where
       → work.stage ≡ Open current → slice_get current.messages place ≡ Some message → WasMessage req work current place message ⊎ IsNewMessage message
 
   -- the work of a request waited for a number
-  abbrev WaitedFor : ℕ → ℕ → Type 0
+  abbrev pub WaitedFor : ℕ → ℕ → Type 0
   WaitedFor number req = (work : Work) × (tree.get node.gateway.works req ≡ Some work) × (is_awaited_in number work ≡ true)
 
   abbrev KnowsSoFar : StepState → Type 0
@@ -218,7 +218,7 @@ module _ (input : Input) (node : Node) where
 
   module _ (given : ToldIsBelow input node.sends) where
     -- what is told of in the middle of a step was waited for
-    abbrev ToldWasWaited : StepState → Type 0
+    abbrev pub ToldWasWaited : StepState → Type 0
     ToldWasWaited so_far = (number : ℕ) (status : Status) → IsTold input number status → (req : ℕ) (work : Work) → tree.get so_far.node.gateway.works req ≡ Some work
         → is_awaited_in number work ≡ true → WaitedFor number req
 
@@ -305,7 +305,7 @@ module _ (input : Input) (node : Node) where
           by_input inputs.RetryTick told = absurd told
           by_input (inputs.Back entries) told = absurd told
 
-      told_waited : (so_far : StepState) → Leads input node start so_far → ToldWasWaited so_far
+      pub told_waited : (so_far : StepState) → Leads input node start so_far → ToldWasWaited so_far
       told_waited so_far leads number status told req work there waits =
           let (count_so, sends_so) = silent_told number status told in
           let below : ToldIsBelow input start.node.sends = λ n s t. subst (λ (k : ℕ). n < k) (sym count_so) (given n s t) in

@@ -95,7 +95,7 @@ module _ (me : NodeId) (tries : ℕ) (members : List Member) where
       (sym (nobody_asks (entries.Format members) me tries)) read_bare)
 
 -- what a log of its opening alone has done to ids: nothing
-unused_at_opening : (members : List Member) (vid : ℕ) → state_of (log_effects (entries.Format members ∷ [])) vid ≡ Unused
+pub unused_at_opening : (members : List Member) (vid : ℕ) → state_of (log_effects (entries.Format members ∷ [])) vid ≡ Unused
 unfolding log_effects state_of
 unused_at_opening members vid = refl
 
@@ -118,13 +118,13 @@ module _ (script : List Statement) where
   -- ---- what there isn't
 
   module _ (n : ℕ) (host : Host) (got : tree.get first.world.hosts n ≡ Some host) where
-    no_request : {P : Type 0} (req : ℕ) (request : Request) → tree.get host.node.requests req ≡ Some request → P
+    pub no_request : {P : Type 0} (req : ℕ) (request : Request) → tree.get host.node.requests req ≡ Some request → P
     no_request req request there =
         let (me, bare) = bare_at n host got in
         let none = ap (λ (m : tree.FinMap nat_cmp Request). tree.get m req) bare.requests ∙ tree.get-empty {X = Request} nat_cmp req in
         absurd (cc (none, there))
 
-    no_session : {P : Type 0} (number : ℕ) (session : Session) → tree.get host.node.sessions number ≡ Some session → P
+    pub no_session : {P : Type 0} (number : ℕ) (session : Session) → tree.get host.node.sessions number ≡ Some session → P
     no_session number session there =
         let (me, bare) = bare_at n host got in
         let none = ap (λ (m : tree.FinMap nat_cmp Session). tree.get m number) bare.sessions ∙ tree.get-empty {X = Session} nat_cmp number in
@@ -147,10 +147,22 @@ module _ (script : List Statement) where
         let none = ap (λ (recovery : Recovery). slice_get (all_unanswered recovery) place) bare.recovery in
         absurd (cc (none, there))
 
+    nothing_own : {P : Type 0} (place : ℕ) (message : Message) → slice_get host.node.recovery.unanswered place ≡ Some message → P
+    nothing_own place message there =
+        let (me, bare) = bare_at n host got in
+        let none = ap (λ (recovery : Recovery). slice_get recovery.unanswered place) bare.recovery in
+        absurd (cc (none, there))
+
     no_search : {P : Type 0} (search : Search) → search_on (recovery_state_of host.node) ≡ Some search → P
     no_search search there =
         let (me, bare) = bare_at n host got in
         let none = ap (λ (recovery : Recovery). still_on host.node.peer.pending recovery.search) bare.recovery in
+        absurd (cc (none, there))
+
+    none_searched : {P : Type 0} (search : Search) → host.node.recovery.search ≡ Some search → P
+    none_searched search there =
+        let (me, bare) = bare_at n host got in
+        let none = ap (λ (recovery : Recovery). recovery.search) bare.recovery in
         absurd (cc (none, there))
 
     is_finished_list : is_listed host.node.recovery ≡ true
@@ -159,8 +171,8 @@ module _ (script : List Statement) where
     nothing_told : {P : Type 0} (from : NodeId) (epoch oid level : ℕ) (row : Option RowCopy) → ToldRow first.world.wire n host.node from epoch oid level row → P
     nothing_told {P} from epoch oid level row = ⊎_elim
         (λ (on_its_way : IsRowUnderWay first.world.wire n host.node.recovery from epoch oid level row).
-        nothing_unanswered on_its_way.place on_its_way.message on_its_way.unanswered)
-        (λ (kept : IsRowKept host.node from epoch oid level row). no_search kept.search kept.there)
+        nothing_own on_its_way.place on_its_way.message on_its_way.unanswered)
+        (λ (kept : IsRowKept host.node from epoch oid level row). none_searched kept.search kept.there)
 
   module _ (range : RunsAreInRange script) where
     is_run : run_with_past script [] ≡ Some first
@@ -196,20 +208,7 @@ module _ (script : List Statement) where
         untouched = so_far.untouched;
         create_first = record { each = λ j attempt there. absurd (cc (there)) };
       };
-      writers = record {
-        may_write = record { each = λ n host got up req work there. no_work n host got req work there };
-        one_writer = so_far.one_writer;
-        one_work = record {
-          objects = λ n host got up req other work second are. no_work n host got req work are.first_one;
-          inodes = so_far.inodes;
-          indexes = so_far.apart;
-        };
-        held = so_far.held;
-        read_last = record {
-          epochs = λ n host got up req work current there. no_work n host got req work there;
-          flying = λ n host got up req work current there. no_work n host got req work there;
-        };
-      };
+      writers = so_far.writers;
       terms = so_far.epochs;
       rows = record {
         ends = so_far.ends;
@@ -228,6 +227,7 @@ module _ (script : List Statement) where
         listing = record {
           pending = λ n host got up unlisted. let listed = is_finished_list n host got in absurd (cc (listed, unlisted));
           search = λ n host got up unlisted. let listed = is_finished_list n host got in absurd (cc (listed, unlisted));
+          missing = λ n host got up unlisted. let listed = is_finished_list n host got in absurd (cc (listed, unlisted));
         };
         told_beyond = record {
           lists = λ n host got up from epoch oids on_its_way.

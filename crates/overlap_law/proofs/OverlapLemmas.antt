@@ -18,7 +18,8 @@ use Rattle.message_wire.specs.declared.packet.Packet.TheVariants.{Request}
 use Rattle.overlap_law.specs.Attempts.{AttemptRecord, object_of, attempts_on}
 use Rattle.overlap_law.specs.Words.{is_made, base_of}
 use Rattle.overlap_law.specs.Reached.{Hosts, is_putting_in}
-use Rattle.overlap_law.specs.Past.{MomentWithPast}
+use Rattle.overlap_law.specs.Past.{FinishedList, MomentWithPast}
+use Rattle.overlap_law.specs.Lists.{ListsAreComplete}
 use Rattle.overlap_law.specs.Facts.{CompleteLists, EachGood}
 use Rattle.overlap_law.specs.Headline.{IsLegalWhereAvailable}
 use Rattle.overlap_law.specs.Each.{EachHost}
@@ -86,11 +87,16 @@ base-there oid attempts base h =
 pub gives-legal : (moment : MomentWithPast) → Overlap moment → IsLegalWhereAvailable moment.past
 gives-legal moment o = o.legal
 
-pub gives-complete : (moment : MomentWithPast) → Overlap moment → EachGood moment.world moment.past (CompleteLists moment.past.listed moment.world.hosts)
-gives-complete moment o oid good = record {
-  each = λ base h n host there listed below.
-      o.searches.complete.each n host there oid base.epoch listed good below (base-there oid moment.past.attempts base h);
+-- complete lists have the object where its base is of an earlier epoch
+pub complete_lists : {good : ℕ → Bool} {listed : List FinishedList} {hosts : Hosts} {attempts : List AttemptRecord}
+    → ListsAreComplete good listed hosts attempts → (oid : ℕ) → good oid ≡ true → CompleteLists listed hosts oid (attempts_on oid attempts)
+complete_lists {good} {listed} {hosts} {attempts} complete oid is_good = record {
+  each = λ base h n host there is_listed below.
+      complete.each n host there oid base.epoch is_listed is_good below (base-there oid attempts base h);
 }
+
+pub gives-complete : (moment : MomentWithPast) → Overlap moment → EachGood moment.world moment.past (CompleteLists moment.past.listed moment.world.hosts)
+gives-complete moment o = complete_lists o.searches.complete
 
 pub gone-fenced : (log : List Entry) (hosts : Hosts) (wire : Wire) → TheGoneAreFenced log hosts wire
     → EachHost hosts (λ n host. (epoch : ℕ) (name : MessageName) (to : NodeId) (bytes : List ℕ) (request : PeerReq)
@@ -129,6 +135,13 @@ settled-complete log epoch above is = ⊎_elim
     (λ (first : (epoch == 1) ≡ true). absurd (let e : epoch ≡ 1 = eqb-true epoch 1 first in omega arith))
     (λ (all : (length (missing_in log epoch) == 0) ≡ true). all)
     (or_cases (epoch == 1) (length (missing_in log epoch) == 0) is)
+
+-- who is a member of the settled epoch has recovered in it, by the log itself
+pub settled-stands : (log : List Entry) (node : ℕ) → 1 < settled_of log → is_member node (members_in log (settled_of log)) ≡ true
+    → has_recovered log (settled_of log) node ≡ true
+settled-stands log node above there =
+    none-missing (has_recovered log (settled_of log)) node (members_in log (settled_of log))
+    (settled-complete log (settled_of log) above (greatest-passes (is_settled log) (epoch_of log) (omega arith))) there
 
 pub settled-recovered : (log : List Entry) (hosts : Hosts) → TheSettledHaveRecovered log hosts
 settled-recovered log hosts = record {

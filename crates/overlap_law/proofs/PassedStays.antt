@@ -28,17 +28,18 @@ use Rattle.overlap_law.specs.Holders.{targets_by}
 use Rattle.overlap_law.specs.Past.{MomentWithPast, run_with_past}
 use Rattle.overlap_law.specs.Each.{row_covers, holds_level, has_reached, policy_in}
 use Rattle.overlap_law.specs.Rows.{RowsAreAtTargets}
-use Rattle.overlap_law.specs.Searches.{index_held, with_number, indexes_held}
+use Rattle.overlap_law.specs.Searches.{index_held, with_number, indexes_held, PassedLevelsLackRows}
 use Rattle.overlap_law.specs.MomentChanges.{MomentChange, MomentTrail, RunsAreInRange}
-use Rattle.overlap_law.specs.Overlap.{OverlapAt}
 use Rattle.overlap_law.proofs.BeyondInMoments.{recovers_own}
 use Rattle.overlap_law.proofs.EarlierLevels.{had_row}
 use Rattle.overlap_law.proofs.IndexesHeld.{AllBelow, held, new_number, one_more_below, longer_fold, need_of_copy, place_of, targets_apart_in, index_of_target, any_found}
 use Rattle.overlap_law.proofs.FinishedInMoments.{TermsHold, kept_terms}
+use Rattle.overlap_law.proofs.FirstSearchesInRuns.{listing-on_the_way, search_first-on_the_way}
 use Rattle.overlap_law.proofs.HeldLevels.{members_came}
 use Rattle.overlap_law.proofs.LogsInMoments.{LogGrows, log_grows, same_members}
 use Rattle.overlap_law.proofs.NoRecoveredDue.{began-with_past}
-use Rattle.overlap_law.proofs.ReadInMoments.{epoch_within}
+use Rattle.overlap_law.proofs.PlacedInMoments.{placed-on_the_way}
+use Rattle.overlap_law.proofs.ReadInMoments.{are_present, epoch_within}
 use Rattle.overlap_law.proofs.RunsByChanges.{on_the_way}
 use Rattle.overlap_law.proofs.ShapedAttempts.{targets_stay}
 use Rattle.overlap_law.proofs.UnpassedLevels.{kept_log}
@@ -53,7 +54,7 @@ no_more_with numbers number = by_test (list_any (λ other. other == number) numb
     by_test true = omega arith
     by_test false = let sum = length-append numbers (number ∷ []) in omega (arith, sum)
 
-no_more_fold : (numbers more : List ℕ) → length (fold with_number numbers more) ≤ length numbers + length more
+pub no_more_fold : (numbers more : List ℕ) → length (fold with_number numbers more) ≤ length numbers + length more
 no_more_fold numbers [] = omega arith
 no_more_fold numbers (number ∷ more) =
     let one = no_more_with numbers number in
@@ -267,7 +268,8 @@ module _ (script : List Statement) (range : RunsAreInRange script) (start before
 
 module _ (script : List Statement) (range : RunsAreInRange script) (events : List Event) (start before after : MomentWithPast)
     (is : run_with_past script events ≡ Some start) (trail : MomentTrail script start before) (change : MomentChange script start before after)
-    (live good good_id : ℕ → Bool) (overlap : OverlapAt live good good_id before) where
+    (good : ℕ → Bool)
+    (lack : PassedLevelsLackRows (targets_by before.world.log) before.world.log (log_effects before.world.log) good before.world.hosts) where
   terms : TermsHold before
   terms = on_the_way script TermsHold (kept_terms script range) events start before is trail
 
@@ -277,7 +279,7 @@ module _ (script : List Statement) (range : RunsAreInRange script) (events : Lis
     listed true so = refl
     listed false unlisted =
         let none : search_on (recovery_state_of was.node) ≡ None
-        = ap (still_on was.node.peer.pending) (overlap.searches.listing.search n was at up unlisted) in
+        = ap (still_on was.node.peer.pending) ((listing-on_the_way script range events start before is trail).search n was at up unlisted) in
         absurd (cc (none, on))
 
     pub still_passed : (policy : Policy) (level : ℕ) → good search.oid ≡ true → policy_in (log_effects before.world.log) search.oid ≡ Some policy
@@ -285,14 +287,14 @@ module _ (script : List Statement) (range : RunsAreInRange script) (events : Lis
         → length (indexes_held (targets_by after.world.log) after.world.log after.world.hosts search.oid level was.node.recovery.epoch policy)
         < need_of policy (kind_of search.oid)
     still_passed policy level good_so policy_so passed below =
-        let later : 1 < was.node.recovery.epoch = (let above = overlap.searches.search_first.above n was at up search on in omega (arith, above, passed, below)) in
+        let later : 1 < was.node.recovery.epoch = (let above = (search_first-on_the_way script range events start before is trail).above n was at up search on in omega (arith, above, passed, below)) in
         let own : was.node.recovery.epoch ≡ was.node.peer.epoch
         = recovers_own before.world.log n was (terms.sound.each n was at) (terms.stood.stood n was at up) later in
         let most = epoch_within before.world.log n was.node.me was.node.peer (terms.sound.each n was at).read in
         stays_passed script range start before after (began-with_past script events start is) change (log_grows script change) terms.stood.some
         (on_the_way script (λ (m : MomentWithPast). IsLog m.world.log) (kept_log script range) events start before is trail)
-        (log_effects before.world.log) overlap.rows.placed search.oid level was.node.recovery.epoch policy policy_so below
+        (log_effects before.world.log) (placed-on_the_way script range events start before is trail) search.oid level was.node.recovery.epoch policy policy_so below
         (omega (arith, own, most))
-        (members_came before.world.log before.world.hosts overlap.terms.present overlap.terms.answered n was at
+        (members_came before.world.log before.world.hosts (are_present before terms.sound) terms.answers.answered n was at
         (listed (is_listed was.node.recovery) refl) later)
-        (overlap.searches.passed.each n was at up search policy level on good_so policy_so passed below)
+        (lack.each n was at up search policy level on good_so policy_so passed below)

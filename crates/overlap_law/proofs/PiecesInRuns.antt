@@ -53,6 +53,7 @@ use Rattle.overlap_law.proofs.GrantedEpochs.{spec_known}
 use Rattle.overlap_law.proofs.KnownAsks.{IsKnownMessage, sent_known}
 use Rattle.overlap_law.proofs.KnownDiskSteps.{effects_after, work_known}
 use Rattle.overlap_law.proofs.KnownDisksInRuns.{caused_known, read_reservable, nodes_know}
+use Rattle.overlap_law.proofs.PlacesTaken.{places_taken}
 use Rattle.overlap_law.proofs.SendsOfChanges.{received_nothing, put_sends}
 use Rattle.overlap_law.proofs.SendsOfWorks.{SendIs, attempt_sends, step_sends}
 use Rattle.overlap_law.proofs.SentPieces.{pieces_asked, asks_no_piece, pieces_stay}
@@ -127,13 +128,14 @@ module _ (script : List Statement) (range : RunsAreInRange script) where
           → All (PieceIs (log_effects entries)) (node_step input host.node).outputs.sends
       by_works not received =
           step_sends (PiecesEndInRows (log_effects entries)) input host.node
-          (λ so_far leads session req asked lined comes.
+          (λ so_far leads session req asked lined comes enough onward.
           attempt_sends (PiecesEndInRows (log_effects entries)) asked lined.node
           (pieces_asked (log_effects entries) (spec_valid entries reservable) asked.work
           (turn_whole input host.node (may_change script range world began n host there up cause not caused)
           (named script range world began n host there up cause caused) (sound_here script range world began n host there up)
           (caused_known script range.is_script (effects_after input host.node) world n host cause caused)
           (no_object script world n host cause caused) (nodes_know script range world began n host there)
+          (places_taken script range world began n host there up cause caused)
           (nodes_whole script range world began n host there) so_far leads session req asked lined comes)
           (work_known input host.node reservable
           (caused_known script range.is_script (effects_after input host.node) world n host cause caused)

@@ -50,7 +50,7 @@ use Rattle.overlap_law.specs.Holders.{targets_by}
 use Rattle.overlap_law.specs.Past.{MomentWithPast, first_moment, run_with_past}
 use Rattle.overlap_law.specs.ShapedAttempts.{AreShaped}
 use Rattle.overlap_law.specs.Rows.{RowsAreAtTargets}
-use Rattle.overlap_law.specs.MomentChanges.{MomentChange, RunsAreInRange, KeptByChanges}
+use Rattle.overlap_law.specs.MomentChanges.{MomentChange, MomentTrail, RunsAreInRange, KeptByChanges}
 use Rattle.overlap_law.specs.Traffic.{asks_making}
 use Rattle.overlap_law.proofs.AskedKeys.{own_epoch, key_asked}
 use Rattle.overlap_law.proofs.DistinctTargets.{index-of_place}
@@ -64,7 +64,7 @@ use Rattle.overlap_law.proofs.PlacedRows.{IsPlaced, ArePlacedAt, HasPlace, grown
 use Rattle.overlap_law.proofs.RangeOfRuns.{nodes_sound}
 use Rattle.overlap_law.proofs.ReadInMoments.{HostsAreSound, epoch_within, kept_sound}
 use Rattle.overlap_law.proofs.RowSteps.{IsRowStep, RowsChange, RowsStay, RowsStep, RowsAreNew, none_at_first, all_at, rows_change}
-use Rattle.overlap_law.proofs.RunsByChanges.{run-kept}
+use Rattle.overlap_law.proofs.RunsByChanges.{run-kept, on_the_way}
 use Rattle.overlap_law.proofs.ShapedAttempts.{entered_newest, kept_shaped}
 use Rattle.overlap_law.proofs.StoredRows.{IsRecovering, step-rows_while_pending}
 
@@ -308,16 +308,25 @@ module _ (script : List Statement) (range : RunsAreInRange script) where
         };
   }
 
-module _ (script : List Statement) (range : RunsAreInRange script) (events : List Event) (moment : MomentWithPast)
-    (is : run_with_past script events ≡ Some moment) where
-  pub placed-in_run : RowsAreAtTargets (targets_by moment.world.log) (log_effects moment.world.log) moment.world.hosts
-  placed-in_run = record {
-    each = λ n host there oid i row got policy epoch made covers.
-        let holds = run-kept script RowsArePlaced (kept_placed script range) events moment is in
-        let own : IsPlaced moment.world.log n host.node.peer.epoch oid row
-        = all_at (IsPlaced moment.world.log n host.node.peer.epoch oid) (rows_of host.node.peer.rows oid) i row got
-        (holds.placed n host there oid) in
-        let same : own.policy ≡ policy = same_Some own.policy policy (sym own.made ∙ made) in
-        subst (λ (p : Policy). index_of_part (targets_by moment.world.log) epoch oid p (record { 0 = n }) ≡ Some row.index) same
-        (own.placed epoch covers);
-  }
+-- where rows are placed, they are at targets
+at_targets : (moment : MomentWithPast) → RowsArePlaced moment
+    → RowsAreAtTargets (targets_by moment.world.log) (log_effects moment.world.log) moment.world.hosts
+at_targets moment holds = record {
+  each = λ n host there oid i row got policy epoch made covers.
+      let own : IsPlaced moment.world.log n host.node.peer.epoch oid row
+      = all_at (IsPlaced moment.world.log n host.node.peer.epoch oid) (rows_of host.node.peer.rows oid) i row got
+      (holds.placed n host there oid) in
+      let same : own.policy ≡ policy = same_Some own.policy policy (sym own.made ∙ made) in
+      subst (λ (p : Policy). index_of_part (targets_by moment.world.log) epoch oid p (record { 0 = n }) ≡ Some row.index) same
+      (own.placed epoch covers);
+}
+
+module _ (script : List Statement) (range : RunsAreInRange script) (events : List Event) where
+  pub placed-in_run : (moment : MomentWithPast) → run_with_past script events ≡ Some moment
+      → RowsAreAtTargets (targets_by moment.world.log) (log_effects moment.world.log) moment.world.hosts
+  placed-in_run moment is = at_targets moment (run-kept script RowsArePlaced (kept_placed script range) events moment is)
+
+  pub placed-on_the_way : (start moment : MomentWithPast) → run_with_past script events ≡ Some start → MomentTrail script start moment
+      → RowsAreAtTargets (targets_by moment.world.log) (log_effects moment.world.log) moment.world.hosts
+  placed-on_the_way start moment is trail =
+      at_targets moment (on_the_way script RowsArePlaced (kept_placed script range) events start moment is trail)

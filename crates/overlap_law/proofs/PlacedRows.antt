@@ -63,7 +63,7 @@ pub record HasPlace (log : List Entry) (n epoch oid index : ℕ) : Type 0 where
 -- ---- a log that grows
 
 -- an object's policy is known by a log that isn't empty
-some_by_policy : (log : List Entry) (oid : ℕ) (policy : Policy) → policy_in (log_effects log) oid ≡ Some policy → 1 ≤ length log
+pub some_by_policy : (log : List Entry) (oid : ℕ) (policy : Policy) → policy_in (log_effects log) oid ≡ Some policy → 1 ≤ length log
 some_by_policy log oid policy made = by_spec (spec_in (log_effects log) (vid_of oid)) refl made
   where
     by_spec : (o : Option VdiSpec) → spec_in (log_effects log) (vid_of oid) ≡ o

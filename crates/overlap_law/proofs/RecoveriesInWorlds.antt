@@ -19,10 +19,10 @@ use Rattle.sheep_world.specs.HostChanges.{HostsKeep}
 use Rattle.sheep_world.specs.Began.{Began}
 use Rattle.sheep_world.proofs.BegunWorlds.{each_where}
 use Rattle.overlap_law.specs.Past.{MomentWithPast, run_with_past}
-use Rattle.overlap_law.specs.MomentChanges.{MomentTrail, RunsAreInRange}
+use Rattle.overlap_law.specs.MomentChanges.{MomentTrail, RunsAreInRange, KeptByChanges}
 use Rattle.overlap_law.proofs.ListedNodes.{opening_lists}
 use Rattle.overlap_law.proofs.NodePartsInMoments.{HasPartsOf}
-use Rattle.overlap_law.proofs.NodesOnTheWay.{nodes-on_the_way}
+use Rattle.overlap_law.proofs.NodesOnTheWay.{nodes-on_the_way, nodes-kept}
 use Rattle.overlap_law.proofs.RecoveriesOfSteps.{KeptByRecoveries, step-recovery_so}
 use Rattle.overlap_law.proofs.SoundNodes.{sound_in_worlds}
 
@@ -65,3 +65,8 @@ module _ (script : List Statement) (Q : ℕ → Recovery → Peer → Type 0)
       → MomentTrail script start moment → (n : ℕ) (host : Host) → tree.get moment.world.hosts n ≡ Some host
       → Q n host.node.recovery host.node.peer
   recoveries-on_the_way = nodes-on_the_way script (λ n node. Q n node.recovery node.peer) same_so holds
+
+  -- so each change of a moment keeps it
+  pub recoveries-kept : KeptByChanges script (λ (moment : MomentWithPast). (n : ℕ) (host : Host)
+      → tree.get moment.world.hosts n ≡ Some host → Q n host.node.recovery host.node.peer)
+  recoveries-kept = nodes-kept script (λ n node. Q n node.recovery node.peer) same_so holds

@@ -65,7 +65,7 @@ answered_less (asks.Read key offset size) peer =
 answered_less asks.List peer = inl refl
 answered_less (asks.RecoverRead oid level) peer = inl refl
 
-served_less : (peer : Peer) (request : PeerReq) → IsLessPending peer.pending (peer_step peer request).peer.pending
+pub served_less : (peer : Peer) (request : PeerReq) → IsLessPending peer.pending (peer_step peer request).peer.pending
 unfolding peer_step
 served_less peer request = by_fence (epoch_refusal peer.epoch request.epoch.0)
   where
@@ -75,7 +75,7 @@ served_less peer request = by_fence (epoch_refusal peer.epoch request.epoch.0)
 
 -- ---- an entry is read
 
-entered_less : (entry : Entry) (node : Node) → IsLessPending node.peer.pending (peer_with_entry entry node).pending
+pub entered_less : (entry : Entry) (node : Node) → IsLessPending node.peer.pending (peer_with_entry entry node).pending
 unfolding read_entry without_objects peer_in_next_epoch
 entered_less entry node =
     let goes = kills_object entry node.peer in

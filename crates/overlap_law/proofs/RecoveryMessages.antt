@@ -268,7 +268,7 @@ module _ (first : ℕ) (state : RecoveryState) (idle : state.recovery.unanswered
           (to_each state.recovery first 0 asks.List state.recovery.search state.recovery.lists.waiting (if_any state.recovery.search)))
 
 -- nothing waits where a tick may be made
-idle_before_tick : (state : RecoveryState) → can_tick state ≡ true → state.recovery.unanswered ≡ []
+pub idle_before_tick : (state : RecoveryState) → can_tick state ≡ true → state.recovery.unanswered ≡ []
 idle_before_tick state may =
     none_of state.recovery.unanswered state.recovery.older (and_parts (not (is_finished state)) (length (all_unanswered state.recovery) == 0) may).1
   where

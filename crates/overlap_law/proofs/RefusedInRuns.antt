@@ -98,7 +98,7 @@ module _ (script : List Statement) where
   }
 
   -- what a session began is asked in it
-  begun_asking : (guests : Guests) (session req : ℕ) → WasBegun script guests session req → session_asking script req ≡ Some session
+  pub begun_asking : (guests : Guests) (session req : ℕ) → WasBegun script guests session req → session_asking script req ≡ Some session
   begun_asking guests session req begun =
       let asks = next_asks script session begun.place req begun.there in
       ap (option_and_then session_of) asks.stands ∙ asks.own
@@ -282,7 +282,7 @@ module _ (script : List Statement) where
 
   -- the requests of a node, and that of the guest which its step begins with, were begun
   module _ (world : World) (began : Began script world) (n : ℕ) (host : Host) (there : tree.get world.hosts n ≡ Some host) where
-    node_begun : (req : ℕ) (request : Request) → tree.get host.node.requests req ≡ Some request → WasBegun script world.guests request.session req
+    pub node_begun : (req : ℕ) (request : Request) → tree.get host.node.requests req ≡ Some request → WasBegun script world.guests request.session req
     node_begun req request got =
         let begun = were_begun script world began n host there req request got in
         let asked = are_asked script world began n host there req request got in
@@ -382,7 +382,7 @@ module _ (script : List Statement) where
   abbrev pub AreAnsweredAt : MomentWithPast → Type 0
   AreAnsweredAt moment = AreAnswered moment.world.guests moment.past.refused
 
-  none_unanswered : (session : ℕ) (started : StartedRequest) → Contains (unanswered_in session tree.empty) started → ⊥
+  pub none_unanswered : (session : ℕ) (started : StartedRequest) → Contains (unanswered_in session tree.empty) started → ⊥
   none_unanswered session started there =
       Contains-nil started
       (subst (λ (o : Option SessionProgress). Contains (unwrap_or o no_progress).unanswered started) (tree.get-empty {X = SessionProgress} nat_cmp session) there)

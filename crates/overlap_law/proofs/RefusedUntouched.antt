@@ -42,7 +42,7 @@ use Rattle.overlap_law.proofs.TouchedStay.{Arrives, next_came}
 use Rattle.overlap_law.proofs.WorkedCourses.{HadNoWork, is_past_first, may_have_worked}
 
 -- an input tells one thing of a message
-told_once : (input : Input) (one other : ℕ) (status another : Status) → IsTold input one status → IsTold input other another → status ≡ another
+pub told_once : (input : Input) (one other : ℕ) (status another : Status) → IsTold input one status → IsTold input other another → status ≡ another
 told_once (inputs.Guest req session ask) one other status another told too = absurd told
 told_once (inputs.Request request) one other status another told too = absurd told
 told_once (inputs.Reply rsp) one other status another told too = sym told.1 ∙ too.1
@@ -53,7 +53,7 @@ told_once inputs.RecoverTick one other status another told too = absurd told
 told_once inputs.RetryTick one other status another told too = absurd told
 told_once (inputs.Back entries) one other status another told too = absurd told
 
-if_some : {X : Type 0} (b : Bool) (o : Option X) (x : X) → cond b o None ≡ Some x → b ≡ true
+pub if_some : {X : Type 0} (b : Bool) (o : Option X) (x : X) → cond b o None ≡ Some x → b ≡ true
 if_some {X = X} true o x is = refl
 if_some {X = X} false o x is = absurd (cc (is))
 
@@ -168,7 +168,7 @@ module _ (input : Input) (node : Node) (sound : IsSoundStep input node) (so_far 
   unfolding request_ended
   end_refuses session req given now may before = one_refuses req given now.outputs.replies may before
 
-  steps_silent : (session req : ℕ) (next : Outcome) (moved : StepState) → RequestSteps input node so_far session req next moved
+  pub steps_silent : (session req : ℕ) (next : Outcome) (moved : StepState) → RequestSteps input node so_far session req next moved
       → moved.outputs.replies ≡ so_far.outputs.replies
   steps_silent session req next moved (DiskBegins ask disk there on may) = refl
   steps_silent session req next moved (DiskGoesOn number work attempt status bytes driver disk step ends on is) = refl
@@ -182,7 +182,7 @@ module _ (input : Input) (node : Node) (sound : IsSoundStep input node) (so_far 
   steps_silent session req next moved (EntryBegins entry arrival) = refl
   steps_silent session req next moved (EntryDecided entry wanted from read there waits) = refl
 
-  next_silent : (session req : ℕ) (asked : Work) (lined : StepState) → WorkIsNext input node so_far session req asked lined
+  pub next_silent : (session req : ℕ) (asked : Work) (lined : StepState) → WorkIsNext input node so_far session req asked lined
       → lined.outputs.replies ≡ so_far.outputs.replies
   next_silent session req asked lined (AtOnce work moved steps begins) = steps_silent session req (ToWork work) moved steps
   next_silent session req asked lined (InTurn work later none is) = refl

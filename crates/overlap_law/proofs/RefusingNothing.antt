@@ -28,7 +28,7 @@ RefusesNothing (ToWork work) = Unit {0}
 RefusesNothing (ToEntry entry) = Unit {0}
 RefusesNothing (ToReply reply) = is_refusal reply ≡ false
 
-read_refuses_nothing : (inode : Content) (told : List ℕ) (pieces : List Piece) → RefusesNothing (outcome_of_driver (read_on inode told pieces).act)
+pub read_refuses_nothing : (inode : Content) (told : List ℕ) (pieces : List Piece) → RefusesNothing (outcome_of_driver (read_on inode told pieces).act)
 unfolding read_on
 read_refuses_nothing inode told [] = refl
 read_refuses_nothing inode told (piece ∷ rest) = by_entry (entry_of inode piece == 0) (read_refuses_nothing inode (told ++ zeros piece.size) rest)
@@ -39,7 +39,7 @@ read_refuses_nothing inode told (piece ∷ rest) = by_entry (entry_of inode piec
     by_entry true behind = behind
     by_entry false behind = tt
 
-write_refuses_nothing : (inode : Content) (payload : List ℕ) (pieces : List Piece) → RefusesNothing (outcome_of_driver (write_on inode payload pieces).act)
+pub write_refuses_nothing : (inode : Content) (payload : List ℕ) (pieces : List Piece) → RefusesNothing (outcome_of_driver (write_on inode payload pieces).act)
 write_refuses_nothing inode payload [] = refl
 write_refuses_nothing inode payload (piece ∷ rest) = by_backing (backing_of inode piece)
   where

@@ -100,7 +100,7 @@ module _ (input : Input) (node : Node) where
       (ap (λ (s : StepState). s.outputs.replies) arrival.first)
   steps_apart so_far session req next moved (EntryDecided entry wanted from read there waits) apart = apart
 
-  comes_apart : (so_far : StepState) (session req : ℕ) (tried : Work) (lined : StepState) → WorkIsNext input node so_far session req tried lined
+  pub comes_apart : (so_far : StepState) (session req : ℕ) (tried : Work) (lined : StepState) → WorkIsNext input node so_far session req tried lined
       → ApartIn so_far → ApartIn lined
   comes_apart so_far session req tried lined (AtOnce work moved steps begins) apart = steps_apart so_far session req (ToWork work) moved steps apart
   comes_apart so_far session req tried lined (InTurn work later none is) apart = apart

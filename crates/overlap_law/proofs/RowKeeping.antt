@@ -107,7 +107,9 @@ module _ (Q : Search → Type 0) (R : ℕ → ℕ → SeenRow → Type 0) (node 
         → message_of number node.recovery.unanswered ≡ Some message → (oid : ℕ) (level : Epoch)
         → message.request.ask ≡ asks.RecoverRead oid level → (search : Search) → search_on (recovery_state_of node) ≡ Some search
         → search.oid ≡ oid → Q (search_after_answer message.to said search)
-    pub anew : (oid level : ℕ) → Q (search_at oid level)
+    -- a tick begins the search that is on anew, or that of the first pending object, below the recovery's epoch
+    pub anew : (search : Search) → search_on (recovery_state_of node) ≡ Some search → Q (search_at search.oid search.level)
+    pub first : (oid : ℕ) → Q (search_at oid (node.recovery.epoch - 1))
     -- the recovery finds the row of an object
     pub found : MayFind input → (recovery : Recovery) → recovery.me ≡ node.recovery.me → recovery.epoch ≡ node.recovery.epoch
         → (search : Search)

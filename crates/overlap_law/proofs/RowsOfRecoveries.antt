@@ -115,7 +115,7 @@ position_inside test xs place at = by_place (nat_lt (position_or_len test xs) (l
         (ltb-true (position_or_len test xs) (length xs) below)
     by_place false past is = absurd (cc (is))
 
-index_small : (node : NodeId) (targets : List NodeId) (policy : Policy) (kind : Kind) → IsPolicy policy
+pub index_small : (node : NodeId) (targets : List NodeId) (policy : Policy) (kind : Kind) → IsPolicy policy
     → length targets ≤ wanted_of policy kind
     → unwrap_or (index_among node targets policy kind) 0 < wanted_of policy kind
 index_small node targets policy kind is few = by_place (position (λ (target : NodeId). target.0 == node.0) targets) refl

@@ -160,12 +160,19 @@ ticked_came H first state =
 
 -- ---- a recovery begins
 
-begun-none : (epoch : ℕ) (members : List NodeId) (state : RecoveryState) → (recovery_from_epoch epoch members state).recovery.search ≡ None
+pub begun-none : (epoch : ℕ) (members : List NodeId) (state : RecoveryState) → (recovery_from_epoch epoch members state).recovery.search ≡ None
 unfolding recovery_from_epoch
 begun-none epoch members state =
     let begun : RecoveryState = at_start epoch members state in
     cond_either (λ (s : RecoveryState). s.recovery.search ≡ None) (is_listed begun.recovery)
     (record begun { shown = shown_with_pending (to_recover begun) begun.shown }) begun refl refl
+
+-- who comes back searches nothing
+pub back_none : (entries : List Entry) (node : Node) → (input_received (inputs.Back entries) (at_first node)).node.recovery.search ≡ None
+unfolding on_back
+back_none entries node =
+    let back : Node = come_back_with entries node in
+    begun-none back.peer.epoch (map (λ (member : Member). member.node) (epoch_members back)) (recovery_state_of back)
 
 -- ---- a message ends
 

@@ -1,7 +1,7 @@
 -- What a node sends to create is as the rows of its objects are: so it is for each attempt that begins in a step.
-use Rattle.std.proofs.Common.{◌≡◌, arith, ℕ, suc, ◌+◌, ◌/◌, ◌%◌, ◌<◌, ◌≤◌, List, [], ◌∷◌, length, map, All, refl, sym, ap, subst, ◌∙◌}
+use Rattle.std.proofs.Common.{◌≡◌, arith, ℕ, suc, ◌+◌, ◌/◌, ◌%◌, ◌<◌, ◌≤◌, List, [], ◌∷◌, length, map, All, refl, ap, subst, ◌∙◌}
 use Rattle.std.specs.List.{enumerate_from}
-use Rattle.std.proofs.lemmas.List.Elements.{All-nil, All-cons, All-head, All-tail, All-append}
+use Rattle.std.proofs.lemmas.List.Elements.{All-nil, All-cons, All-head, All-tail}
 use Rattle.proof_tools.proofs.Booleans.{cond_either}
 use Rattle.proof_tools.proofs.FiniteMaps.{get-insert_same}
 use Rattle.object_id.specs.declared.node.Epoch.{Epoch}
@@ -23,29 +23,26 @@ use Rattle.peer_proto.specs.Work.{oid_of, policy_of}
 use Rattle.peer_service.specs.State.{object_size}
 use Rattle.vdi_directory.specs.declared.effect.Effect.{Effect}
 use Rattle.vdi_directory.specs.Decisions.{log_effects}
-use Rattle.gateway.specs.Work.{ask_for, targets_asked, zones_for}
+use Rattle.gateway.specs.Work.{ask_for, targets_asked}
 use Rattle.gateway.specs.Attempt.{message_for, send_of}
 use Rattle.gateway.specs.State.{Work, Open}
-use Rattle.object_id.specs.declared.cause.Cause.TheVariants.{Halt}
 use Rattle.vnode_table.specs.Targets.{targets_in}
 use Rattle.sheep_node.specs.declared.input.Input.{Input}
 use Rattle.sheep_node.specs.State.{Node}
-use Rattle.sheep_node.specs.StepState.{StepState, at_first}
+use Rattle.sheep_node.specs.StepState.{at_first}
 use Rattle.sheep_node.specs.StepFacts.{read_after}
 use Rattle.sheep_node.specs.Step.{node_step}
 use Rattle.sheep_node.specs.May.{May}
 use Rattle.sheep_node.specs.OutsideAsks.{InputNamesObjects}
 use Rattle.sheep_node.specs.NodeInvariant.{IsSoundNode}
 use Rattle.sheep_node.specs.WorkRange.{IsWorkInRange}
-use Rattle.sheep_node.specs.Changes as changes
-use Rattle.sheep_node.specs.Changes.{ToWork, attempt_in, WorkIsNext, Change, Leads, input_received}
+use Rattle.sheep_node.specs.Changes.{attempt_in, with_open_attempt, input_received}
 use Rattle.sheep_node.proofs.SoundLaws.{works_sound_in_chain}
-use Rattle.sheep_node.proofs.StepChain.{step_chain}
 use Rattle.sheep_world.proofs.RangeBySteps.{few_targets}
 use Rattle.overlap_law.specs.RowsInRange.{CreatesAsRowsAre}
 use Rattle.overlap_law.proofs.KnownDisks.{IsKnownWork}
 use Rattle.overlap_law.proofs.KnownDiskSteps.{AreOnKnown, IsKnownInput, effects_after, work_known}
-use Rattle.overlap_law.proofs.SendsOfChanges.{next_sends_nothing, steps_send_nothing, end_sends_nothing, refusal_sends_nothing, denial_sends_nothing}
+use Rattle.overlap_law.proofs.SendsOfWorks.{SendIs, places_so, OpensSo, step_sends}
 
 -- the part of a piece inside an object ends inside the object's part
 pub parts_inside : (policy : Policy) (kind : Kind) (offset long size : ℕ) → IsPolicy policy → IsAligned policy kind offset
@@ -69,7 +66,7 @@ index_below policy kind place wanted below =
 
 module _ (effects : List Effect) where
   abbrev pub SentSo : NodeId × PeerReq → Type 0
-  SentSo send = CreatesAsRowsAre effects send.1.ask
+  SentSo = SendIs (CreatesAsRowsAre effects)
 
   -- ---- what is asked of one target
 
@@ -122,24 +119,23 @@ module _ (effects : List Effect) where
       All-cons (λ (place : ℕ × NodeId). place.0 < wanted) (place, node) (enumerate_from (place + 1) targets) below
       (places_below wanted (place + 1) targets (omega (arith, count)))
 
-  -- only a create makes rows
-  others_so : (me : NodeId) (epoch : Epoch) (work : ObjWork) → ((index : ℕ) → CreatesAsRowsAre effects (ask_for work index)) → (first : ℕ)
-      (places : List (ℕ × NodeId)) → All SentSo (map (send_of me epoch work) (map (message_for work) (enumerate_from first places)))
-  others_so me epoch work all first [] = All-nil SentSo
-  others_so me epoch work all first (place ∷ places) =
-      All-cons SentSo (send_of me epoch work (message_for work (first, place)))
-      (map (send_of me epoch work) (map (message_for work) (enumerate_from (first + 1) places)))
-      (all (index_at (policy_of work) (kind_of (oid_of work)) place.0)) (others_so me epoch work all (first + 1) places)
+  abbrev SentFor : Work → Node → ObjWork → Type 0
+  SentFor asked node work =
+      All SentSo (map (send_of node.gateway.me (record { 0 = node.peer.epoch }) work)
+      (map (message_for work)
+      (enumerate_from node.sends (targets_asked work asked.ended (targets_in node.epochs node.peer.epoch (oid_of work) (policy_of work))))))
 
   attempt_so : (asked : Work) (node : Node) → IsWorkInRange asked.work → IsKnownWork effects asked.work
       → All SentSo (map (send_of node.gateway.me (record { 0 = node.peer.epoch }) asked.work) (attempt_in asked node).messages)
   attempt_so asked node range known = by_work asked.work range known
     where
-      by_work : (work : ObjWork) → IsWorkInRange work → IsKnownWork effects work
-          → All SentSo (map (send_of node.gateway.me (record { 0 = node.peer.epoch }) work)
-          (map (message_for work)
-          (enumerate_from node.sends (targets_asked work asked.ended
-          (targets_in node.epochs node.peer.epoch (oid_of work) (policy_of work))))))
+      -- only a create makes rows
+      other : (work : ObjWork) → ((index : ℕ) → CreatesAsRowsAre effects (ask_for work index)) → SentFor asked node work
+      other work all =
+          places_so (CreatesAsRowsAre effects) node.gateway.me (record { 0 = node.peer.epoch }) work all node.sends
+          (targets_asked work asked.ended (targets_in node.epochs node.peer.epoch (oid_of work) (policy_of work)))
+
+      by_work : (work : ObjWork) → IsWorkInRange work → IsKnownWork effects work → SentFor asked node work
       by_work (works.Create oid policy size offset bytes) range known =
           let targets : List NodeId = targets_in node.epochs node.peer.epoch oid policy in
           let most : length targets ≤ wanted_of policy (kind_of oid) = few_targets node.epochs node.peer.epoch oid policy in
@@ -147,15 +143,9 @@ module _ (effects : List Effect) where
           sends_so node.gateway.me (record { 0 = node.peer.epoch }) (works.Create oid policy size offset bytes) node.sends
           (enumerate_from 0 targets)
           range known (places_below (wanted_of policy (kind_of oid)) 0 targets few)
-      by_work (works.Write oid policy offset bytes) range known =
-          others_so node.gateway.me (record { 0 = node.peer.epoch }) (works.Write oid policy offset bytes) (λ index. tt) node.sends
-          (targets_asked (works.Write oid policy offset bytes) asked.ended (targets_in node.epochs node.peer.epoch oid policy))
-      by_work (works.Read oid policy offset size) range known =
-          others_so node.gateway.me (record { 0 = node.peer.epoch }) (works.Read oid policy offset size) (λ index. tt) node.sends
-          (targets_asked (works.Read oid policy offset size) asked.ended (targets_in node.epochs node.peer.epoch oid policy))
-      by_work (works.ReadAll oid policy size) range known =
-          others_so node.gateway.me (record { 0 = node.peer.epoch }) (works.ReadAll oid policy size) (λ index. tt) node.sends
-          (targets_asked (works.ReadAll oid policy size) asked.ended (targets_in node.epochs node.peer.epoch oid policy))
+      by_work (works.Write oid policy offset bytes) range known = other (works.Write oid policy offset bytes) (λ index. tt)
+      by_work (works.Read oid policy offset size) range known = other (works.Read oid policy offset size) (λ index. tt)
+      by_work (works.ReadAll oid policy size) range known = other (works.ReadAll oid policy size) (λ index. tt)
 
   -- ---- along a step
 
@@ -163,55 +153,13 @@ module _ (effects : List Effect) where
       (reservable : All IsReservable (read_after input node.peer.entries)) (asked_known : IsKnownInput (effects_after input node) input)
       (on_known : AreOnKnown (log_effects node.peer.entries) node)
       (later : (work : ObjWork) → IsKnownWork (effects_after input node) work → IsKnownWork effects work) where
-    abbrev first : StepState
-    first = input_received input (at_first node)
-
-    same_sends : (so_far next : StepState) → next.outputs.sends ≡ so_far.outputs.sends → All SentSo so_far.outputs.sends
-        → All SentSo next.outputs.sends
-    same_sends so_far next same all = subst (All SentSo) (sym same) all
-
-    change_sends : (so_far next : StepState) → Leads input node first so_far → (change : Change input node so_far next)
-        → Leads input node first next → All SentSo so_far.outputs.sends → All SentSo next.outputs.sends
-    change_sends so_far next leads (changes.Marks req number work attempt status learns over) onward all = all
-    change_sends so_far next leads (changes.Fails session req number work attempt status course ends done why) onward all = all
-    change_sends so_far next leads (changes.Stops session req number work attempt status course bytes ends over) onward all = all
-    change_sends so_far next leads (changes.Refuses session req number work attempt status course cause ends done why) onward all =
-        same_sends so_far next
-        (refusal_sends_nothing session req cause course (changes.without_ended_work session req work status so_far)).1 all
-    change_sends so_far next leads (changes.Opens session req asked lined comes enough) onward all =
-        let before : All SentSo lined.outputs.sends
-        = subst (All SentSo) (sym (next_sends_nothing so_far session req asked lined comes).1) all in
+    opened_so : OpensSo (CreatesAsRowsAre effects) input node
+    opened_so so_far leads session req asked lined comes enough onward =
         let now : Work = record asked { stage = Open (attempt_in asked lined.node) } in
-        let sound = (works_sound_in_chain input node may named is next onward).open_works req now
+        let sound = (works_sound_in_chain input node may named is (with_open_attempt req asked lined) onward).open_works req now
         (get-insert_same lined.node.gateway.works req now) in
-        let known = later asked.work (work_known input node reservable asked_known on_known so_far leads session req asked lined comes) in
-        All-append SentSo lined.outputs.sends
-        (map (send_of lined.node.gateway.me (record { 0 = lined.node.peer.epoch }) asked.work) (attempt_in asked lined.node).messages)
-        before
-        (attempt_so asked lined.node sound.range known)
-    change_sends so_far next leads (changes.Holds session req asked lined comes short touched) onward all =
-        same_sends so_far next (next_sends_nothing so_far session req asked lined comes).1 all
-    change_sends so_far next leads (changes.Denies session req asked lined request comes short untouched there own) onward all =
-        same_sends so_far next
-        ((denial_sends_nothing req (Halt (changes.zones_of_members lined.node) (zones_for asked.work)) request
-        (changes.without_denied_work session req asked lined)).1
-        ∙ (next_sends_nothing so_far session req asked lined comes).1) all
-    change_sends so_far next leads (changes.Strays req work gateway there none apart) onward all = all
-    change_sends so_far next leads (changes.Lines session req work moved steps waits) onward all =
-        same_sends so_far next (steps_send_nothing so_far session req (ToWork work) moved steps).1 all
-    change_sends so_far next leads (changes.Appends session req entry moved steps) onward all =
-        same_sends so_far next (steps_send_nothing so_far session req (changes.ToEntry entry) moved steps).1 all
-    change_sends so_far next leads (changes.Replies session req reply moved steps) onward all =
-        same_sends so_far next
-        ((end_sends_nothing session req reply moved).1 ∙ (steps_send_nothing so_far session req (changes.ToReply reply) moved steps).1) all
-    change_sends so_far next leads (changes.Arrives session req ask disk arrival on) onward all = all
-    change_sends so_far next leads (changes.Rejects session req ask cause arrival) onward all = all
-    change_sends so_far next leads (changes.Recovers due) onward all = all
+        attempt_so asked lined.node sound.range
+        (later asked.work (work_known input node reservable asked_known on_known so_far leads session req asked lined comes))
 
-    leads_send : (last : StepState) → Leads input node first last → All SentSo first.outputs.sends → All SentSo last.outputs.sends
-    leads_send last changes.Still all = all
-    leads_send last (changes.Then {so_far} {next} leads change) all =
-        change_sends so_far next leads change (changes.Then leads change) (leads_send so_far leads all)
-
-    pub step_sends_so : All SentSo first.outputs.sends → All SentSo (node_step input node).outputs.sends
-    step_sends_so all = leads_send (node_step input node) (step_chain input node) all
+    pub step_sends_so : All SentSo (input_received input (at_first node)).outputs.sends → All SentSo (node_step input node).outputs.sends
+    step_sends_so = step_sends (CreatesAsRowsAre effects) input node opened_so

@@ -17,7 +17,7 @@ use Rattle.peer_proto.specs.declared.work.ObjWork.{ObjWork}
 use Rattle.peer_proto.specs.declared.work.ObjWork.TheVariants as works
 use Rattle.vdi_directory.specs.declared.effect.Effect.{Effect}
 use Rattle.vdi_directory.specs.Decisions.{log_effects}
-use Rattle.peer_service.specs.State.{object_size}
+use Rattle.peer_service.specs.State.{object_size, row_size}
 use Rattle.guest_driver.proofs.WorkLemmas.{object-whole}
 use Rattle.gateway.specs.Work.{ask_for}
 use Rattle.overlap_law.specs.PiecesInRange.{PiecesEndInRows}
@@ -25,7 +25,7 @@ use Rattle.overlap_law.proofs.GrantedEpochs.{spec_known, spec_stays}
 use Rattle.overlap_law.proofs.KnownAsks.{IsKnownAsk}
 use Rattle.overlap_law.proofs.KnownDisks.{IsKnownWork}
 use Rattle.overlap_law.proofs.SentCreates.{parts_inside}
-use Rattle.overlap_law.proofs.WholeSteps.{IsWholeWork}
+use Rattle.overlap_law.proofs.WholeNodes.{IsWholeWork}
 
 -- an object of a disk is whole units for the disk's policy
 object_aligned : (policy : Policy) (kind : Kind) (spec : VdiSpec) → IsSpec spec → IsAligned policy kind (object_size spec kind)
@@ -65,8 +65,26 @@ module _ (effects : List Effect) (specs : (vid : ℕ) (spec : VdiSpec) → spec_
         inside =
             subst (λ (p : Policy). part_size policy kind offset + length (part policy kind index bytes) ≤ part_size p kind size) own all;
       }
-  pieces_asked (works.Read oid policy offset size) whole known index = tt
-  pieces_asked (works.ReadAll oid policy size) whole known index = tt
+  pieces_asked (works.Read oid policy offset size) whole known index =
+      let kind : Kind = kind_of oid in
+      let is = whole.0.is_work in
+      let on = whole.2 in
+      let all : ℕ = object_size on.spec kind in
+      let ends : part_size policy kind offset + part_size policy kind size ≤ part_size policy kind all
+      = parts_inside policy kind offset size all is.0 is.2.0 is.2.1
+      (object_aligned policy kind on.spec (specs (vid_of oid) on.spec on.made)) on.inside in
+      record {
+        spec = on.spec;
+        made = on.made;
+        inside =
+            subst (λ (p : Policy). part_size policy kind offset + part_size policy kind size ≤ part_size p kind all) on.policy_so ends;
+      }
+  pieces_asked (works.ReadAll oid policy size) whole known index =
+      let kind : Kind = kind_of oid in
+      let on = whole.2 in
+      let same : part_size policy kind size ≡ row_size kind on.spec
+      = ap (part_size policy kind) on.inside ∙ ap (λ (p : Policy). part_size p kind (object_size on.spec kind)) on.policy_so in
+      record { spec = on.spec; made = on.made; inside = subst (λ (n : ℕ). 0 + part_size policy kind size ≤ n) same (omega arith) }
 
 -- a recovery asks for no piece
 pub asks_no_piece : (effects known : List Effect) (ask : PeerAsk) (wanted : ℕ) → IsKnownAsk known ask wanted → PiecesEndInRows effects ask
@@ -85,6 +103,10 @@ pieces_stay log later (asks.Write key offset bytes) is = record {
   made = spec_stays log later (vid_of key.oid) is.spec is.made;
   inside = is.inside;
 }
-pieces_stay log later (asks.Read key offset size) is = tt
+pieces_stay log later (asks.Read key offset size) is = record {
+  spec = is.spec;
+  made = spec_stays log later (vid_of key.oid) is.spec is.made;
+  inside = is.inside;
+}
 pieces_stay log later asks.List is = tt
 pieces_stay log later (asks.RecoverRead oid level) is = tt

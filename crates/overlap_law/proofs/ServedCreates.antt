@@ -122,7 +122,7 @@ create_succeeds peer request key size offset bytes asked own =
     ∙ ap (λ (ask : PeerAsk). (serve.own_epoch_step ask peer).say) asked
 
 -- the request of an attempt's message has that message's name
-own_name : (wire : Wire) (readable : PacketsAreReadable wire) (name : MessageName) (to : NodeId) (request : PeerReq)
+pub own_name : (wire : Wire) (readable : PacketsAreReadable wire) (name : MessageName) (to : NodeId) (request : PeerReq)
     → IsAsking wire name to request → (attempt : AttemptRecord) (place : ℕ) → request ≡ message_request_at attempt place
     → message_name_at attempt place ≡ name
 own_name wire readable name to request asking attempt place is =

@@ -1,5 +1,5 @@
--- In each world of a run in range an up node may serve each request in the wire to it, if that reads no piece of a row.
-use Rattle.std.proofs.Common.{◌≡◌, ℕ, ◌+◌, ◌≤◌, true, false, List, length, Option, None, Some, refl, sym, ap, subst, ◌∙◌}
+-- In each world of a run in range an up node may serve each request in the wire to it, and take each other step that an event has it take.
+use Rattle.std.proofs.Common.{◌≡◌, ℕ, ◌+◌, ◌≤◌, true, List, length, Option, None, Some, refl, sym, ap, subst, ◌∙◌}
 use Rattle.std.specs.FinMap as tree
 use Rattle.std.proofs.lemmas.Option.{same_Some}
 use Rattle.object_id.specs.Oid.{kind_of}
@@ -19,7 +19,7 @@ use Rattle.sheep_world.specs.Began.{Began}
 use Rattle.sheep_world.proofs.StepsByCause.{steps_on_may}
 use Rattle.sheep_world.proofs.WireAtEvents.{is_ready}
 use Rattle.overlap_law.specs.MomentChanges.{RunsAreInRange}
-use Rattle.overlap_law.specs.PiecesInRange.{EndsInRows, PiecesEndInRows, asks_piece, ReadsNoPiece}
+use Rattle.overlap_law.specs.PiecesInRange.{EndsInRows, PiecesEndInRows}
 use Rattle.overlap_law.proofs.CausedWorks.{caused_may}
 use Rattle.overlap_law.proofs.KnownSteps.{together}
 use Rattle.overlap_law.proofs.PiecesInRuns.{pieces_in_range}
@@ -42,25 +42,25 @@ module _ (script : List Statement) (range : RunsAreInRange script) (world : Worl
           = row_is.size ∙ ap (λ (spec : VdiSpec). row_size (kind_of key.oid) spec) (sym same) in
           subst (λ (m : ℕ). end ≤ m) (sym long) is.inside
 
-  may_serve : (ask : PeerAsk) → asks_piece ask ≡ false → PiecesEndInRows (log_effects world.log) ask → MayServe host.node.peer ask
-  may_serve (asks.Create key size offset bytes) not is = is
-  may_serve (asks.Write key offset bytes) not is = ends_inside key (offset + length bytes) is
-  may_serve (asks.Read key offset size) not is = absurd (cc (not))
-  may_serve asks.List not is = tt
-  may_serve (asks.RecoverRead oid level) not is = tt
+  may_serve : (ask : PeerAsk) → PiecesEndInRows (log_effects world.log) ask → MayServe host.node.peer ask
+  may_serve (asks.Create key size offset bytes) is = is
+  may_serve (asks.Write key offset bytes) is = ends_inside key (offset + length bytes) is
+  may_serve (asks.Read key offset size) is = ends_inside key (offset + size) is
+  may_serve asks.List is = tt
+  may_serve (asks.RecoverRead oid level) is = tt
 
-  pub may-in_run : (cause : NodeCause) → IsCause script world n host cause → ReadsNoPiece cause → May (input_of_cause cause) host.node
-  may-in_run (GuestAsks session req ask) caused not =
+  pub may-in_run : (cause : NodeCause) → IsCause script world n host cause → May (input_of_cause cause) host.node
+  may-in_run (GuestAsks session req ask) caused =
       caused_may script range world began n host there up (GuestAsks session req ask) tt caused
-  may-in_run (RequestComes name to request) caused not =
+  may-in_run (RequestComes name to request) caused =
       steps_on_may script world n host (RequestComes name to request) caused
       (is_ready script world (together script range world began) n host there up)
-      (may_serve request.ask not
+      (may_serve request.ask
       ((pieces_in_range script range world began).each name to caused.bytes request caused.there caused.read))
-  may-in_run (ReplyComes name from rsp) caused not =
+  may-in_run (ReplyComes name from rsp) caused =
       caused_may script range world began n host there up (ReplyComes name from rsp) tt caused
-  may-in_run (LossIsTold name packet) caused not = caused_may script range world began n host there up (LossIsTold name packet) tt caused
-  may-in_run (EntryIsRead entry) caused not = caused_may script range world began n host there up (EntryIsRead entry) tt caused
-  may-in_run (EntryIsPut entry) caused not = caused_may script range world began n host there up (EntryIsPut entry) tt caused
-  may-in_run RecoveryTicks caused not = caused_may script range world began n host there up RecoveryTicks tt caused
-  may-in_run WorkIsRetried caused not = caused_may script range world began n host there up WorkIsRetried tt caused
+  may-in_run (LossIsTold name packet) caused = caused_may script range world began n host there up (LossIsTold name packet) tt caused
+  may-in_run (EntryIsRead entry) caused = caused_may script range world began n host there up (EntryIsRead entry) tt caused
+  may-in_run (EntryIsPut entry) caused = caused_may script range world began n host there up (EntryIsPut entry) tt caused
+  may-in_run RecoveryTicks caused = caused_may script range world began n host there up RecoveryTicks tt caused
+  may-in_run WorkIsRetried caused = caused_may script range world began n host there up WorkIsRetried tt caused

@@ -31,7 +31,7 @@ use Rattle.overlap_law.proofs.ReadingLaws.{readings}
 use Rattle.overlap_law.proofs.RowsInTurn.{end_open, end_shut}
 
 -- what two epochs of a row owe
-owed_parts : (node : NodeId) (end served_to : ℕ) (attempt : AttemptRecord) → owes_attempt node end served_to attempt ≡ true
+pub owed_parts : (node : NodeId) (end served_to : ℕ) (attempt : AttemptRecord) → owes_attempt node end served_to attempt ≡ true
     → (attempt.epoch < end) ⊎ ((has_served node attempt ≡ true) × (attempt.epoch ≤ served_to))
 owed_parts node end served_to attempt owed = ⊎_elim
     (λ (earlier : nat_lt attempt.epoch end ≡ true). inl (ltb-true attempt.epoch end earlier))
@@ -40,12 +40,12 @@ owed_parts node end served_to attempt owed = ⊎_elim
     inr (parts.0, leb-true attempt.epoch served_to parts.1))
     (or_cases (nat_lt attempt.epoch end) (has_served node attempt && nat_le attempt.epoch served_to) owed)
 
-owed_earlier : (node : NodeId) (end served_to : ℕ) (attempt : AttemptRecord) → attempt.epoch < end
+pub owed_earlier : (node : NodeId) (end served_to : ℕ) (attempt : AttemptRecord) → attempt.epoch < end
     → owes_attempt node end served_to attempt ≡ true
 owed_earlier node end served_to attempt less =
     or_left (nat_lt attempt.epoch end) (has_served node attempt && nat_le attempt.epoch served_to) (lt-ltb attempt.epoch end less)
 
-owed_served : (node : NodeId) (end served_to : ℕ) (attempt : AttemptRecord) → has_served node attempt ≡ true
+pub owed_served : (node : NodeId) (end served_to : ℕ) (attempt : AttemptRecord) → has_served node attempt ≡ true
     → attempt.epoch ≤ served_to → owes_attempt node end served_to attempt ≡ true
 owed_served node end served_to attempt served most =
     or_right (nat_lt attempt.epoch end) (has_served node attempt && nat_le attempt.epoch served_to)
@@ -252,7 +252,8 @@ module _ (T : Placing) (good : ℕ → Bool) (known : ℕ → Option Policy) (ho
     created = λ request key size offset bytes comes is own. absurd (cc (comes));
     written = λ request key offset bytes row comes is own on unshut fits had. absurd (cc (comes));
     answered = λ number said tells message sent oid level asks_row search on own. tt;
-    anew = λ oid level. tt;
+    anew = λ search on. tt;
+    first = λ oid. tt;
     found = λ may recovery me_so epoch_so search policy told live pending enough. absurd may;
     stays = λ one comes begins oid row open_still had.
         stays_still (beyond (ap (λ (input : Input). begins_epoch (entry_or entry input)) comes ∙ begins)) oid row had;

@@ -76,7 +76,7 @@ got_behind (first ∷ xs) ys i x got =
     (let next : suc (length xs + i) ≡ suc (length xs) + i = omega arith in next) (got_behind xs ys i x got)
 
 -- what flies isn't served
-flying_mute : (fates : List MessageFate) → ((place : ℕ) (fate : MessageFate) → slice_get fates place ≡ Some fate → fate ≡ Flying)
+pub flying_mute : (fates : List MessageFate) → ((place : ℕ) (fate : MessageFate) → slice_get fates place ≡ Some fate → fate ≡ Flying)
     → not (list_any is_served fates) ≡ true
 flying_mute [] fly = refl
 flying_mute (Flying ∷ fates) fly = flying_mute fates (λ place fate got. fly (suc place) fate got)
@@ -93,7 +93,7 @@ module _ (hosts hosts_after : Hosts) (wire : Wire) (attempts : List AttemptRecor
   was : (j : ℕ) (now : AttemptRecord) → WasMarked attempts j now → WasThere j now
   was j now marked = inl (slice_get_within attempts j marked.was marked.at)
 
-  there_or_last : {later : Wire} {after : List AttemptRecord} → (t : Traffic hosts hosts_after wire attempts later after) → (j : ℕ)
+  pub there_or_last : {later : Wire} {after : List AttemptRecord} → (t : Traffic hosts hosts_after wire attempts later after) → (j : ℕ)
       (now : AttemptRecord) → slice_get after j ≡ Some now → WasThere j now
   there_or_last (kinds.AttemptBegins n sends new begun) j now got = ⊎_elim
       (λ (old : slice_get attempts j ≡ Some now). inl (slice_get_within attempts j now old))
@@ -107,6 +107,20 @@ module _ (hosts hosts_after : Hosts) (wire : Wire) (attempts : List AttemptRecor
       was j now (marked_was (fate_of_say rsp.say) name.sender name.number attempts j now got)
   there_or_last (kinds.RequestsAreSent n sends by nothing) j now got = inl (slice_get_within attempts j now got)
   there_or_last (kinds.RepliesGo n) j now got = inl (slice_get_within attempts j now got)
+
+-- an attempt that begins has a target
+pub some_target : (hosts hosts_after : Hosts) → OpenAttemptsHaveMessages hosts_after → (attempt : AttemptRecord)
+    → HasBegun hosts hosts_after attempt → 1 ≤ length attempt.targets
+some_target hosts hosts_after have attempt new =
+    let opened = new.begun.opened in
+    let sent = new.begun.sent_by in
+    let (message, got) = have.each new.n sent.after sent.there_after new.begun.up attempt.req new.begun.work new.begun.current
+    opened.there
+    opened.making opened.stage in
+    let first : slice_get attempt.targets 0 ≡ Some message.node
+    = ap (λ (nodes : List NodeId). slice_get nodes 0) opened.same.targets
+    ∙ map_got (λ (one : Message). one.node) new.begun.current.messages 0 message got in
+    slice_get_within attempt.targets 0 message.node first
 
 -- ---- over a change of a step
 
@@ -207,19 +221,6 @@ module _ (script : List Statement) (range : RunsAreInRange script) (start : Mome
             let ended = fits.1 shut in
             omega (arith, end, closed, low, ended, most)
 
-    -- an attempt that begins has a target
-    some_target : (attempt : AttemptRecord) → HasBegun before.world.hosts after.world.hosts attempt → 1 ≤ length attempt.targets
-    some_target attempt new =
-        let opened = new.begun.opened in
-        let sent = new.begun.sent_by in
-        let (message, got) = have.each new.n sent.after sent.there_after new.begun.up attempt.req new.begun.work new.begun.current
-        opened.there
-        opened.making opened.stage in
-        let first : slice_get attempt.targets 0 ≡ Some message.node
-        = ap (λ (nodes : List NodeId). slice_get nodes 0) opened.same.targets
-        ∙ map_got (λ (one : Message). one.node) new.begun.current.messages 0 message got in
-        slice_get_within attempt.targets 0 message.node first
-
     -- it is doomed where a row of its object reaches beyond its epoch
     new_is_doomed : (j : ℕ) (attempt : AttemptRecord) → slice_get after.past.attempts j ≡ Some attempt → length before.past.attempts ≤ j
         → good (object_of attempt) ≡ true → (n : ℕ) (host : Host) → tree.get after.world.hosts n ≡ Some host → (i : ℕ) (row : SeenRow)
@@ -253,7 +254,8 @@ module _ (script : List Statement) (range : RunsAreInRange script) (start : Mome
             mute_is_doomed log after.world.hosts after.past.attempts shaped.shape tied.fates.whole ends placed after.world.wire live ordered
             (are_beyond log after.world.hosts stood) begun stood.seated j attempt there
             (λ k other got_other same. last k other got_other) mute
-            (some_target attempt own.1) (good_live (object_of attempt) is_good) n host got i row at
+            (some_target before.world.hosts after.world.hosts have attempt own.1)
+            (good_live (object_of attempt) is_good) n host got i row at
             (row_within n host got (object_of attempt) i row at)
             (ltb-true attempt.epoch (end_of_row host.node.peer.epoch row.to) reaches)
           where

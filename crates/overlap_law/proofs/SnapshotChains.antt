@@ -37,7 +37,8 @@ use Rattle.overlap_law.proofs.WriterChanges.{unused_free, found_reserved, reserv
 
 -- ---- a snapshot became one
 
-snapshot-from : (vid : ℕ) (state : VdiState) (effect : Effect) → IsLiveSnapshot (state_after vid state effect) → (snaps vid effect ≡ true) ⊎ IsLiveSnapshot state
+pub snapshot-from : (vid : ℕ) (state : VdiState) (effect : Effect) → IsLiveSnapshot (state_after vid state effect)
+    → (snaps vid effect ≡ true) ⊎ IsLiveSnapshot state
 snapshot-from vid state effects.Nothing is = inr is
 snapshot-from vid state (effects.Reserved grant) is = by_test (grant.reservation.vid.0 == vid) is
   where
@@ -95,15 +96,15 @@ snapshot-from vid state (effects.Left node) is = inr (by_state state is)
 
 module _ (log : List Entry) (entry : Entry) (vid : ℕ) where
   -- what became one stays one
-  was_then : was_snapped log vid ≡ true → was_snapped (log ++ entry ∷ []) vid ≡ true
+  pub was_then : was_snapped log vid ≡ true → was_snapped (log ++ entry ∷ []) vid ≡ true
   was_then was = snapped-push log entry vid ∙ ap (λ (b : Bool). b || (snaps vid (outcome (log_effects log) entry).effect || false)) was
 
-  is_now : snaps vid (outcome (log_effects log) entry).effect ≡ true → was_snapped (log ++ entry ∷ []) vid ≡ true
+  pub is_now : snaps vid (outcome (log_effects log) entry).effect ≡ true → was_snapped (log ++ entry ∷ []) vid ≡ true
   is_now is =
       snapped-push log entry vid
       ∙ or_right (was_snapped log vid) (snaps vid (outcome (log_effects log) entry).effect || false) (ap (λ (b : Bool). b || false) is)
 
-  state_then : state_of (log_effects (log ++ entry ∷ [])) vid ≡ state_after vid (state_of (log_effects log) vid) (outcome (log_effects log) entry).effect
+  pub state_then : state_of (log_effects (log ++ entry ∷ [])) vid ≡ state_after vid (state_of (log_effects log) vid) (outcome (log_effects log) entry).effect
   state_then =
       ap (λ (all : List Effect). state_of all vid) (log_effects-push log entry)
       ∙ state_of-push (log_effects log) (outcome (log_effects log) entry).effect vid

@@ -2,19 +2,20 @@
 use Rattle.std.proofs.Common.{◌≡◌, ◌⊎◌, inl, inr, ⊎_elim, ℕ, zero, suc, ◌+◌, ◌<◌, ◌≤◌, ◌==◌, ◌&&◌, Bool, true, false, List, [], ◌∷◌, drop, Some, refl, ap, subst, ◌∙◌, slice_get, arith}
 use Rattle.std.specs.List.{list_any}
 use Rattle.std.proofs.lemmas.Bool.{eqb-true, or_left, or_right, cases_eq, lt-ltb}
+use Rattle.object_id.specs.declared.entry.Entry.{Entry}
 use Rattle.object_id.specs.Oid.{kind_of}
 use Rattle.gf256.specs.Part.{is_in_strips}
 use Rattle.vdi_directory.specs.Decisions.{log_effects}
 use Rattle.peer_proto.specs.Work.{policy_of}
 use Rattle.overlap_law.specs.Attempts.{AttemptRecord, object_of, attempts_on}
 use Rattle.overlap_law.specs.Units.{covers_unit, unit_part_by, row_bytes_at}
-use Rattle.overlap_law.specs.Words.{is_doomed, has_served}
+use Rattle.overlap_law.specs.Words.{Hosts, is_doomed, has_served}
 use Rattle.overlap_law.specs.Past.{MomentWithPast}
 use Rattle.overlap_law.specs.Contents.{AttemptsStand, is_covered_behind, IsHeld}
 use Rattle.overlap_law.specs.Facts.{EachGood}
-use Rattle.overlap_law.specs.Holders.{is_good}
-use Rattle.overlap_law.specs.Each.{end_of_row, policy_in}
-use Rattle.overlap_law.specs.Since.{reading_by}
+use Rattle.overlap_law.specs.Each.{Placing, end_of_row, policy_in}
+use Rattle.overlap_law.specs.Fates.{AttemptsAreShaped}
+use Rattle.overlap_law.specs.Since.{RowsAreSince, reading_by}
 use Rattle.overlap_law.specs.Overlap.{Overlap}
 use Rattle.overlap_law.proofs.OverlapLemmas.{filter-passed}
 
@@ -59,36 +60,40 @@ read-last false attempts unit j index bytes attempt read there none = ⊎_elim
     above : {k : ℕ} → ¬ (k ≡ j) → j ≤ k → j < k
     above other later = omega arith
 
--- a row has the attempt, where it isn't doomed
-holds : (moment : MomentWithPast) → Overlap moment → (oid : ℕ) → is_good moment.world.log moment.past.attempts moment.past.unavailable oid ≡ true
-    → (j : ℕ) (attempt : AttemptRecord) → slice_get (attempts_on oid moment.past.attempts) j ≡ Some attempt
-    → is_doomed moment.world.hosts attempt ≡ false → IsHeld moment.world.hosts oid (attempts_on oid moment.past.attempts) j attempt
-holds moment o oid good j attempt there stands = record {
-  each = λ n host at i row row_at reaches unit covering none.
-      let found = filter-passed (λ (a : AttemptRecord). object_of a == oid) moment.past.attempts j attempt there in
-      let own = eqb-true (object_of attempt) oid found.passed in
-      let policy = subst (λ (q : ℕ). policy_in (log_effects moment.world.log) q ≡ Some (policy_of attempt.work)) own
-      (o.attempts.shape.policy found.place attempt found.there) in
-      let since = o.rows.since.each n host at oid i row row_at (policy_of attempt.work) good policy in
-      let owed = or_left _ (has_served (record { 0 = n }) attempt && _) (lt-ltb attempt.epoch (end_of_row host.node.peer.epoch row.to) reaches) in
-      ⊎_elim
-      (λ (doomed : is_doomed moment.world.hosts attempt ≡ true). absurd (cc (doomed, stands)))
-      (λ (read : reading_by (is_in_strips (policy_of attempt.work) (kind_of oid)) (attempts_on oid moment.past.attempts) unit j row.index
-      (row_bytes_at (policy_of attempt.work) (kind_of oid) unit row.bytes)).
-      read-last (is_in_strips (policy_of attempt.work) (kind_of oid)) (attempts_on oid moment.past.attempts) unit j row.index
-      (row_bytes_at (policy_of attempt.work) (kind_of oid) unit row.bytes) attempt read there none)
-      (since.each j attempt there unit covering owed);
-}
+module _ {T : Placing} {log : List Entry} {hosts : Hosts} {attempts : List AttemptRecord} {good : ℕ → Bool}
+    (shape : AttemptsAreShaped T log attempts) (since : RowsAreSince (log_effects log) good hosts attempts) where
+  -- a row has the attempt, where it isn't doomed
+  holds : (oid : ℕ) → good oid ≡ true → (j : ℕ) (attempt : AttemptRecord) → slice_get (attempts_on oid attempts) j ≡ Some attempt
+      → is_doomed hosts attempt ≡ false → IsHeld hosts oid (attempts_on oid attempts) j attempt
+  holds oid is_good j attempt there stands = record {
+    each = λ n host at i row row_at reaches unit covering none.
+        let found = filter-passed (λ (a : AttemptRecord). object_of a == oid) attempts j attempt there in
+        let own = eqb-true (object_of attempt) oid found.passed in
+        let policy = subst (λ (q : ℕ). policy_in (log_effects log) q ≡ Some (policy_of attempt.work)) own
+        (shape.policy found.place attempt found.there) in
+        let owes = since.each n host at oid i row row_at (policy_of attempt.work) is_good policy in
+        let owed =
+        or_left _ (has_served (record { 0 = n }) attempt && _) (lt-ltb attempt.epoch (end_of_row host.node.peer.epoch row.to) reaches) in
+        ⊎_elim
+        (λ (doomed : is_doomed hosts attempt ≡ true). absurd (cc (doomed, stands)))
+        (λ (read : reading_by (is_in_strips (policy_of attempt.work) (kind_of oid)) (attempts_on oid attempts) unit j row.index
+        (row_bytes_at (policy_of attempt.work) (kind_of oid) unit row.bytes)).
+        read-last (is_in_strips (policy_of attempt.work) (kind_of oid)) (attempts_on oid attempts) unit j row.index
+        (row_bytes_at (policy_of attempt.work) (kind_of oid) unit row.bytes) attempt read there none)
+        (owes.each j attempt there unit covering owed);
+  }
 
-stands-or-doomed : (moment : MomentWithPast) → Overlap moment → (oid : ℕ)
-    → is_good moment.world.log moment.past.attempts moment.past.unavailable oid ≡ true
-    → (j : ℕ) (attempt : AttemptRecord) → slice_get (attempts_on oid moment.past.attempts) j ≡ Some attempt
-    → (b : Bool) → is_doomed moment.world.hosts attempt ≡ b
-    → (is_doomed moment.world.hosts attempt ≡ true) ⊎ IsHeld moment.world.hosts oid (attempts_on oid moment.past.attempts) j attempt
-stands-or-doomed moment o oid good j attempt there true is = inl is
-stands-or-doomed moment o oid good j attempt there false is = inr (holds moment o oid good j attempt there is)
+  stands-or-doomed : (oid : ℕ) → good oid ≡ true → (j : ℕ) (attempt : AttemptRecord) → slice_get (attempts_on oid attempts) j ≡ Some attempt
+      → (b : Bool) → is_doomed hosts attempt ≡ b
+      → (is_doomed hosts attempt ≡ true) ⊎ IsHeld hosts oid (attempts_on oid attempts) j attempt
+  stands-or-doomed oid is_good j attempt there true is = inl is
+  stands-or-doomed oid is_good j attempt there false is = inr (holds oid is_good j attempt there is)
+
+  -- so the attempts on a good object stand
+  pub stand : (oid : ℕ) → good oid ≡ true → AttemptsStand hosts oid (attempts_on oid attempts)
+  stand oid is_good = record {
+    each = λ j attempt there unmade. stands-or-doomed oid is_good j attempt there (is_doomed hosts attempt) refl;
+  }
 
 pub gives-stand : (moment : MomentWithPast) → Overlap moment → EachGood moment.world moment.past (AttemptsStand moment.world.hosts)
-gives-stand moment o oid good = record {
-  each = λ j attempt there unmade. stands-or-doomed moment o oid good j attempt there (is_doomed moment.world.hosts attempt) refl;
-}
+gives-stand moment o = stand o.attempts.shape o.rows.since

@@ -56,11 +56,11 @@ use Rattle.overlap_law.proofs.TurnsOfRows.{rows_in_turn}
 
 -- ---- what is dead stays so
 
-dead_later : (log later : List Entry) (vid : ℕ) → is_dead (log_effects log) vid ≡ true → is_dead (log_effects (log ++ later)) vid ≡ true
+pub dead_later : (log later : List Entry) (vid : ℕ) → is_dead (log_effects log) vid ≡ true → is_dead (log_effects (log ++ later)) vid ≡ true
 dead_later log later vid dead =
     (test-finds-dead (log ++ later) vid).1 (dead-stays log later vid ((test-finds-dead log vid).0 dead))
 
-alive_before : (log later : List Entry) (vid : ℕ) → is_dead (log_effects (log ++ later)) vid ≡ false → is_dead (log_effects log) vid ≡ false
+pub alive_before : (log later : List Entry) (vid : ℕ) → is_dead (log_effects (log ++ later)) vid ≡ false → is_dead (log_effects log) vid ≡ false
 alive_before log later vid alive = by_test (is_dead (log_effects log) vid) refl
   where
     by_test : (b : Bool) → is_dead (log_effects log) vid ≡ b → b ≡ false
@@ -68,7 +68,7 @@ alive_before log later vid alive = by_test (is_dead (log_effects log) vid) refl
     by_test false is = refl
 
 -- what is live isn't dead
-not_dead : (log : List Entry) (attempts : List AttemptRecord) (oid : ℕ) → is_live_object log attempts oid ≡ true
+pub not_dead : (log : List Entry) (attempts : List AttemptRecord) (oid : ℕ) → is_live_object log attempts oid ≡ true
     → is_dead_by_log log oid ≡ false
 not_dead log attempts oid live =
     by_test (is_dead_by_log log oid) (and_parts (is_object_among oid (born_objects attempts)) (not (is_dead_by_log log oid)) live).1

@@ -1,6 +1,7 @@
 -- In each run in range, and in the middle of its steps, each node that told its objects or a row to a recovery came to its epoch.
 use Rattle.std.proofs.Common.{◌≡◌, ⊎_elim, ℕ, false, true, List, Contains, Option, Some, None, refl, sym, ap, subst, ◌∙◌}
 use Rattle.std.specs.FinMap as tree
+use Rattle.std.proofs.lemmas.List.Elements.{Contains-append_left}
 use Rattle.object_store.specs.declared.row.RowCopy.{RowCopy}
 use Rattle.cluster_script.specs.declared.statement.Statement.{Statement}
 use Rattle.peer_service.specs.Serve.{row_or_none, tells_refusal}
@@ -22,7 +23,6 @@ use Rattle.overlap_law.proofs.AllAnswersInMoments.{AreAllTold, kept_all_told}
 use Rattle.overlap_law.proofs.AnswerersInMoments.{opening_recovery}
 use Rattle.overlap_law.proofs.AttemptMessages.{contains_at}
 use Rattle.overlap_law.proofs.EpochsRise.{EpochsRise, epochs_rise}
-use Rattle.overlap_law.proofs.FirstSearches.{is_on}
 use Rattle.overlap_law.proofs.HeardReplies.{heard_reply, heard_reached}
 use Rattle.overlap_law.proofs.NodePartsInMoments.{PartsChange, PartsStay, PartsStep, PartsReturn, PartsAreNew, parts_change}
 use Rattle.overlap_law.proofs.RunsByChanges.{on_the_way}
@@ -126,13 +126,13 @@ tellers_come moment holds = record {
       (λ (way : IsRowUnderWay moment.world.wire n host.node.recovery from epoch oid level row).
       let message : Message = way.message in
       let (own, reached) = holds.told.told n host there up message
-      (contains_at (all_unanswered host.node.recovery) way.place message way.unanswered) from way.reply way.answering in
+      (Contains-append_left host.node.recovery.unanswered host.node.recovery.older message
+      (contains_at host.node.recovery.unanswered way.place message way.unanswered)) from way.reply way.answering in
       ap (λ (k : ℕ). has_reached moment.world.hosts k from) (sym way.of_epoch) ∙ reached (ap tells_refusal way.said ∙ no_refusal row))
       (λ (kept : IsRowKept host.node from epoch oid level row).
-      let found = is_on host.node.peer.pending host.node.recovery.search kept.search kept.there in
       ap (λ (k : ℕ). has_reached moment.world.hosts k from) (sym kept.of_epoch)
       ∙ ap (has_reached moment.world.hosts host.node.recovery.epoch) (sym kept.from_it)
-      ∙ holds.kept.each n host there kept.search found.search kept.answer
+      ∙ holds.kept.each n host there kept.search kept.there kept.answer
       (contains_at kept.search.answers kept.place kept.answer kept.among))
       told;
 }

@@ -34,7 +34,7 @@ second_so true true x y either = ⊎_elim (λ (one : true ≡ false). absurd (cc
 got_piece : (bytes : List ℕ) (offset n i : ℕ) → i < n → get_or (piece_at bytes offset n) i 0 ≡ get_or bytes (offset + i) 0
 got_piece bytes offset n i inside = get_or-take n (drop offset bytes) i 0 inside ∙ get_or-drop offset bytes i 0
 
-length-piece : (bytes : List ℕ) (offset n : ℕ) → length (piece_at bytes offset n) ≡ min n (length bytes - offset)
+pub length-piece : (bytes : List ℕ) (offset n : ℕ) → length (piece_at bytes offset n) ≡ min n (length bytes - offset)
 length-piece bytes offset n = length-take n (drop offset bytes) ∙ ap (min n) (length-drop offset bytes)
 
 -- inside that one it is a piece of it

@@ -21,17 +21,19 @@ use Rattle.overlap_law.specs.Words.{is_made}
 use Rattle.overlap_law.specs.Holders.{targets_by}
 use Rattle.overlap_law.specs.Past.{MomentWithPast, first_moment, run_with_past}
 use Rattle.overlap_law.specs.Each.{policy_in}
-use Rattle.overlap_law.specs.Searches.{indexes_held}
+use Rattle.overlap_law.specs.Searches.{indexes_held, PassedLevelsLackRows}
 use Rattle.overlap_law.specs.HeldLevels.{level_of, CanBeFoundAt, NoSearchHasPassed}
 use Rattle.overlap_law.specs.MomentChanges.{MomentTrail, RunsAreInRange, KeptByChanges}
-use Rattle.overlap_law.specs.Overlap.{OverlapAt}
 use Rattle.overlap_law.proofs.BeyondInMoments.{recovers_own}
-use Rattle.overlap_law.proofs.FinishedInMoments.{TermsHold, kept_terms}
-use Rattle.overlap_law.proofs.HeldLevels.{first, overlap_holds, gives-found}
+use Rattle.overlap_law.proofs.FinishedInMoments.{TermsHold}
+use Rattle.overlap_law.proofs.FirstSearchesInRuns.{listing-on_the_way, search_first-on_the_way}
+use Rattle.overlap_law.proofs.HeldLevels.{first, lives_by, HasMade, holds_made, gives-found}
 use Rattle.overlap_law.proofs.IndexesHeld.{enough_indexes}
 use Rattle.overlap_law.proofs.LogsInMoments.{ends_or_same}
+use Rattle.overlap_law.proofs.PlacedInMoments.{placed-on_the_way}
 use Rattle.overlap_law.proofs.ReadInMoments.{epoch_within, opening_began}
 use Rattle.overlap_law.proofs.RunsByChanges.{on_the_way}
+use Rattle.overlap_law.proofs.TermsInRuns.{unsettled-on_the_way}
 
 -- ---- the log of each moment is one
 
@@ -45,10 +47,10 @@ kept_log script range = record {
 }
 
 module _ (script : List Statement) (range : RunsAreInRange script) (events : List Event) (start moment : MomentWithPast)
-    (is : run_with_past script events ≡ Some start) (trail : MomentTrail script start moment) (live good good_id : ℕ → Bool)
-    (overlap : OverlapAt live good good_id moment) (lives : (oid : ℕ) → good oid ≡ true → live oid ≡ true) where
-  terms : TermsHold moment
-  terms = on_the_way script TermsHold (kept_terms script range) events start moment is trail
+    (is : run_with_past script events ≡ Some start) (trail : MomentTrail script start moment) (good : ℕ → Bool) (has : HasMade good moment)
+    (passed : PassedLevelsLackRows (targets_by moment.world.log) moment.world.log (log_effects moment.world.log) good moment.world.hosts) where
+  abbrev terms : TermsHold moment
+  terms = has.terms
 
   is_log : IsLog moment.world.log
   is_log = on_the_way script (λ (m : MomentWithPast). IsLog m.world.log) (kept_log script range) events start moment is trail
@@ -60,7 +62,7 @@ module _ (script : List Statement) (range : RunsAreInRange script) (events : Lis
     listed true so = refl
     listed false unlisted =
         let none : search_on (recovery_state_of host.node) ≡ None
-        = ap (still_on host.node.peer.pending) (overlap.searches.listing.search n host at up unlisted) in
+        = ap (still_on host.node.peer.pending) ((listing-on_the_way script range events start moment is trail).search n host at up unlisted) in
         absurd (cc (none, on))
 
     -- and it isn't, as the object is pending
@@ -69,7 +71,7 @@ module _ (script : List Statement) (range : RunsAreInRange script) (events : Lis
         or_from (host.node.recovery.epoch == 1) (is_listed host.node.recovery && not (is_some (first_in host.node.peer.pending)))
         (ne_eqb host.node.recovery.epoch 1 (λ (same : host.node.recovery.epoch ≡ 1). omega (arith, same, later)))
         (and_right (is_listed host.node.recovery) (not (is_some (first_in host.node.peer.pending)))
-        (ap (λ (o : Option ℕ). not (is_some o)) (overlap.searches.search_first.first n host at up search on)))
+        (ap (λ (o : Option ℕ). not (is_some o)) ((search_first-on_the_way script range events start moment is trail).first n host at up search on)))
 
     module _ (j : ℕ) (attempt : AttemptRecord) (got : slice_get moment.past.attempts j ≡ Some attempt)
         (is_good : good (object_of attempt) ≡ true) (own : object_of attempt ≡ search.oid) (made : is_made attempt ≡ true)
@@ -77,7 +79,7 @@ module _ (script : List Statement) (range : RunsAreInRange script) (events : Lis
       later : 1 < host.node.recovery.epoch
       later =
           let least : 1 ≤ attempt.epoch
-          = first moment.world.log live good moment.world.hosts moment.past.attempts (overlap_holds live good good_id moment overlap lives)
+          = first moment.world.log (lives_by moment.world.log) good moment.world.hosts moment.past.attempts (holds_made good moment has)
           j attempt got made is_good in
           omega (arith, least, before)
 
@@ -93,35 +95,35 @@ module _ (script : List Statement) (range : RunsAreInRange script) (events : Lis
       settled : settled_of moment.world.log < host.node.recovery.epoch
       settled =
           let same = own_epoch in
-          let below = overlap.terms.unsettled.each n host at up (unfinished later) in
+          let below = (unsettled-on_the_way script range events start moment is trail).each n host at up (unfinished later) in
           omega (arith, same, below)
 
       policy_so : policy_in (log_effects moment.world.log) (object_of attempt) ≡ Some (policy_of attempt.work)
-      policy_so = overlap.attempts.shape.policy j attempt got
+      policy_so = has.rows.shaped.shape.policy j attempt got
 
       found : CanBeFoundAt (targets_by moment.world.log) moment.world.log moment.world.hosts search.oid (level_of moment.world.log attempt)
           host.node.recovery.epoch (policy_of attempt.work)
       found =
           subst (λ (oid : ℕ). CanBeFoundAt (targets_by moment.world.log) moment.world.log moment.world.hosts oid
           (level_of moment.world.log attempt) host.node.recovery.epoch (policy_of attempt.work)) own
-          ((gives-found live good good_id moment overlap lives).each n host at j attempt got (policy_of attempt.work)
+          ((gives-found good moment has).each n host at j attempt got (policy_of attempt.work)
           (listed (is_listed host.node.recovery) refl) settled within is_good policy_so made before)
 
       unpassed : level_of moment.world.log attempt ≤ search.level
       unpassed = ⊎_elim
-          (λ (passed : search.level < level_of moment.world.log attempt).
+          (λ (lower : search.level < level_of moment.world.log attempt).
           let at_oid : policy_in (log_effects moment.world.log) search.oid ≡ Some (policy_of attempt.work)
           = ap (policy_in (log_effects moment.world.log)) (sym own) ∙ policy_so in
           let below = found.below in
           let most = within in
           let few : length (indexes_held (targets_by moment.world.log) moment.world.log moment.world.hosts search.oid
           (level_of moment.world.log attempt) host.node.recovery.epoch (policy_of attempt.work)) < need_of (policy_of attempt.work) (kind_of search.oid)
-          = overlap.searches.passed.each n host at up search (policy_of attempt.work) (level_of moment.world.log attempt) on
-          (ap good (sym own) ∙ is_good) at_oid passed found.below in
+          = passed.each n host at up search (policy_of attempt.work) (level_of moment.world.log attempt) on
+          (ap good (sym own) ∙ is_good) at_oid lower found.below in
           let enough : need_of (policy_of attempt.work) (kind_of search.oid)
           ≤ length (indexes_held (targets_by moment.world.log) moment.world.log moment.world.hosts search.oid
           (level_of moment.world.log attempt) host.node.recovery.epoch (policy_of attempt.work))
-          = enough_indexes moment.world.log (log_effects moment.world.log) moment.world.hosts overlap.rows.placed search.oid
+          = enough_indexes moment.world.log (log_effects moment.world.log) moment.world.hosts (placed-on_the_way script range events start moment is trail) search.oid
           (level_of moment.world.log attempt) (policy_of attempt.work) at_oid is_log (omega (arith, below, most)) host.node.recovery.epoch found in
           absurd (omega (arith, few, enough)))
           (λ (kept : level_of moment.world.log attempt ≤ search.level). kept)

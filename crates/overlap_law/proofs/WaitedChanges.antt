@@ -54,7 +54,7 @@ use Rattle.overlap_law.proofs.DoneWorks.{bytes_long, wanted, same_disk}
 use Rattle.overlap_law.proofs.QueueOnce.{AreOnceIn}
 use Rattle.overlap_law.proofs.QueuedChanges.{StandingSoFar}
 use Rattle.overlap_law.proofs.QueuedInSteps.{begun_at_others}
-use Rattle.overlap_law.proofs.WaitedSteps.{no_id, HasOwnDraftAt, Waits, entries_stay, awaited_alike, IsOpWaitedAt, command_begins-waited, command_goes_on-waited, command_decided-waited, IsCheckWaitedAt, check_begins-waited, check_goes_on-waited}
+use Rattle.overlap_law.proofs.WaitedSteps.{no_id, HasOwnDraftAt, IsOwnIn, IsOfOwn, Waits, entries_stay, awaited_alike, own_alike, IsOwnStep, driver_begins-own, driver_goes_on-own, check_begins-vid, check_goes_on-vid, IsOpWaitedAt, command_begins-waited, command_goes_on-waited, command_decided-waited, IsCheckWaitedAt, check_begins-waited, check_goes_on-waited}
 use Rattle.overlap_law.proofs.WorksAtCourses.{IsAt, AtSoFar, freed_at, moved_at, IsOutcomeAt, StepsKeepAt, change_keeps_at}
 
 -- what is known beside it in the middle of a step
@@ -73,11 +73,11 @@ driven_waited : (number req : ℕ) (course : Course) (disk : Disk) (step : Drive
     → step.inode.vid ≡ disk.inode.vid → step.inode.spec ≡ disk.inode.spec
     → ((q : ℕ) (others : Driver) → HasRequest number q (Driving others) so_far → q ≢ req
     → All (λ (piece : Piece). entry_of step.inode piece ≡ entry_of disk.inode piece) (pieces_left others))
-    → IsAwaitedByDriver step.inode step.driver step.act → HasNoWorkIn req (after_driver_step number req disk step so_far)
+    → IsAwaitedByDriver step.inode step.driver step.act → IsOwnStep step → HasNoWorkIn req (after_driver_step number req disk step so_far)
     → AtSoFar Waits so_far
     → AtSoFar Waits (after_driver_step number req disk step so_far)
     × IsOutcomeAt Waits req (outcome_of_driver step.act) (after_driver_step number req disk step so_far)
-driven_waited number req course disk step so_far alone there is_disk on vid spec entries told free all = (
+driven_waited number req course disk step so_far alone there is_disk on vid spec entries told own free all = (
   moved_at Waits req (record { session = number; course = Driving step.driver }) number after so_far free refl
       (λ q other work is. by_got q other work (tree.get so_far.node.requests q) refl is) all,
   by_act step.act told,
@@ -88,6 +88,10 @@ driven_waited number req course disk step so_far alone there is_disk on vid spec
 
     after : Session
     after = record (session_in number so_far) { disk = Some (record disk { inode = step.inode }) }
+
+    was_own : (opened : Disk) (others : Driver) → IsOfOwn (Some opened) (Driving others) → IsOwnIn opened.inode others
+    was_own opened others (one, got, is) =
+        subst (λ (d : Disk). IsOwnIn d.inode others) (sym (same_Some opened one got)) is
 
     by_course : (q : ℕ) (work : ObjWork) (of : Course) → q ≢ req → HasRequest number q of so_far → is_disk_course of ≡ true
         → Waits (Some disk) of work → Waits (Some now) of work
@@ -101,7 +105,7 @@ driven_waited number req course disk step so_far alone there is_disk on vid spec
             there = refl;
             awaited = awaited_alike disk.inode step.inode others work spec vid (entries q others there_too other) awaited;
           },
-          tt,
+          (now, refl, own_alike disk.inode step.inode others vid (entries q others there_too other) (was_own disk others is.1)),
         )
     by_course q work (Commanding op) other there_too disk_too is = absurd (cc (disk_too))
     by_course q work (Checking check) other there_too disk_too is = absurd (cc (disk_too))
@@ -124,7 +128,7 @@ driven_waited number req course disk step so_far alone there is_disk on vid spec
         → IsOutcomeAt Waits req (outcome_of_driver act) (after_driver_step number req disk step so_far)
     by_act (driver_acts.Work work) told =
         own_seen disk_in (λ (d : Option Disk) (of : Course). Waits d of work) so_far.node.sessions number after req (Driving step.driver)
-        so_far.node.requests (record { disk = now; there = refl; awaited = told }, tt)
+        so_far.node.requests (record { disk = now; there = refl; awaited = told }, (now, refl, own))
     by_act (driver_acts.Reply reply) told = tt
 
 -- ---- a command does
@@ -178,21 +182,21 @@ sole_outcome number req course work so_far is =
     (record (session_in number so_far) { command = Some req }) req course so_far.node.requests is
 
 checked_outcome : (number req : ℕ) (step : CheckStep) (disk : Disk) (so_far : StepState) → (session_in number so_far).disk ≡ Some disk
-    → IsCheckWaitedAt disk step.check step.act
+    → step.check.vid ≡ disk.inode.vid → IsCheckWaitedAt disk step.check step.act
     → IsOutcomeAt Waits req (outcome_of_check step.act) (with_sole_request number req (Checking step.check) so_far)
-checked_outcome number req step disk so_far on is = by_act step.act is
+checked_outcome number req step disk so_far on vid is = by_act step.act is
   where
     by_act : (act : CheckAct) → IsCheckWaitedAt disk step.check act
         → IsOutcomeAt Waits req (outcome_of_check act) (with_sole_request number req (Checking step.check) so_far)
     by_act (check_acts.Work work) is =
-        sole_outcome number req (Checking step.check) work so_far (record { disk = disk; there = on; is = is }, tt)
+        sole_outcome number req (Checking step.check) work so_far (record { disk = disk; there = on; is = is }, (disk, on, vid))
     by_act (check_acts.Reply found) is = tt
 
 -- ---- every step that a request takes
 
 module _ (asked : ℕ → Option Ask) (Began : ℕ → Option ℕ → Type 0) {input : Input} {node : Node} (may : May input node)
     (queued : QueuesAreDiskRequests node) (sole : CommandsAreAlone node) (sound : IsSoundStep input node) where
-  steps_waited : StepsKeepAt Waits input node (IsWaitingWell asked Began)
+  pub steps_waited : StepsKeepAt Waits input node (IsWaitingWell asked Began)
   steps_waited so_far session req next moved (DiskBegins ask disk there on may_run) all =
       let goes = begin_goes drivers.Answered disk ask in
       let wanted = driver_begins-wanted disk ask in
@@ -200,7 +204,7 @@ module _ (asked : ℕ → Option Ask) (Began : ℕ → Option ℕ → Type 0) {i
       (λ q others there_too other.
       subst (λ (inode : Content). All (λ (piece : Piece). entry_of inode piece ≡ entry_of disk.inode piece) (pieces_left others))
       (sym goes.table)
-      (λ k d within. refl)) goes.told
+      (λ k d within. refl)) goes.told (driver_begins-own disk ask)
       (steps_free so_far session req next moved (DiskBegins ask disk there on may_run) sound all.0.known.0.0).free all.1
   steps_waited so_far session req next moved (DiskGoesOn number work attempt status bytes driver disk step ends on is) all =
       let freed = without_ended_work session req work status so_far in
@@ -220,7 +224,7 @@ module _ (asked : ℕ → Option Ask) (Began : ℕ → Option ℕ → Type 0) {i
       (sym goes.table)
       (entries_stay disk.inode driver others
       (begun_at_others so_far all.0.queues all.0.once all.0.standing session req q driver others
-      ends.ends.request there_too other))) goes.told
+      ends.ends.request there_too other))) goes.told (driver_goes_on-own disk.inode bytes driver step is)
       (steps_free so_far session req next moved
       (DiskGoesOn number work attempt status bytes driver disk step ends on is) sound all.0.known.0.0).free
       (freed_at Waits session req work status so_far all.1)
@@ -245,7 +249,8 @@ module _ (asked : ℕ → Option Ask) (Began : ℕ → Option ℕ → Type 0) {i
       let working = on_working (session_in session so_far).disk inode arrival.refused on in (
         sole_waited session req (Checking (begin_check inode).check) so_far
             (steps_free so_far session req next moved (CheckBegins inode arrival on) sound all.0.known.0.0).free all.1,
-        checked_outcome session req (begin_check inode) working.disk so_far working.there (check_begins-waited working.disk inode),
+        checked_outcome session req (begin_check inode) working.disk so_far working.there
+            (check_begins-vid inode ∙ ap (λ (i : Content). i.vid) (sym working.same)) (check_begins-waited working.disk inode),
       )
   steps_waited so_far session req next moved (CheckGoesOn number work attempt status bytes check step ends is) all =
       let freed = without_ended_work session req work status so_far in
@@ -264,7 +269,7 @@ module _ (asked : ℕ → Option Ask) (Began : ℕ → Option ℕ → Type 0) {i
             (steps_free so_far session req next moved
             (CheckGoesOn number work attempt status bytes check step ends is) sound all.0.known.0.0).free
             (freed_at Waits session req work status so_far all.1),
-        checked_outcome session req step placed.2.on.disk freed on
+        checked_outcome session req step placed.2.on.disk freed on (check_goes_on-vid bytes check step is ∙ placed.2.is.vid)
             (check_goes_on-waited placed.2.on.disk bytes check step is placed.2.is here.spec waits),
       )
   steps_waited so_far session req next moved (ObjectBegins work arrival) all = (

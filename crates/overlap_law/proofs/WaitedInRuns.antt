@@ -35,9 +35,10 @@ use Rattle.sheep_node.specs.SessionQueues.{session_among, command_in, is_disk_re
 use Rattle.sheep_node.specs.State as nodes
 use Rattle.sheep_node.specs.State.{Node, new_session}
 use Rattle.sheep_node.specs.Step.{on_request, is_due, with_recovered, recovered_put, on_input, node_step}
+use Rattle.sheep_node.specs.SoundWorks.{HasSoundWorks}
 use Rattle.sheep_node.specs.StepState.{StepState, at_first, with_node}
 use Rattle.sheep_node.specs.WantedWorks.{HasWork}
-use Rattle.sheep_node.specs.Changes.{IsSoundStep, input_received, Leads}
+use Rattle.sheep_node.specs.Changes.{IsSoundStep, Outcome, RequestSteps, input_received, Leads}
 use Rattle.sheep_node.proofs.NodeLaws.{IsSoundNode-initial}
 use Rattle.sheep_node.proofs.NumberChanges.{meets_numbers}
 use Rattle.sheep_node.proofs.SoundLaws.{known as known_in_step, works_sound_in_chain}
@@ -65,9 +66,9 @@ use Rattle.overlap_law.proofs.QueueOnce.{AreOnceIn, none_once, once_so_far}
 use Rattle.overlap_law.proofs.QueuedChanges.{AreStanding, StandingSoFar}
 use Rattle.overlap_law.proofs.QueuedInSteps.{IsQueuedWell, standing_in_chain, none_standing, received_standing}
 use Rattle.overlap_law.proofs.WaitedSteps.{no_id, Waits}
-use Rattle.overlap_law.proofs.WaitedChanges.{IsWaitingWell, waits_in_chain}
+use Rattle.overlap_law.proofs.WaitedChanges.{IsWaitingWell, steps_waited, waits_in_chain}
 use Rattle.overlap_law.proofs.WholeInRuns.{sound_world, sound_here, named, may_change}
-use Rattle.overlap_law.proofs.WorksAtCourses.{HaveAt, none_at, received_at}
+use Rattle.overlap_law.proofs.WorksAtCourses.{HaveAt, AtSoFar, IsOutcomeAt, none_at, received_at}
 
 -- reads and writes stand for the objects of their pieces, and works are waited for
 abbrev pub IsWaitedIn : Node → Type 0
@@ -106,6 +107,24 @@ module _ (asked : ℕ → Option Ask) (Began : ℕ → Option ℕ → Type 0) (i
         placed = placed_in_chain asked Began input node may is.queues is.sole_commands brought placed so_far leads;
       }
 
+  -- as far as the step has come
+  pub waited_so_far : (so_far : StepState) → Leads input node (input_received input (at_first node)) so_far
+      → IsWaitedIn so_far.node × HasSoundWorks so_far.node
+  waited_so_far so_far leads = (
+    (
+      standing so_far leads,
+      waits_in_chain asked Began may is.queues is.sole_commands sound well leads (received_at Waits input node waited.1),
+    ),
+    (well so_far leads).sound,
+  )
+
+  -- what a request comes to is waited for too
+  steps_so_far : (so_far : StepState) → Leads input node (input_received input (at_first node)) so_far → (session req : ℕ)
+      (next : Outcome) (moved : StepState) → RequestSteps input node so_far session req next moved → IsOutcomeAt Waits req next moved
+  steps_so_far so_far leads session req next moved steps =
+      (steps_waited asked Began may is.queues is.sole_commands sound so_far session req next moved steps
+      (well so_far leads, (waited_so_far so_far leads).0.1)).1
+
   stepped_waited : IsWaitedIn (node_step input node).node
   stepped_waited = (
     standing (node_step input node) (step_chain input node),
@@ -137,6 +156,19 @@ module _ (script : List Statement) (range : RunsAreInRange script) where
         (sound_here script range world began n host there up) ((sound_world script range world began).hosts n host there).once
         (brings script world n host cause there caused)
         (placed_found script range world began n host cause host.node (requests_placed script range world began n host there)) waited
+
+    -- in the middle of a step
+    pub waits_then : (cause : NodeCause) → IsNotServed cause → IsCause script world n host cause → IsWaitedIn host.node
+        → (so_far : StepState)
+        → Leads (input_of_cause cause) host.node (input_received (input_of_cause cause) (at_first host.node)) so_far
+        → IsWaitedIn so_far.node × HasSoundWorks so_far.node
+    waits_then cause not caused waited so_far leads =
+        waited_so_far (asked_by script) (BeganOn script (progress_at_cause cause world)) (input_of_cause cause) host.node
+        (may_change script range world began n host there up cause not caused) (named script range world began n host there up cause caused)
+        (sound_here script range world began n host there up) ((sound_world script range world began).hosts n host there).once
+        (brings script world n host cause there caused)
+        (placed_found script range world began n host cause host.node
+        (requests_placed script range world began n host there)) waited so_far leads
 
     step_waited : (cause : NodeCause) → IsCause script world n host cause → IsWaitedIn host.node
         → IsWaitedIn (node_step (input_of_cause cause) host.node).node
@@ -174,6 +206,30 @@ module _ (script : List Statement) (range : RunsAreInRange script) where
       → IsWaitedIn host.node
   works_waited =
       each_where script (Began script) (λ (world : World) (n : ℕ) (host : Host). IsWaitedIn host.node) (λ world began. began) waited_kept
+
+  -- in the middle of a step
+  module _ (world : World) (began : Began script world) (n : ℕ) (host : Host) (there : tree.get world.hosts n ≡ Some host)
+      (up : is_host_up host ≡ true) (cause : NodeCause) (not : IsNotServed cause) (caused : IsCause script world n host cause)
+      (so_far : StepState)
+      (leads : Leads (input_of_cause cause) host.node (input_received (input_of_cause cause) (at_first host.node)) so_far) where
+    pub works_wait : AtSoFar Waits so_far
+    works_wait =
+        (waited_so_far (asked_by script) (BeganOn script (progress_at_cause cause world)) (input_of_cause cause) host.node
+        (may_change script range world began n host there up cause not caused) (named script range world began n host there up cause caused)
+        (sound_here script range world began n host there up) ((sound_world script range world began).hosts n host there).once
+        (brings script world n host cause there caused)
+        (placed_found script range world began n host cause host.node (requests_placed script range world began n host there))
+        (works_waited world began n host there) so_far leads).0.1
+
+    pub outcome_waits : (session req : ℕ) (next : Outcome) (moved : StepState)
+        → RequestSteps (input_of_cause cause) host.node so_far session req next moved → IsOutcomeAt Waits req next moved
+    outcome_waits session req next moved steps =
+        steps_so_far (asked_by script) (BeganOn script (progress_at_cause cause world)) (input_of_cause cause) host.node
+        (may_change script range world began n host there up cause not caused) (named script range world began n host there up cause caused)
+        (sound_here script range world began n host there up) ((sound_world script range world began).hosts n host there).once
+        (brings script world n host cause there caused)
+        (placed_found script range world began n host cause host.node (requests_placed script range world began n host there))
+        (works_waited world began n host there) so_far leads session req next moved steps
 
 -- ---- as the invariant says it
 

@@ -1,5 +1,6 @@
 -- The work that a driver, a command or a check comes to is the one that it then waits for, on the disk that its session has open.
-use Rattle.std.proofs.Common.{◌≡◌, ◌≢◌, ℕ, ◌+◌, ◌*◌, ◌^◌, ◌++◌, Bool, true, false, List, [], ◌∷◌, length, All, Option, Some, None, option_map, option_and_then, refl, sym, ap, subst, ◌∙◌}
+use Rattle.std.proofs.Common.{◌≡◌, ◌≢◌, ℕ, ◌+◌, ◌*◌, ◌^◌, ◌==◌, ◌++◌, Bool, true, false, cond, List, [], ◌∷◌, length, All, Option, Some, None, option_map, option_and_then, refl, sym, ap, subst, ◌∙◌}
+use Rattle.std.proofs.lemmas.Bool.{eqb-true}
 use Rattle.std.proofs.lemmas.List.{get_or-set_other}
 use Rattle.std.proofs.lemmas.List.Elements.{All-head, All-weaker}
 use Rattle.std.proofs.lemmas.Option.{same_Some}
@@ -8,10 +9,13 @@ use Rattle.object_id.specs.declared.entry.Entry.TheVariants.{Format, Join, Leave
 use Rattle.object_id.specs.declared.entry.Origin.TheVariants.{Fresh, SnapshotOf, CloneOf}
 use Rattle.object_id.specs.declared.node.NodeId.{NodeId}
 use Rattle.object_id.specs.declared.oid.Vid.{Vid}
-use Rattle.object_id.specs.Fields.{u32_bytes}
+use Rattle.object_id.specs.declared.cause.Cause.{Cause}
+use Rattle.object_id.specs.Fields.{u32_bytes, zeros}
 use Rattle.object_id.specs.Oid.{inode_number, object_number}
 use Rattle.inode.specs.Layout.{Content}
 use Rattle.inode.specs.declared.layout.TheConstants.{INODE_HEADER_BYTES}
+use Rattle.peer_proto.specs.declared.guest.DiskAsk.{DiskAsk}
+use Rattle.peer_proto.specs.declared.guest.DiskAsk.TheVariants as disk_asks
 use Rattle.peer_proto.specs.declared.guest.VdiAsk.{VdiAsk}
 use Rattle.peer_proto.specs.declared.work.ObjWork.{ObjWork}
 use Rattle.peer_proto.specs.declared.work.ObjWork.TheVariants as works
@@ -27,10 +31,11 @@ use Rattle.guest_driver.specs.declared.act.DriverAct.TheVariants as driver_acts
 use Rattle.guest_driver.specs.declared.disk.Disk.{Disk}
 use Rattle.guest_driver.specs.Course.{IsAwaitedByDriver, inode_after}
 use Rattle.guest_driver.specs.OnDisk.{pieces_left}
-use Rattle.guest_driver.specs.Pieces.{Piece, piece_bytes}
-use Rattle.guest_driver.specs.PieceWorks.{entry_of, table_with_entry}
+use Rattle.guest_driver.specs.Pieces.{Piece, pieces, piece_bytes}
+use Rattle.guest_driver.specs.PieceWorks.{Hole, Own, Inherited, entry_of, read_piece, table_with_entry}
+use Rattle.guest_driver.specs.Refusals.{refusal_on}
 use Rattle.guest_driver.specs.Driver as drivers
-use Rattle.guest_driver.specs.Driver.{Driver, Reads, Writes, InPlace, Fetching, Creating, Entering}
+use Rattle.guest_driver.specs.Driver.{Driver, Reads, Writes, DriverStage, InPlace, Fetching, Creating, Entering, DriverStep, work_step, read_on, write_piece_on, write_on, begin_unless_refused, begin_driver, write_done, driver_on_done}
 use Rattle.disk_check.specs.declared.act.CheckAct.{CheckAct}
 use Rattle.disk_check.specs.declared.act.CheckAct.TheVariants as check_acts
 use Rattle.disk_check.specs.Table.{own_indexes}
@@ -73,17 +78,34 @@ HasOwnDraftAt (Working vid task) = HasOwnDraftIn vid task
 HasOwnDraftAt (Publishing entry opened) = Unit {0}
 HasOwnDraftAt (ops.Answered change) = Unit {0}
 
-abbrev pub HasOwnDraft : Course → Type 0
-HasOwnDraft (Waiting ask) = Unit {0}
-HasOwnDraft (Driving driver) = Unit {0}
-HasOwnDraft (Commanding op) = HasOwnDraftAt op.stage
-HasOwnDraft (Checking check) = Unit {0}
-HasOwnDraft (DoingWork work) = Unit {0}
-HasOwnDraft (AwaitingDecision entry) = Unit {0}
+-- a write goes into the disk's own object where its table says that it has one
+abbrev pub IsOwnAt : Content → Piece → DriverStage → Type 0
+IsOwnAt inode piece InPlace = entry_of inode piece ≡ inode.vid
+IsOwnAt inode piece Fetching = Unit {0}
+IsOwnAt inode piece Creating = Unit {0}
+IsOwnAt inode piece Entering = Unit {0}
+
+abbrev pub IsOwnIn : Content → Driver → Type 0
+IsOwnIn inode (Reads told piece rest) = Unit {0}
+IsOwnIn inode (Writes payload stage piece rest) = IsOwnAt inode piece stage
+IsOwnIn inode drivers.Answered = Unit {0}
+
+-- the open disk is one of which something holds
+abbrev pub IsOpenSo : Option Disk → (Disk → Type 0) → Type 0
+IsOpenSo opened So = (disk : Disk) × (opened ≡ Some disk) × So disk
+
+-- a course is of what its session has: the draft of a command, the own object of the open disk, or the open disk
+abbrev pub IsOfOwn : Option Disk → Course → Type 0
+IsOfOwn opened (Waiting ask) = Unit {0}
+IsOfOwn opened (Driving driver) = IsOpenSo opened (λ (disk : Disk). IsOwnIn disk.inode driver)
+IsOfOwn opened (Commanding op) = HasOwnDraftAt op.stage
+IsOfOwn opened (Checking check) = IsOpenSo opened (λ (disk : Disk). check.vid ≡ disk.inode.vid)
+IsOfOwn opened (DoingWork work) = Unit {0}
+IsOfOwn opened (AwaitingDecision entry) = Unit {0}
 
 -- a course waits for a work
 abbrev pub Waits : Option Disk → Course → ObjWork → Type 0
-Waits disk course work = WaitsFor [] no_id [] disk course work × HasOwnDraft course
+Waits disk course work = WaitsFor [] no_id [] disk course work × IsOfOwn disk course
 
 -- ---- a read or write
 
@@ -138,6 +160,76 @@ awaited_alike old new (Writes payload Entering piece rest) work spec vid same is
     is ∙ sym (λ i. driver_acts.Work
     (works.Write (inode_number (vid i)) (spec i).policy (INODE_HEADER_BYTES + 4 * piece.index) (u32_bytes (vid i))))
 awaited_alike old new drivers.Answered work spec vid same (reply, is) = absurd (cc (is))
+
+-- ---- the own object of the open disk
+
+-- an entry of the same disk with the same entries of the driver's pieces
+pub own_alike : (old new : Content) (driver : Driver) → new.vid ≡ old.vid
+    → All (λ (piece : Piece). entry_of new piece ≡ entry_of old piece) (pieces_left driver) → IsOwnIn old driver → IsOwnIn new driver
+own_alike old new (Reads told piece rest) vid same is = tt
+own_alike old new (Writes payload InPlace piece rest) vid same is =
+    All-head (λ (piece : Piece). entry_of new piece ≡ entry_of old piece) piece rest same ∙ is ∙ sym vid
+own_alike old new (Writes payload Fetching piece rest) vid same is = tt
+own_alike old new (Writes payload Creating piece rest) vid same is = tt
+own_alike old new (Writes payload Entering piece rest) vid same is = tt
+own_alike old new drivers.Answered vid same is = tt
+
+-- a step of a driver is so
+abbrev pub IsOwnStep : DriverStep → Type 0
+IsOwnStep step = IsOwnIn step.inode step.driver
+
+module _ (inode : Content) where
+  read_own : (told : List ℕ) (rest : List Piece) → IsOwnStep (read_on inode told rest)
+  unfolding read_on
+  read_own told [] = tt
+  read_own told (piece ∷ rest) = by_hole (entry_of inode piece == 0) (read_own (told ++ zeros piece.size) rest)
+    where
+      by_hole : (b : Bool) → IsOwnStep (read_on inode (told ++ zeros piece.size) rest)
+          → IsOwnStep (cond b (read_on inode (told ++ zeros piece.size) rest)
+          (work_step inode (Reads told piece rest) (read_piece inode piece (entry_of inode piece))))
+      by_hole true later = later
+      by_hole false later = tt
+
+  write_own : (payload : List ℕ) (rest : List Piece) → IsOwnStep (write_on inode payload rest)
+  write_own payload [] = tt
+  write_own payload (piece ∷ rest) = by_hole (entry_of inode piece == 0)
+    where
+      by_own : (b : Bool) → (entry_of inode piece == inode.vid) ≡ b
+          → IsOwnStep (write_piece_on inode payload piece rest (cond b Own (Inherited (entry_of inode piece))))
+      by_own true is = eqb-true (entry_of inode piece) inode.vid is
+      by_own false is = tt
+
+      by_hole : (b : Bool)
+          → IsOwnStep (write_piece_on inode payload piece rest
+          (cond b Hole (cond (entry_of inode piece == inode.vid) Own (Inherited (entry_of inode piece)))))
+      by_hole true = tt
+      by_hole false = by_own (entry_of inode piece == inode.vid) refl
+
+  begun_own : (ask : DiskAsk) (cause : Option Cause) → IsOwnStep (begin_unless_refused inode ask cause)
+  begun_own ask (Some cause) = tt
+  begun_own (disk_asks.Read offset size) None = read_own [] (pieces inode.spec.shift offset size)
+  begun_own (disk_asks.Write offset payload) None = write_own payload (pieces inode.spec.shift offset (length payload))
+
+pub driver_begins-own : (disk : Disk) (ask : DiskAsk) → IsOwnStep (begin_driver disk ask)
+unfolding begin_driver
+driver_begins-own disk ask = begun_own disk.inode ask (refusal_on disk false ask)
+
+write_done-own : (inode : Content) (bytes payload : List ℕ) (piece : Piece) (rest : List Piece) (stage : DriverStage)
+    → IsOwnStep (write_done inode bytes payload piece rest stage)
+write_done-own inode bytes payload piece rest InPlace = write_own inode payload rest
+write_done-own inode bytes payload piece rest Fetching = tt
+write_done-own inode bytes payload piece rest Creating = tt
+write_done-own inode bytes payload piece rest Entering = write_own (table_with_entry inode piece) payload rest
+
+pub driver_goes_on-own : (inode : Content) (bytes : List ℕ) (driver : Driver) (step : DriverStep)
+    → driver_on_done inode bytes driver ≡ Some step → IsOwnStep step
+unfolding driver_on_done
+driver_goes_on-own inode bytes (Reads told piece rest) step next =
+    subst IsOwnStep (same_Some (read_on inode (told ++ bytes) rest) step next) (read_own inode (told ++ bytes) rest)
+driver_goes_on-own inode bytes (Writes payload stage piece rest) step next =
+    subst IsOwnStep (same_Some (write_done inode bytes payload piece rest stage) step next)
+    (write_done-own inode bytes payload piece rest stage)
+driver_goes_on-own inode bytes drivers.Answered step next = absurd (cc (next))
 
 -- ---- a command
 
@@ -265,6 +357,10 @@ module _ (disk : Option Disk) where
 
 -- ---- a check
 
+on_vid : (check : Check) (left : List ℕ) → (check_on check left).check.vid ≡ check.vid
+on_vid check [] = refl
+on_vid check (index ∷ later) = refl
+
 module _ (disk : Disk) where
   abbrev pub IsCheckWaitedAt : Check → CheckAct → Type 0
   IsCheckWaitedAt check (check_acts.Work work) = IsOfCheckStage disk check check.stage work
@@ -300,3 +396,21 @@ module _ (disk : Disk) where
       })
       by_stage (Rewriting later) next indexes wanted = given IsCheckWaited next (on_waited check later)
       by_stage checks.Answered next indexes wanted = absurd (cc (next))
+
+-- a check goes on at the disk at which it was
+pub check_begins-vid : (inode : Content) → (begin_check inode).check.vid ≡ inode.vid
+unfolding begin_check
+check_begins-vid inode = on_vid (begun_check inode) (own_indexes inode)
+
+pub check_goes_on-vid : (bytes : List ℕ) (check : Check) (step : CheckStep) → check_on_done bytes check ≡ Some step
+    → step.check.vid ≡ check.vid
+unfolding check_on_done
+check_goes_on-vid bytes check step next = by_stage check.stage next
+  where
+    by_stage : (stage : CheckStage) → check_done_at bytes check stage ≡ Some step → step.check.vid ≡ check.vid
+    by_stage (Comparing index later) next =
+        ap (λ (s : CheckStep). s.check.vid)
+        (sym (same_Some (write_back_step check index later (pieces_in check.spec bytes)) step next))
+    by_stage (Rewriting later) next =
+        ap (λ (s : CheckStep). s.check.vid) (sym (same_Some (check_on check later) step next)) ∙ on_vid check later
+    by_stage checks.Answered next = absurd (cc (next))

@@ -47,11 +47,13 @@ use Rattle.overlap_law.proofs.KnownDisks.{IsKnownWork}
 use Rattle.overlap_law.proofs.KnownDiskSteps.{effects_after, none_known, work_known}
 use Rattle.overlap_law.proofs.KnownDisksInRuns.{caused_known, read_reservable, nodes_know}
 use Rattle.overlap_law.proofs.LogsGrow.{logs_grow}
+use Rattle.overlap_law.proofs.PlacesTaken.{none_asked, places_taken}
 use Rattle.overlap_law.proofs.NewAttempts.{IsOpened, WasAttempt, come_from}
 use Rattle.overlap_law.proofs.RunsByChanges.{on_the_way}
 use Rattle.overlap_law.proofs.ShapedAttempts.{front, log_so, began_after, work_so, shaped-each}
 use Rattle.overlap_law.proofs.SoundWorlds.{IsSoundWorld, sound_worlds, asks_on_may, named_by}
-use Rattle.overlap_law.proofs.WholeSteps.{IsWholeWork, AreWholeOn, none_whole, turn_whole, stepped_whole, served_whole, back_whole}
+use Rattle.overlap_law.proofs.WholeNodes.{IsWholeWork, AreWholeOn, none_whole}
+use Rattle.overlap_law.proofs.WholeSteps.{turn_whole, stepped_whole, served_whole, back_whole}
 use Rattle.overlap_law.proofs.WholeWorks.{IsWholeOn}
 
 -- ---- one work
@@ -134,7 +136,8 @@ module _ (script : List Statement) (range : RunsAreInRange script) where
     by_step cause not caused all =
         stepped_whole (input_of_cause cause) host.node (may_change cause not caused) (named cause caused) sound_here
         (caused_known script range.is_script (effects_after (input_of_cause cause) host.node) world n host cause caused)
-        (no_object script world n host cause caused) (nodes_know script range world began n host there) all
+        (no_object script world n host cause caused) (nodes_know script range world began n host there)
+        (places_taken script range world began n host there up cause caused) all
 
     step_whole : (cause : NodeCause) → IsCause script world n host cause → AreWholeOn (effects_of host.node.peer) host.node
         → AreWholeOn (effects_of (node_step (input_of_cause cause) host.node).node.peer) (node_step (input_of_cause cause) host.node).node
@@ -164,7 +167,9 @@ module _ (script : List Statement) (range : RunsAreInRange script) where
           condition = first_may (format_entry script) [] (opens_log script range.is_script).log;
         } in
         stepped_whole input new may tt (IsSoundNode-initial member.node (tries_of script)) tt (λ req session work from. absurd (cc (from)))
-        (none_known (effects_of new.peer)) (none_whole (effects_of new.peer));
+        (none_known (effects_of new.peer))
+        (λ so_far leads. none_asked (effects_after input new) input new so_far (λ entry brings by of name tag is. absurd (cc (brings, is))))
+        (none_whole (effects_of new.peer));
     stays = λ event world made h began n host so begun. so began;
     steps = λ world n host cause began there up caused so next. step_whole world began n host there up cause caused (so began);
     fails = λ world n host began so. so;
@@ -190,7 +195,7 @@ module _ (script : List Statement) (range : RunsAreInRange script) where
     abbrev entries : List Entry
     entries = read_after input o.stepping.host.node.peer.entries
 
-    asked_whole : IsWholeWork (log_effects entries) o.asked.work
+    pub asked_whole : IsWholeWork (log_effects entries) o.asked.work
     asked_whole =
         turn_whole input o.stepping.host.node
         (may_change start.world began o.stepping.n o.stepping.host o.is.there o.is.up o.stepping.cause
@@ -201,6 +206,7 @@ module _ (script : List Statement) (range : RunsAreInRange script) where
         (effects_after input o.stepping.host.node) start.world o.stepping.n o.stepping.host o.stepping.cause o.is.caused)
         (no_object script start.world o.stepping.n o.stepping.host o.stepping.cause o.is.caused)
         (nodes_know script range start.world began o.stepping.n o.stepping.host o.is.there)
+        (places_taken script range start.world began o.stepping.n o.stepping.host o.is.there o.is.up o.stepping.cause o.is.caused)
         (nodes_whole start.world began o.stepping.n o.stepping.host o.is.there)
         o.so_far o.leads o.session o.req o.asked o.lined o.comes
 

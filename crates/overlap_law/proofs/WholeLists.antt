@@ -40,7 +40,7 @@ module _ (script : List Statement) (range : RunsAreInRange script) (events : Lis
       ap (λ (q : NodeId). q.0) ((together script range world began).recoveries n host there).own
       ∙ knows_its_number script world began n host there
 
-  own : (n : ℕ) (host : Host) → tree.get moment.world.hosts n ≡ Some host → host.node.recovery.me.0 ≡ n
+  pub own : (n : ℕ) (host : Host) → tree.get moment.world.hosts n ≡ Some host → host.node.recovery.me.0 ≡ n
   own = recoveries-on_the_way script IsOwn own_in_world events start moment is trail
 
   pub lists_whole-on_the_way : (live : ℕ → Bool) → ListsAreWhole live moment.world.hosts moment.world.wire

@@ -158,7 +158,7 @@ module _ (script : List Statement) (range : RunsAreInRange script) where
 
   -- ---- every run
 
-  record HoldsAt (moment : MomentWithPast) : Type 0 where
+  pub record HoldsAt (moment : MomentWithPast) : Type 0 where
     pub begun : Began script moment.world
     pub tied : IsTied moment
     pub fit : KnownFatesFit moment.world.hosts moment.past.attempts
@@ -188,7 +188,7 @@ module _ (script : List Statement) (range : RunsAreInRange script) where
       along event events first last holds (λ next next_holds so. run_on-holds events next last next_holds so) (step script event first.world) refl is
 
   module _ (events : List Event) (moment : MomentWithPast) (is : run_with_past script events ≡ Some moment) where
-    holds_then : HoldsAt moment
+    pub holds_then : HoldsAt moment
     unfolding run_with_past run_on
     holds_then = run_on-holds events (first_moment script) moment (record {
       begun = began-with_past script [] (first_moment script) refl;

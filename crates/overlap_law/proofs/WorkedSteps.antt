@@ -91,7 +91,8 @@ module _ (script : List Statement) (range : RunsAreInRange script) where
     joins = λ world n began control. numbers_given_at_opening (record { 0 = n }) (tries_of script);
   }
 
-  numbers_given : (world : World) → Began script world → (n : ℕ) (host : Host) → tree.get world.hosts n ≡ Some host → NumbersWereGiven host.node
+  pub numbers_given : (world : World) → Began script world → (n : ℕ) (host : Host) → tree.get world.hosts n ≡ Some host
+      → NumbersWereGiven host.node
   numbers_given world began n host there =
       each_where script (Began script) (λ (world : World) (n : ℕ) (host : Host). NumbersWereGiven host.node) (λ world begun. begun) numbers_kept world began n host there
 
@@ -102,7 +103,7 @@ module _ (script : List Statement) (range : RunsAreInRange script) where
     -- ---- a node steps
 
     -- a message of an attempt that the node had open before
-    record IsHad (n : ℕ) (host : Host) (number : ℕ) : Type 0 where
+    pub record IsHad (n : ℕ) (host : Host) (number : ℕ) : Type 0 where
       pub j : ℕ
       pub was : AttemptRecord
       pub at : slice_get start.past.attempts j ≡ Some was
@@ -159,8 +160,11 @@ module _ (script : List Statement) (range : RunsAreInRange script) where
           → slice_get after j ≡ Some now → now.targets ≡ had.was.targets → message_name_at now had.place ≡ message_name_at had.was had.place
           → slice_get now.fates had.place ≡ Some fate → ((status : Status) → FitsFate status had.fate → FitsFate status fate) → FitsFate status fate
 
-      reply_tells : (name : MessageName) (from : NodeId) (rsp : PeerRsp) → cause ≡ ReplyComes name from rsp → TellsSo (ReplyComes name from rsp)
-      reply_tells name from rsp is number status told had now j fate at targets_so name_so has goes =
+      -- a reply tells what fits the fate already
+      pub reply_fits_had : (name : MessageName) (from : NodeId) (rsp : PeerRsp) → cause ≡ ReplyComes name from rsp
+          → (number : ℕ) (status : Status)
+          → IsTold (input_of_cause (ReplyComes name from rsp)) number status → (had : IsHad n host number) → FitsFate status had.fate
+      reply_fits_had name from rsp is number status told had =
           let so : IsCause script world n host (ReplyComes name from rsp) = subst (IsCause script world n host) is caused in
           let sound : IsSoundStep (inputs.Reply rsp) host.node = subst (λ (cause : NodeCause). IsSoundStep (input_of_cause cause) host.node) is known.sound in
           let got = ap (λ (k : ℕ). packets_of world.wire k name.number) (sym so.here) ∙ so.there in
@@ -168,12 +172,15 @@ module _ (script : List Statement) (range : RunsAreInRange script) where
           let named = had_name n host number had name known.numbered so.here (sym numbered ∙ told.0) in
           let answering : IsAnswering world.wire (message_name_at had.was had.place) from rsp
           = record { bytes = so.bytes; there = ap (tree.get world.wire) named ∙ so.there; spelled = so.read } in
-          goes status
-          (subst (λ (s : Status). FitsFate s had.fate) told.1
+          subst (λ (s : Status). FitsFate s had.fate) told.1
           (reply_fits world.wire start.past.attempts tied.told tied.fates had.j had.was had.at had.place had.m.node had.fate (had_target n host number had) had.has from rsp answering
           (λ bytes say.
           no_piece host.node rsp bytes sound.1 sound.0 had.req had.work had.opened.there had.opened.making
-          (subst (λ (k : ℕ). is_awaited_in k had.work ≡ true) (sym told.0) had.waits) say)))
+          (subst (λ (k : ℕ). is_awaited_in k had.work ≡ true) (sym told.0) had.waits) say))
+
+      reply_tells : (name : MessageName) (from : NodeId) (rsp : PeerRsp) → cause ≡ ReplyComes name from rsp → TellsSo (ReplyComes name from rsp)
+      reply_tells name from rsp is number status told had now j fate at targets_so name_so has goes =
+          goes status (reply_fits_had name from rsp is number status told had)
 
       loss_tells : (name : MessageName) (packet : Packet) → cause ≡ LossIsTold name packet → TellsSo (LossIsTold name packet)
       loss_tells name packet is number status told had now j fate at targets_so name_so has goes =

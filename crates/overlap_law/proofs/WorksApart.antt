@@ -1,5 +1,4 @@
--- In every run in range works are apart, if each open read of a session is on an id that its session may write, or on a snapshot: two creates or
--- writes aren't open on one object, nor a read of a session beside one.
+-- In every run in range works are apart: two creates or writes aren't open on one object, nor a read of a session beside one.
 use Rattle.std.proofs.Common.{◌≡◌, ℕ, Bool, true, false, List, Some, refl}
 use Rattle.std.specs.FinMap as tree
 use Rattle.cluster_script.specs.declared.statement.Statement.{Statement}
@@ -19,10 +18,14 @@ use Rattle.overlap_law.proofs.NoRecoveredDue.{began-with_past}
 use Rattle.overlap_law.proofs.OneInodeWork.{one_inode_work-in_run}
 use Rattle.overlap_law.proofs.ReadInMoments.{sound_hosts}
 use Rattle.overlap_law.proofs.ReadsApart.{reads_apart}
+use Rattle.overlap_law.proofs.ReadsInMoments.{reads_known-in_run}
 use Rattle.overlap_law.proofs.WritersOfWorks.{works_may-in_run}
 
 module _ (script : List Statement) (range : RunsAreInRange script) (events : List Event) (moment : MomentWithPast)
-    (is : run_with_past script events ≡ Some moment) (known : ReadsAreKnown moment.world.log moment.world.hosts) where
+    (is : run_with_past script events ≡ Some moment) where
+  known : ReadsAreKnown moment.world.log moment.world.hosts
+  known = reads_known-in_run script range events moment moment is moments.Still
+
   makers : MakersAreApart moment.world.hosts
   makers = makers_apart-in_run script range events moment moment is moments.Still
 

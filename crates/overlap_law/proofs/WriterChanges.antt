@@ -82,14 +82,14 @@ abbrev reserved_on : List Effect → ℕ → Option Reservation
 reserved_on effects vid = reservation_on (id_of vid) (reservations_of effects)
 
 -- who may write by a reservation, or else by a lock
-abbrev writer_by : Option Reservation → Option Holder → Option Holder
+abbrev pub writer_by : Option Reservation → Option Holder → Option Holder
 writer_by reservation holder = option_map_or (λ (reservation : Reservation). Some (reserver reservation)) reservation holder
 
 pub writer-by : (effects : List Effect) (vid : ℕ) → writer_of effects vid ≡ writer_by (reserved_on effects vid) (holder_of effects vid)
 unfolding writer_of
 writer-by effects vid = refl
 
-writer-after : (before : List Effect) (effect : Effect) (vid : ℕ) → writer_of (before ++ effect ∷ []) vid
+pub writer-after : (before : List Effect) (effect : Effect) (vid : ℕ) → writer_of (before ++ effect ∷ []) vid
     ≡ writer_by (reservation_on (id_of vid) (reservations_after (reservations_of before) effect)) (holder_after vid (holder_of before vid) effect)
 unfolding writer_of
 writer-after before effect vid = λ i. writer_by (reservation_on (id_of vid) (reservations_of-push before effect i)) (holder_of-push before effect vid i)
@@ -116,7 +116,7 @@ kept_apart a b c same apart = by_test (a == c) refl
 lost_same : (a b c : ℕ) → (a == b) ≡ true → (c == b) ≡ true → not (a == c) ≡ false
 lost_same a b c same too = ap not (eq-eqb a c (eqb-true a b same ∙ sym (eqb-true c b too)))
 
-none_or : {X : Type 0} (o : Option X) → option_or o None ≡ o
+pub none_or : {X : Type 0} (o : Option X) → option_or o None ≡ o
 none_or None = refl
 none_or (Some x) = refl
 

@@ -1,6 +1,6 @@
 -- Each open create or write of a node is on an id that its request's session may write: in each world of a run in range, and at each moment on the
 -- way of its events.
-use Rattle.std.proofs.Common.{◌≡◌, inl, ⊎_elim, ℕ, Bool, true, false, List, [], ◌∷◌, ◌++◌, All, Contains, length, Option, Some, None, IfSome, unwrap_or, refl, sym, ap, subst, ◌∙◌}
+use Rattle.std.proofs.Common.{◌≡◌, ◌⊎◌, inl, inr, ⊎_elim, ℕ, Bool, true, false, List, [], ◌∷◌, ◌++◌, All, Contains, length, Option, Some, None, IfSome, unwrap_or, refl, sym, ap, subst, ◌∙◌}
 use Rattle.std.specs.FinMap as tree
 use Rattle.std.proofs.lemmas.List.Elements.{All-head, Contains-append_cases}
 use Rattle.std.proofs.lemmas.Option.{same_Some}
@@ -19,7 +19,9 @@ use Rattle.vdi_directory.specs.declared.effect.Effect.{Effect}
 use Rattle.vdi_directory.specs.declared.effect.Effect.TheVariants as effects
 use Rattle.vdi_directory.specs.declared.effect.Grant.{Grant}
 use Rattle.vdi_directory.specs.Decisions.{outcome, log_effects}
-use Rattle.vdi_directory.proofs.DecisionLaws.{grant_outcome-unused}
+use Rattle.vdi_directory.specs.States as States
+use Rattle.vdi_directory.specs.States.{state_of}
+use Rattle.vdi_directory.proofs.DecisionLaws.{grant_outcome-unused, held-works}
 use Rattle.vdi_directory.proofs.StateLemmas.{log_effects-none, log_effects-push}
 use Rattle.gateway.specs.Work.{is_making}
 use Rattle.gateway.specs.State.{Work}
@@ -46,10 +48,13 @@ use Rattle.sheep_world.specs.Began.{Began}
 use Rattle.overlap_law.specs.AwaitedEntries.{WasReserved, IsSessionsEntry, IsSessionsStage, IsSessionsCommand, CommandsAreTheSessions}
 use Rattle.overlap_law.specs.CommandDisks.{opened_as, opened_in, IsOpenAtLast, IsOpenAtStage, IsOpenAtCourse}
 use Rattle.overlap_law.specs.Courses.{granted_at}
+use Rattle.overlap_law.specs.Each.{EachUp}
+use Rattle.overlap_law.specs.Holders.{is_create_work}
+use Rattle.overlap_law.specs.Reached.{Hosts}
 use Rattle.overlap_law.specs.Past.{MomentWithPast, run_with_past}
 use Rattle.overlap_law.specs.MomentChanges as moments
 use Rattle.overlap_law.specs.MomentChanges.{MomentChange, MomentTrail, RunsAreInRange}
-use Rattle.overlap_law.specs.WriterClaims.{HasLock, IsMakingKept, IsStageKept, LetsGo, IsLetGo, IsDiskKept, HasClaims}
+use Rattle.overlap_law.specs.WriterClaims.{holder_at, HasLock, IsMakingKept, IsStageKept, LetsGo, IsLetGo, IsDiskKept, HasClaims}
 use Rattle.overlap_law.specs.Writers.{MayWrite, WorksMayWrite}
 use Rattle.overlap_law.proofs.AllowedCourses.{IsAllowed, opened_by}
 use Rattle.overlap_law.proofs.AwaitedInRuns.{awaited_in_worlds, awaited_after, said_sessions}
@@ -88,7 +93,7 @@ module _ (log : List Entry) (n : ℕ) (node : Node) (own : node.me.0 ≡ n) (epo
     (has : HasClaims log node.outbox node.peer.entries (length node.peer.entries) node.me node.requests node.sessions)
     (fits : (req : ℕ) (request : Request) → tree.get node.requests req ≡ Some request
     → IsOpenAtCourse (opened_in request.session node.sessions) request.course)
-    (well : HasWellWorks node) (req : ℕ) (work : Work) (got : tree.get node.gateway.works req ≡ Some work) (making : is_making work.work ≡ true)
+    (well : HasWellWorks node) (req : ℕ) (work : Work) (got : tree.get node.gateway.works req ≡ Some work)
     (request : Request) (there : tree.get node.requests req ≡ Some request) where
   abbrev MayWriteIt : Type 0
   MayWriteIt = MayWrite log n request.session (vid_of (oid_of work.work)) node
@@ -96,12 +101,8 @@ module _ (log : List Entry) (n : ℕ) (node : Node) (own : node.me.0 ≡ n) (epo
   abbrev Locks : ℕ → Type 0
   Locks vid = HasLock log node.outbox node.me request.session (epoch_of node.peer.entries) vid
 
-  -- what isn't made
-  reads : (what : ObjWork) → work.work ≡ what → is_making what ≡ false → MayWriteIt
-  reads what is read = let none : is_making work.work ≡ false = ap is_making is ∙ read in absurd (cc (none, making))
-
   -- who lets the disk go is this request
-  its_course : (vid : ℕ) → (goes : IsLetGo node.requests request.session vid) → request.course ≡ Commanding goes.op
+  pub its_course : (vid : ℕ) → (goes : IsLetGo node.requests request.session vid) → request.course ≡ Commanding goes.op
   its_course vid goes =
       let named : command_in request.session node.sessions ≡ Some goes.req
       = subst (λ (k : ℕ). command_in k node.sessions ≡ Some goes.req) goes.of
@@ -114,7 +115,8 @@ module _ (log : List Entry) (n : ℕ) (node : Node) (own : node.me.0 ≡ n) (epo
   LetsNone = (vid : ℕ) → IsLetGo node.requests request.session vid → ⊥
 
   -- the working disk that is open is locked
-  locked_open : ((vid : ℕ) → IsLetGo node.requests request.session vid → ⊥) → (vid : ℕ) → opened_in request.session node.sessions ≡ Some (false, vid) → Locks vid
+  pub locked_open : ((vid : ℕ) → IsLetGo node.requests request.session vid → ⊥) → (vid : ℕ)
+      → opened_in request.session node.sessions ≡ Some (false, vid) → Locks vid
   locked_open none vid opened = by_disk (session_among request.session node.sessions).disk refl opened
     where
       by_disk : (disk : Option Disk) → (session_among request.session node.sessions).disk ≡ disk → opened_as disk ≡ Some (false, vid) → Locks vid
@@ -130,7 +132,7 @@ module _ (log : List Entry) (n : ℕ) (node : Node) (own : node.me.0 ≡ n) (epo
               (λ (goes : IsLetGo node.requests request.session disk.inode.vid). absurd (none disk.inode.vid goes)) is)
 
   -- and is known
-  known_open : (disk : Disk) → (session_among request.session node.sessions).disk ≡ Some disk → IsKnownInode well.known disk.inode
+  pub known_open : (disk : Disk) → (session_among request.session node.sessions).disk ≡ Some disk → IsKnownInode well.known disk.inode
   known_open disk opened = by_session (tree.get node.sessions request.session) refl opened
     where
       by_session : (o : Option Session) → tree.get node.sessions request.session ≡ o → (unwrap_or o new_session).disk ≡ Some disk
@@ -140,7 +142,7 @@ module _ (log : List Entry) (n : ℕ) (node : Node) (own : node.me.0 ≡ n) (epo
           subst (λ (o : Option Disk). IfSome o (λ (d : Disk). IsKnownInode well.known d.inode)) opened
           (well.on_known.each_session request.session session there).disk
 
-  id_open : (vid : ℕ) → opened_in request.session node.sessions ≡ Some (false, vid) → IsVid vid
+  pub id_open : (vid : ℕ) → opened_in request.session node.sessions ≡ Some (false, vid) → IsVid vid
   id_open vid opened = by_disk (session_among request.session node.sessions).disk refl opened
     where
       by_disk : (disk : Option Disk) → (session_among request.session node.sessions).disk ≡ disk → opened_as disk ≡ Some (false, vid) → IsVid vid
@@ -150,181 +152,218 @@ module _ (log : List Entry) (n : ℕ) (node : Node) (own : node.me.0 ≡ n) (epo
           subst IsVid (ap (λ (p : Bool × ℕ). p.1) both) (known_open disk got).disk.id
 
   -- a work on what is locked
-  on_locked : (vid : ℕ) → vid_of (oid_of work.work) ≡ vid → Locks vid → MayWriteIt
+  pub on_locked : (vid : ℕ) → vid_of (oid_of work.work) ≡ vid → Locks vid → MayWriteIt
   on_locked vid same lock =
       subst (λ (v : ℕ). MayWrite log n request.session v node) (sym same) (locked_may log n node own epoch_so request.session vid lock)
 
-  -- ---- a read or write
+  module _ (making : is_making work.work ≡ true) where
+    -- the work is on an id that is locked, or creates what the session may write
+    abbrev WritesIt : Type 0
+    WritesIt = Locks (vid_of (oid_of work.work)) ⊎ ((is_create_work work.work ≡ true) × MayWriteIt)
 
-  writing : (payload : List ℕ) (stage : DriverStage) (piece : Piece) (rest : List Piece) → request.course ≡ Driving (Writes payload stage piece rest)
-      → (vid : ℕ) → opened_in request.session node.sessions ≡ Some (false, vid) → (disk : Disk)
-      → (session_among request.session node.sessions).disk ≡ Some disk → IsWorkOfWrite disk.inode payload piece work.work stage
-      → All FewAt (piece ∷ rest) → MayWriteIt
-  writing payload stage piece rest at vid working disk opened wanted few = by_stage stage wanted
-    where
-      none : (of : ℕ) → IsLetGo node.requests request.session of → ⊥
-      none of goes = let both = sym at ∙ its_course of goes in absurd (cc (both))
+    locks_it : (vid : ℕ) → vid_of (oid_of work.work) ≡ vid → Locks vid → WritesIt
+    locks_it vid same lock = inl (subst Locks (sym same) lock)
 
-      same : disk.inode.vid ≡ vid
-      same =
-          ap (λ (p : Bool × ℕ). p.1)
-          (same_Some (disk.snapshot, disk.inode.vid) (false, vid) (sym (ap opened_as opened) ∙ working))
+    -- what isn't made
+    reads : (what : ObjWork) → work.work ≡ what → is_making what ≡ false → WritesIt
+    reads what is read = let none : is_making work.work ≡ false = ap is_making is ∙ read in absurd (cc (none, making))
 
-      id : IsVid disk.inode.vid
-      id = (known_open disk opened).disk.id
+    -- ---- a read or write
 
-      on_object : oid_of work.work ≡ object_number disk.inode.vid piece.index → MayWriteIt
-      on_object is =
-          on_locked vid (ap vid_of is ∙ vid-of_object disk.inode.vid piece.index id (All-head FewAt piece rest few) ∙ same) (locked_open none vid working)
+    writing : (payload : List ℕ) (stage : DriverStage) (piece : Piece) (rest : List Piece)
+        → request.course ≡ Driving (Writes payload stage piece rest)
+        → (vid : ℕ) → opened_in request.session node.sessions ≡ Some (false, vid) → (disk : Disk)
+        → (session_among request.session node.sessions).disk ≡ Some disk → IsWorkOfWrite disk.inode payload piece work.work stage
+        → All FewAt (piece ∷ rest) → WritesIt
+    writing payload stage piece rest at vid working disk opened wanted few = by_stage stage wanted
+      where
+        none : (of : ℕ) → IsLetGo node.requests request.session of → ⊥
+        none of goes = let both = sym at ∙ its_course of goes in absurd (cc (both))
 
-      by_stage : (stage : DriverStage) → IsWorkOfWrite disk.inode payload piece work.work stage → MayWriteIt
-      by_stage InPlace is = on_object (ap oid_of is)
-      by_stage Fetching is = reads _ is.1 refl
-      by_stage Creating (offset, bytes, is) =
-          let created : work.work ≡ works.Create (object_number disk.inode.vid piece.index) disk.inode.spec.policy (object_bytes disk.inode) offset bytes
-          = cc (is) in
-          on_object (ap oid_of created)
-      by_stage Entering is = on_locked vid (ap vid_of (ap oid_of is) ∙ vid-of_inode disk.inode.vid id ∙ same) (locked_open none vid working)
+        same : disk.inode.vid ≡ vid
+        same =
+            ap (λ (p : Bool × ℕ). p.1)
+            (same_Some (disk.snapshot, disk.inode.vid) (false, vid) (sym (ap opened_as opened) ∙ working))
 
-  driving : (driver : Driver) → request.course ≡ Driving driver → IsAllowed (opened_in request.session node.sessions) (Driving driver)
-      → (disk : Option Disk) → (session_among request.session node.sessions).disk ≡ disk → IsWorkWanted (inode_open disk) (Driving driver) work.work
-      → IsKnownCourse well.known (Driving driver) → MayWriteIt
-  driving driver at allowed None opened wanted few = absurd wanted
-  driving (Reads told piece rest) at allowed (Some disk) opened wanted few = reads _ wanted.1 refl
-  driving drivers.Answered at allowed (Some disk) opened wanted few = absurd wanted
-  driving (Writes payload stage piece rest) at allowed (Some disk) opened wanted few =
-      writing payload stage piece rest at allowed.0 allowed.1 disk opened wanted few
+        id : IsVid disk.inode.vid
+        id = (known_open disk opened).disk.id
 
-  -- ---- a command
+        on_object : oid_of work.work ≡ object_number disk.inode.vid piece.index → WritesIt
+        on_object is =
+            locks_it vid (ap vid_of is ∙ vid-of_object disk.inode.vid piece.index id (All-head FewAt piece rest few) ∙ same) (locked_open none vid working)
 
-  module _ (op : Op) (command : request.course ≡ Commanding op) (vid : Vid) (task : Task) (at : op.stage ≡ Working vid task) where
-    kept : IsStageKept log node.outbox node.peer.entries (length node.peer.entries) node.me request.session (opened_in request.session node.sessions)
-        (Working vid task)
-    kept =
-        subst (IsStageKept log node.outbox node.peer.entries (length node.peer.entries) node.me request.session (opened_in request.session node.sessions)) at
-        (has.commands req request op there command)
+        by_stage : (stage : DriverStage) → IsWorkOfWrite disk.inode payload piece work.work stage → WritesIt
+        by_stage InPlace is = on_object (ap oid_of is)
+        by_stage Fetching is = reads _ is.1 refl
+        by_stage Creating (offset, bytes, is) =
+            let created : work.work ≡ works.Create (object_number disk.inode.vid piece.index) disk.inode.spec.policy
+            (object_bytes disk.inode) offset bytes
+            = cc (is) in
+            on_object (ap oid_of created)
+        by_stage Entering is = locks_it vid (ap vid_of (ap oid_of is) ∙ vid-of_inode disk.inode.vid id ∙ same) (locked_open none vid working)
 
-    -- on the id that was granted
-    on_granted : granted_at (Working vid task) ≡ Some vid → vid_of (oid_of work.work) ≡ vid.0 → MayWriteIt
-    on_granted granted same =
+    driving : (driver : Driver) → request.course ≡ Driving driver → IsAllowed (opened_in request.session node.sessions) (Driving driver)
+        → (disk : Option Disk) → (session_among request.session node.sessions).disk ≡ disk → IsWorkWanted (inode_open disk) (Driving driver) work.work
+        → IsKnownCourse well.known (Driving driver) → WritesIt
+    driving driver at allowed None opened wanted few = absurd wanted
+    driving (Reads told piece rest) at allowed (Some disk) opened wanted few = reads _ wanted.1 refl
+    driving drivers.Answered at allowed (Some disk) opened wanted few = absurd wanted
+    driving (Writes payload stage piece rest) at allowed (Some disk) opened wanted few =
+        writing payload stage piece rest at allowed.0 allowed.1 disk opened wanted few
+
+    -- ---- a command
+
+    module _ (op : Op) (command : request.course ≡ Commanding op) (vid : Vid) (task : Task) (at : op.stage ≡ Working vid task) where
+      kept : IsStageKept log node.outbox node.peer.entries (length node.peer.entries) node.me request.session
+          (opened_in request.session node.sessions)
+          (Working vid task)
+      kept =
+          subst (IsStageKept log node.outbox node.peer.entries (length node.peer.entries) node.me request.session
+          (opened_in request.session node.sessions)) at
+          (has.commands req request op there command)
+
+      -- on the id that was granted
+      on_granted : granted_at (Working vid task) ≡ Some vid → is_create_work work.work ≡ true → vid_of (oid_of work.work) ≡ vid.0 → WritesIt
+      on_granted granted creates same = inr (
+        creates,
         subst (λ (v : ℕ). MayWrite log n request.session v node) (sym same)
-        (stage_may log n node own epoch_so request.session (opened_in request.session node.sessions) vid (Working vid task) granted kept)
+            (stage_may log n node own epoch_so request.session (opened_in request.session node.sessions) vid (Working vid task) granted kept),
+      )
 
-    lets_none : (of : ℕ) → IsLetGo node.requests request.session of → ⊥
-    lets_none of goes =
-        let course : Commanding op ≡ Commanding goes.op = sym command ∙ its_course of goes in
-        let same : op ≡ goes.op = cc (course) in
-        subst (LetsGo of) (sym (ap (λ (o : Op). o.stage) same) ∙ at) goes.lets
+      lets_none : (of : ℕ) → IsLetGo node.requests request.session of → ⊥
+      lets_none of goes =
+          let course : Commanding op ≡ Commanding goes.op = sym command ∙ its_course of goes in
+          let same : op ≡ goes.op = cc (course) in
+          subst (LetsGo of) (sym (ap (λ (o : Op). o.stage) same) ∙ at) goes.lets
 
-  -- a task that makes something
-  module _ (op : Op) (command : request.course ≡ Commanding op) where
-    fits_at : (vid : Vid) (task : Task) → op.stage ≡ Working vid task → IsOpenAtStage (opened_in request.session node.sessions) (Working vid task)
-    fits_at vid task at =
-        subst (IsOpenAtStage (opened_in request.session node.sessions)) at
-        (subst (IsOpenAtCourse (opened_in request.session node.sessions)) command (fits req request there))
+    -- a task that makes something
+    module _ (op : Op) (command : request.course ≡ Commanding op) where
+      fits_at : (vid : Vid) (task : Task) → op.stage ≡ Working vid task
+          → IsOpenAtStage (opened_in request.session node.sessions) (Working vid task)
+      fits_at vid task at =
+          subst (IsOpenAtStage (opened_in request.session node.sessions)) at
+          (subst (IsOpenAtCourse (opened_in request.session node.sessions)) command (fits req request there))
 
-    known_at : (vid : Vid) (task : Task) → op.stage ≡ Working vid task → IsKnownStage well.known (Working vid task)
-    known_at vid task at =
-        subst (IsKnownStage well.known) at (subst (IsKnownCourse well.known) command (well.on_known.courses req request there))
+      known_at : (vid : Vid) (task : Task) → op.stage ≡ Working vid task → IsKnownStage well.known (Working vid task)
+      known_at vid task at =
+          subst (IsKnownStage well.known) at (subst (IsKnownCourse well.known) command (well.on_known.courses req request there))
 
-    sessions_at : (vid : Vid) (task : Task) → op.stage ≡ Working vid task
-        → IsSessionsStage (log_effects node.peer.entries) node.me request.session (Working vid task)
-    sessions_at vid task at =
-        subst (IsSessionsStage (log_effects node.peer.entries) node.me request.session) at (commands_own req request op there command).stage
+      sessions_at : (vid : Vid) (task : Task) → op.stage ≡ Working vid task
+          → IsSessionsStage (log_effects node.peer.entries) node.me request.session (Working vid task)
+      sessions_at vid task at =
+          subst (IsSessionsStage (log_effects node.peer.entries) node.me request.session) at
+          (commands_own req request op there command).stage
 
-    -- the id of what is published was reserved
-    reserved : (vid of : Vid) → WasReserved (log_effects node.peer.entries) node.me request.session of.0 → of ≡ vid → IsVid vid.0
-    reserved vid of was same = subst IsVid (was.id ∙ ap (λ (v : Vid). v.0) same) (reserved-is_id node.peer.entries was.grant was.there)
+      -- the id of what is published was reserved
+      reserved : (vid of : Vid) → WasReserved (log_effects node.peer.entries) node.me request.session of.0 → of ≡ vid → IsVid vid.0
+      reserved vid of was same = subst IsVid (was.id ∙ ap (λ (v : Vid). v.0) same) (reserved-is_id node.peer.entries was.grant was.there)
 
-    made_id : (vid : Vid) (entry : Entry) (made : Option Content)
-        → IsMakingKept log node.outbox node.peer.entries (length node.peer.entries) node.me request.session (opened_in request.session node.sessions) vid entry made
-        → IsSessionsEntry (log_effects node.peer.entries) node.me request.session entry → IsVid vid.0
-    made_id vid (Format members) made kept own = absurd kept
-    made_id vid (Join of zone vnodes) made kept own = absurd kept
-    made_id vid (Leave of) made kept own = absurd kept
-    made_id vid (Reweight of vnodes) made kept own = absurd kept
-    made_id vid (Recovered of epoch) made kept own = absurd kept
-    made_id vid (Reserve by of name origin) made kept own = absurd kept
-    made_id vid (Publish by of) made kept own = reserved vid of own.1 kept.0
-    made_id vid (Clone by of) made kept own = reserved vid of own.1 kept.0
-    made_id vid (Snapshot by old of) made kept own = reserved vid of own.1 kept.0
-    made_id vid (Delete by of name tag) made kept own = absurd kept
-    made_id vid (Lock by of name tag) made kept own = absurd kept
-    made_id vid (Unlock by of id) made kept own = absurd kept
+      made_id : (vid : Vid) (entry : Entry) (made : Option Content)
+          → IsMakingKept log node.outbox node.peer.entries (length node.peer.entries) node.me request.session
+          (opened_in request.session node.sessions) vid entry made
+          → IsSessionsEntry (log_effects node.peer.entries) node.me request.session entry → IsVid vid.0
+      made_id vid (Format members) made kept own = absurd kept
+      made_id vid (Join of zone vnodes) made kept own = absurd kept
+      made_id vid (Leave of) made kept own = absurd kept
+      made_id vid (Reweight of vnodes) made kept own = absurd kept
+      made_id vid (Recovered of epoch) made kept own = absurd kept
+      made_id vid (Reserve by of name origin) made kept own = absurd kept
+      made_id vid (Publish by of) made kept own = reserved vid of own.1 kept.0
+      made_id vid (Clone by of) made kept own = reserved vid of own.1 kept.0
+      made_id vid (Snapshot by old of) made kept own = reserved vid of own.1 kept.0
+      made_id vid (Delete by of name tag) made kept own = absurd kept
+      made_id vid (Lock by of name tag) made kept own = absurd kept
+      made_id vid (Unlock by of id) made kept own = absurd kept
 
-    -- and the inode that is then open is of it
-    made_vid : (vid : Vid) (entry : Entry) (inode : Content)
-        → IsMakingKept log node.outbox node.peer.entries (length node.peer.entries) node.me request.session (opened_in request.session node.sessions) vid entry
-        (Some inode)
-        → IsOpenAtLast (opened_in request.session node.sessions) entry (Some inode) → inode.vid ≡ vid.0
-    made_vid vid (Format members) inode kept opened = absurd kept
-    made_vid vid (Join of zone vnodes) inode kept opened = absurd kept
-    made_vid vid (Leave of) inode kept opened = absurd kept
-    made_vid vid (Reweight of vnodes) inode kept opened = absurd kept
-    made_vid vid (Recovered of epoch) inode kept opened = absurd kept
-    made_vid vid (Reserve by of name origin) inode kept opened = absurd kept
-    made_vid vid (Publish by of) inode kept opened = absurd (cc (opened))
-    made_vid vid (Clone by of) inode kept opened = absurd (cc (opened))
-    made_vid vid (Snapshot by old of) inode kept opened = opened.1 ∙ ap (λ (v : Vid). v.0) kept.0
-    made_vid vid (Delete by of name tag) inode kept opened = absurd kept
-    made_vid vid (Lock by of name tag) inode kept opened = absurd kept
-    made_vid vid (Unlock by of id) inode kept opened = absurd kept
+      -- and the inode that is then open is of it
+      made_vid : (vid : Vid) (entry : Entry) (inode : Content)
+          → IsMakingKept log node.outbox node.peer.entries (length node.peer.entries) node.me request.session
+          (opened_in request.session node.sessions) vid entry
+          (Some inode)
+          → IsOpenAtLast (opened_in request.session node.sessions) entry (Some inode) → inode.vid ≡ vid.0
+      made_vid vid (Format members) inode kept opened = absurd kept
+      made_vid vid (Join of zone vnodes) inode kept opened = absurd kept
+      made_vid vid (Leave of) inode kept opened = absurd kept
+      made_vid vid (Reweight of vnodes) inode kept opened = absurd kept
+      made_vid vid (Recovered of epoch) inode kept opened = absurd kept
+      made_vid vid (Reserve by of name origin) inode kept opened = absurd kept
+      made_vid vid (Publish by of) inode kept opened = absurd (cc (opened))
+      made_vid vid (Clone by of) inode kept opened = absurd (cc (opened))
+      made_vid vid (Snapshot by old of) inode kept opened = opened.1 ∙ ap (λ (v : Vid). v.0) kept.0
+      made_vid vid (Delete by of name tag) inode kept opened = absurd kept
+      made_vid vid (Lock by of name tag) inode kept opened = absurd kept
+      made_vid vid (Unlock by of id) inode kept opened = absurd kept
 
-    tasked : (vid : Vid) (task : Task) → op.stage ≡ Working vid task → IsWorkOfTask vid task work.work → MakesOwn (Commanding op) work.work → MayWriteIt
-    tasked vid (Opening snapshot ids header) at is owns = reads _ is refl
-    tasked vid (WritingBack inode) at is owns =
-        on_granted op command vid (WritingBack inode) at refl
-        (ap vid_of (ap oid_of is.work_of) ∙ vid-of_inode inode.vid (known_at vid (WritingBack inode) at).disk.id ∙ (fits_at vid (WritingBack inode) at).1)
-    tasked vid (Tagging old inode) at is owns =
-        let opened = (fits_at vid (Tagging old inode) at).0 in
-        on_locked old.0
-        (ap vid_of (ap oid_of is.work_of ∙ ap inode_number is.same) ∙ vid-of_inode old.0 (id_open old.0 opened))
-        (locked_open (lets_none op command vid (Tagging old inode) at) old.0 opened)
-    tasked vid (Copying ids header) at is owns = reads _ is.work_of refl
-    tasked vid (Making entry None) at is owns =
-        let kept = kept op command vid (Making entry None) at in
-        on_granted op command vid (Making entry None) at refl
-        (ap vid_of (subst (λ (stage : OpStage). IsOwnStage stage work.work) at owns)
-        ∙ vid-of_inode vid.0 (made_id vid entry None kept (sessions_at vid (Making entry None) at)))
-    tasked vid (Making entry (Some inode)) at is owns =
-        let kept = kept op command vid (Making entry (Some inode)) at in
-        let same : inode ≡ is.inode = is.same inode refl in
-        on_granted op command vid (Making entry (Some inode)) at refl
-        (ap vid_of (ap oid_of is.work_of ∙ ap (λ (i : Content). inode_number i.vid) (sym same))
-        ∙ vid-of_inode inode.vid (known_at vid (Making entry (Some inode)) at).disk.id
-        ∙ made_vid vid entry inode kept (fits_at vid (Making entry (Some inode)) at))
+      tasked : (vid : Vid) (task : Task) → op.stage ≡ Working vid task → IsWorkOfTask vid task work.work → MakesOwn (Commanding op) work.work → WritesIt
+      tasked vid (Opening snapshot ids header) at is owns = reads _ is refl
+      tasked vid (WritingBack inode) at is owns =
+          locks_it vid.0
+          (ap vid_of (ap oid_of is.work_of) ∙ vid-of_inode inode.vid (known_at vid (WritingBack inode) at).disk.id ∙ (fits_at vid (WritingBack inode) at).1)
+          (kept op command vid (WritingBack inode) at).0
+      tasked vid (Tagging old inode) at is owns =
+          let opened = (fits_at vid (Tagging old inode) at).0 in
+          locks_it old.0
+          (ap vid_of (ap oid_of is.work_of ∙ ap inode_number is.same) ∙ vid-of_inode old.0 (id_open old.0 opened))
+          (locked_open (lets_none op command vid (Tagging old inode) at) old.0 opened)
+      tasked vid (Copying ids header) at is owns = reads _ is.work_of refl
+      tasked vid (Making entry None) at is owns =
+          let kept = kept op command vid (Making entry None) at in
+          on_granted op command vid (Making entry None) at refl (ap is_create_work is.work_of)
+          (ap vid_of (subst (λ (stage : OpStage). IsOwnStage stage work.work) at owns)
+          ∙ vid-of_inode vid.0 (made_id vid entry None kept (sessions_at vid (Making entry None) at)))
+      tasked vid (Making entry (Some inode)) at is owns =
+          let kept = kept op command vid (Making entry (Some inode)) at in
+          let same : inode ≡ is.inode = is.same inode refl in
+          on_granted op command vid (Making entry (Some inode)) at refl (ap is_create_work is.work_of)
+          (ap vid_of (ap oid_of is.work_of ∙ ap (λ (i : Content). inode_number i.vid) (sym same))
+          ∙ vid-of_inode inode.vid (known_at vid (Making entry (Some inode)) at).disk.id
+          ∙ made_vid vid entry inode kept (fits_at vid (Making entry (Some inode)) at))
 
-    staged : (stage : OpStage) → op.stage ≡ stage → IsAwaitedAtOpStage (op_acts.Work work.work) stage → MakesOwn (Commanding op) work.work → MayWriteIt
-    staged (Asked entry) at wanted owns = absurd (cc (wanted))
-    staged (Working vid task) at (other, same, is) owns =
-        let one : other ≡ work.work = cc (same) in
-        tasked vid task at (subst (IsWorkOfTask vid task) one is) owns
-    staged (Publishing entry made) at wanted owns = absurd (cc (wanted))
-    staged (Answered change) at (reply, same) owns = absurd (cc (same))
+      staged : (stage : OpStage) → op.stage ≡ stage → IsAwaitedAtOpStage (op_acts.Work work.work) stage → MakesOwn (Commanding op) work.work → WritesIt
+      staged (Asked entry) at wanted owns = absurd (cc (wanted))
+      staged (Working vid task) at (other, same, is) owns =
+          let one : other ≡ work.work = cc (same) in
+          tasked vid task at (subst (IsWorkOfTask vid task) one is) owns
+      staged (Publishing entry made) at wanted owns = absurd (cc (wanted))
+      staged (Answered change) at (reply, same) owns = absurd (cc (same))
 
-  -- ---- each
+    -- ---- each
 
-  by_course : (course : Course) → request.course ≡ course → IsWorkWanted (inode_open (session_among request.session node.sessions).disk) course work.work
-      → IsAllowed (opened_in request.session node.sessions) course → MakesOwn course work.work → IsKnownCourse well.known course → MayWriteIt
-  by_course (Waiting ask) at wanted allowed owns known = absurd wanted
-  by_course (Driving driver) at wanted allowed owns known =
-      driving driver at allowed (session_among request.session node.sessions).disk refl wanted known
-  by_course (Commanding op) at wanted allowed owns known = staged op at op.stage refl wanted owns
-  by_course (Checking check) at wanted allowed owns known =
-      on_locked check.vid (owns making)
-      (locked_open (λ vid goes. let both = sym at ∙ its_course vid goes in absurd (cc (both))) check.vid allowed)
-  by_course (DoingWork asked) at wanted allowed owns known = absurd allowed
-  by_course (AwaitingDecision entry) at wanted allowed owns known = absurd wanted
+    by_course : (course : Course) → request.course ≡ course → IsWorkWanted (inode_open (session_among request.session node.sessions).disk) course work.work
+        → IsAllowed (opened_in request.session node.sessions) course → MakesOwn course work.work → IsKnownCourse well.known course → WritesIt
+    by_course (Waiting ask) at wanted allowed owns known = absurd wanted
+    by_course (Driving driver) at wanted allowed owns known =
+        driving driver at allowed (session_among request.session node.sessions).disk refl wanted known
+    by_course (Commanding op) at wanted allowed owns known = staged op at op.stage refl wanted owns
+    by_course (Checking check) at wanted allowed owns known =
+        locks_it check.vid (owns making)
+        (locked_open (λ vid goes. let both = sym at ∙ its_course vid goes in absurd (cc (both))) check.vid allowed)
+    by_course (DoingWork asked) at wanted allowed owns known = absurd allowed
+    by_course (AwaitingDecision entry) at wanted allowed owns known = absurd wanted
 
-  pub work_may : MayWrite log n request.session (vid_of (oid_of work.work)) node
-  work_may =
-      by_course request.course refl (subst (λ (o : Option Request). IsWantedAt node.sessions o work.work) there (well.wanted req work.work (inl (work, got, refl))))
-      (subst (IsSeen opened_by IsAllowed node.sessions) there (well.allowed req))
-      (subst (λ (o : Option Request). MakesOwnAt o work.work) there (well.own req work.work (inl (work, got, refl))))
-      (well.on_known.courses req request there)
+    writes_it : WritesIt
+    writes_it =
+        by_course request.course refl (subst (λ (o : Option Request). IsWantedAt node.sessions o work.work) there (well.wanted req work.work (inl (work, got, refl))))
+        (subst (IsSeen opened_by IsAllowed node.sessions) there (well.allowed req))
+        (subst (λ (o : Option Request). MakesOwnAt o work.work) there (well.own req work.work (inl (work, got, refl))))
+        (well.on_known.courses req request there)
+
+    pub work_may : MayWrite log n request.session (vid_of (oid_of work.work)) node
+    work_may = ⊎_elim
+        (λ (lock : Locks (vid_of (oid_of work.work))). on_locked (vid_of (oid_of work.work)) refl lock)
+        (λ (made : (is_create_work work.work ≡ true) × MayWriteIt). made.1)
+        writes_it
+
+    -- what isn't created is of a working disk
+    pub work_working : is_create_work work.work ≡ false → state_of (log_effects log) (vid_of (oid_of work.work)) ≡ States.Working
+    work_working writes = ⊎_elim
+        (λ (lock : Locks (vid_of (oid_of work.work))).
+        held-works log (vid_of (oid_of work.work)) (holder_at node.me request.session) lock.held)
+        (λ (made : (is_create_work work.work ≡ true) × MayWriteIt). let creates = made.0 in absurd (cc (creates, writes)))
+        writes_it
 
 -- a work's request is there
-asked_for : (node : Node) → HasWellWorks node → (req : ℕ) (work : Work) → tree.get node.gateway.works req ≡ Some work
+pub asked_for : (node : Node) → HasWellWorks node → (req : ℕ) (work : Work) → tree.get node.gateway.works req ≡ Some work
     → (request : Request) × (tree.get node.requests req ≡ Some request)
 asked_for node well req work got = by_request (tree.get node.requests req) refl
   where
@@ -347,9 +386,23 @@ works_may moment sound claimed fit own well = record {
         there = asked;
         may =
             work_may moment.world.log n host.node read.own read.epoch_so (own.each n host there up) (claimed n host there up) (fit n host there)
-            (well n host there) req work got making request asked;
+            (well n host there) req work got request asked making;
       };
 }
+
+-- each open write, that creates nothing, is on an object of a working disk
+abbrev pub WritesAreOfWorking : List Entry → Hosts → Type 0
+WritesAreOfWorking log hosts =
+    EachUp hosts (λ n node. (req : ℕ) (work : Work) → tree.get node.gateway.works req ≡ Some work → is_making work.work ≡ true
+    → is_create_work work.work ≡ false → state_of (log_effects log) (vid_of (oid_of work.work)) ≡ States.Working)
+
+writes_working : (moment : MomentWithPast) → HostsAreSound moment → AreClaimedAmong moment.world.log moment.world.hosts → AreOpenAmong moment.world.hosts
+    → CommandsAreTheSessions moment.world.hosts → HaveWellWorks moment.world.hosts → WritesAreOfWorking moment.world.log moment.world.hosts
+writes_working moment sound claimed fit own well n host there up req work got making writes =
+    let read = (sound.each n host there).read in
+    let (request, asked) = asked_for host.node (well n host there) req work got in
+    work_working moment.world.log n host.node read.own read.epoch_so (own.each n host there up) (claimed n host there up) (fit n host there)
+    (well n host there) req work got request asked making writes
 
 module _ (script : List Statement) (range : RunsAreInRange script) where
   -- as an event begins, and after each change of it
@@ -363,6 +416,14 @@ module _ (script : List Statement) (range : RunsAreInRange script) where
     pub works_may-after : {before after : MomentWithPast} → MomentChange script start before after → WorksMayWrite after.world.log after.world.hosts
     works_may-after {before} {after} change =
         works_may after (hosts_after_sound script range start began change) (claimed_after script range start began change)
+        (open_after script range start began change)
+        (said_sessions script range after.world.log after.world.hosts (awaited_after script range start began change))
+        (well_after script range start began change)
+
+    pub writes_working-after : {before after : MomentWithPast} → MomentChange script start before after
+        → WritesAreOfWorking after.world.log after.world.hosts
+    writes_working-after {before} {after} change =
+        writes_working after (hosts_after_sound script range start began change) (claimed_after script range start began change)
         (open_after script range start began change)
         (said_sessions script range after.world.log after.world.hosts (awaited_after script range start began change))
         (well_after script range start began change)

@@ -1,5 +1,5 @@
 -- The attempts against the wire and the log: what their fates say, that they are whole, and in which order they began.
-use Rattle.std.specs.Prelude.{◌≡◌, ℕ, ◌+◌, ◌≤◌, ◌<◌, Bool, true, false, List, length, slice_get, Some}
+use Rattle.std.specs.Prelude.{◌≡◌, ℕ, ◌+◌, ◌≤◌, ◌<◌, true, false, List, length, slice_get, Some}
 use Rattle.std.specs.FinMap as tree
 use Rattle.object_id.specs.declared.node.NodeId.{NodeId}
 use Rattle.object_id.specs.declared.entry.Entry.{Entry}
@@ -108,7 +108,6 @@ pub record IsCreated (attempts : List AttemptRecord) (oid epoch : ℕ) : Type 0 
   pub made : is_made create ≡ true
   pub epoch_of_it : create.epoch ≤ epoch
 
--- before a write of an object of a good id stands a made create of the object
-pub record CreatesComeFirst (good_id : ℕ → Bool) (attempts : List AttemptRecord) : Type 0 where
-  pub each : EachAttempt attempts (λ j attempt. good_id (vid_of (object_of attempt)) ≡ true → creates attempt ≡ false
-      → (created : IsCreated attempts (object_of attempt) attempt.epoch) × (created.place < j))
+-- before a write of an object stands a made create of it, whether or not the object was available
+pub record CreatesComeFirst (attempts : List AttemptRecord) : Type 0 where
+  pub each : EachAttempt attempts (λ j attempt. creates attempt ≡ false → (created : IsCreated attempts (object_of attempt) attempt.epoch) × (created.place < j))

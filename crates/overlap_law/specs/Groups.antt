@@ -29,7 +29,7 @@ use Rattle.overlap_law.specs.Lists.{WhatIsNotPendingIsThere}
 use Rattle.overlap_law.specs.Searches.{SearchesAreOfTheFirst, LevelsAreAsked, ToldRowsAreTrue, ToldRowsAreSince, NoRowIsTrue}
 use Rattle.overlap_law.specs.Searches.{PassedLevelsLackRows, TheMadeIsNotMissing, ToldCopiesAreOfAttempts}
 use Rattle.overlap_law.specs.Tables.{EntriesAreMade, OwnEntriesAreMade, TablesAreOfTheChain, PublishedInodesAreMade, TablesAreTheInodes}
-use Rattle.overlap_law.specs.Tables.{SnapshotsAreFrozen, TablesAreMade}
+use Rattle.overlap_law.specs.Tables.{every_id, SnapshotsAreFrozen, TablesAreMade}
 use Rattle.overlap_law.specs.WrittenBlocks.{BlocksAreWritten, StripsAreSound}
 use Rattle.overlap_law.specs.Drafts.{ReservedInodesAreDrawn, WhatIsPublishedIsCreated}
 use Rattle.overlap_law.specs.ToDo.{WorksNameWhatIsMade, WorksMayBeMade}
@@ -48,7 +48,7 @@ pub record FlightIsKept (log : List Entry) (hosts : Hosts) (wire : Wire) (attemp
   pub fenced : TheGoneAreFenced log hosts wire
 
 -- attempts and works
-pub record AttemptsAreKept (T : Placing) (log : List Entry) (good_id : ℕ → Bool) (hosts : Hosts) (wire : Wire) (refused : List ℕ)
+pub record AttemptsAreKept (T : Placing) (log : List Entry) (hosts : Hosts) (wire : Wire) (refused : List ℕ)
     (lost : List MessageName) (attempts : List AttemptRecord) : Type 0 where
   pub fates : FatesAreOfTheWire wire attempts
   pub incarnations : AttemptsAreOfIncarnations hosts wire attempts
@@ -63,7 +63,7 @@ pub record AttemptsAreKept (T : Placing) (log : List Entry) (good_id : ℕ → B
   pub touched : ServedRequestsAreTouched hosts wire attempts
   pub losers : LosersAreTouched hosts lost attempts
   pub untouched : RefusedRequestsAreMute wire refused attempts
-  pub create_first : CreatesComeFirst good_id attempts
+  pub create_first : CreatesComeFirst attempts
 
 -- the one writer
 pub record WritersAreKept (log : List Entry) (hosts : Hosts) (wire : Wire) (attempts : List AttemptRecord) : Type 0 where
@@ -127,7 +127,7 @@ pub record TablesAreKept (log : List Entry) (effects : List Effect) (live good_i
   pub entries : EntriesAreMade effects live good_id attempts
   pub own : OwnEntriesAreMade live attempts
   pub chains : TablesAreOfTheChain effects hosts attempts
-  pub published : PublishedInodesAreMade log good_id attempts
+  pub published : PublishedInodesAreMade log every_id attempts
   pub table : TablesAreTheInodes effects good_id hosts attempts
   pub frozen : SnapshotsAreFrozen effects good_id attempts
   pub table_made : TablesAreMade effects good_id hosts attempts

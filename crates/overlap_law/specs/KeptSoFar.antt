@@ -3,26 +3,26 @@ use Rattle.std.specs.Prelude.{ℕ, Bool, false, List}
 use Rattle.cluster_script.specs.declared.statement.Statement.{Statement}
 use Rattle.vdi_directory.specs.Decisions.{log_effects}
 use Rattle.overlap_law.specs.Past.{MomentWithPast}
-use Rattle.overlap_law.specs.Groups.{FlightIsKept, TermsAreKept}
+use Rattle.overlap_law.specs.Groups.{FlightIsKept, WritersAreKept, TermsAreKept}
 use Rattle.overlap_law.specs.TiedAttempts.{IsTied}
 use Rattle.overlap_law.specs.Fates.{AttemptsAreWhole, AttemptsAreOrdered}
 use Rattle.overlap_law.specs.ShapedAttempts.{AreShaped}
 use Rattle.overlap_law.specs.OpenWorks.{WorksKnowTheirFates, PacketsAreOfOpenWorks, ServedRequestsAreTouched, LosersAreTouched}
 use Rattle.overlap_law.specs.OpenWorks.{RefusedRequestsAreMute, OpenAttemptsAreLatest}
 use Rattle.overlap_law.specs.Traffic.{OpenAttemptsHaveMessages}
-use Rattle.overlap_law.specs.Writers.{ThereIsOneWriter, AttemptsHaveBegun, OnlyTheWriterWrites}
+use Rattle.overlap_law.specs.Writers.{AttemptsHaveBegun}
 use Rattle.overlap_law.specs.Fates.{AttemptsAreOrdered}
-use Rattle.overlap_law.specs.Sessions.{SessionsWorkApart, MakersAreApart, SessionsHaveOneInodeWork, BegunRequestsAreApart, OpenDisksAreHeld}
+use Rattle.overlap_law.specs.Sessions.{SessionsWorkApart, MakersAreApart}
 use Rattle.overlap_law.specs.Courses.{WorksAreWaitedFor, CommandsKeepTheirGrants}
 use Rattle.overlap_law.specs.RequestsOfScript.{RequestsAreWithoutReply, RequestsAreTheScripts, AttemptsAreTheScripts, TheRefusedAreAnswered}
 use Rattle.overlap_law.specs.Holders.{is_live_object, targets_by}
 use Rattle.overlap_law.specs.Rows.{RowsHaveEnds, OneRowIsOpen, RowsAreApart, ServedRowsStay, RowsAreWhole, RowsAreAtTargets, RowsAreBegun}
 use Rattle.overlap_law.specs.Lists.{ListsComeFirst, TellersHaveCome, ListsAreWhole, PendingIsLacked}
-use Rattle.overlap_law.specs.Searches.{SearchesAreOfTheFirst, NoRowIsTrue}
-use Rattle.overlap_law.specs.Headline.{OtherEpochsChangeNothing, RefusedMakeNothing}
-use Rattle.overlap_law.specs.RefusedItems.{RefusedButChecksHaveNoItems}
+use Rattle.overlap_law.specs.Since.{CopiesAreOfAttempts}
+use Rattle.overlap_law.specs.Searches.{SearchesAreOfTheFirst, ToldRowsAreTrue, ToldCopiesAreOfAttempts, NoRowIsTrue, LevelsAreAsked, PassedLevelsLackRows}
+use Rattle.overlap_law.specs.Headline.{OtherEpochsChangeNothing, RefusedHaveNoItems, RefusedMakeNothing}
 
--- the groups of the wire and of epochs, what of the attempts, of the writers, of commands, of rows and of recoveries, and the headline's
+-- the groups of the wire, of the writers and of epochs, what of the attempts, of commands, of rows and of recoveries, and the headline's
 -- parts on refused requests and on peers of another epoch
 pub record IsKeptSoFar (script : List Statement) (moment : MomentWithPast) : Type 0 where
   pub wire : FlightIsKept moment.world.log moment.world.hosts moment.world.wire moment.past.attempts
@@ -38,7 +38,7 @@ pub record IsKeptSoFar (script : List Statement) (moment : MomentWithPast) : Typ
   pub losers : LosersAreTouched moment.world.hosts moment.past.lost moment.past.attempts
   pub untouched : RefusedRequestsAreMute moment.world.wire moment.past.refused moment.past.attempts
   pub nothing_made : RefusedMakeNothing moment.past.refused moment.past.lost moment.past.attempts
-  pub no_items : RefusedButChecksHaveNoItems script moment.past.refused moment.past.history
+  pub no_items : RefusedHaveNoItems moment.past.refused moment.past.history
   pub messages : OpenAttemptsHaveMessages moment.world.hosts
   pub begun : AttemptsHaveBegun moment.world.log moment.past.attempts
   pub scripts : AttemptsAreTheScripts script moment.past.attempts
@@ -47,11 +47,7 @@ pub record IsKeptSoFar (script : List Statement) (moment : MomentWithPast) : Typ
   pub refused : TheRefusedAreAnswered script moment.world moment.past.refused
   pub works_apart : SessionsWorkApart moment.world.hosts
   pub makers_apart : MakersAreApart moment.world.hosts
-  pub inodes : SessionsHaveOneInodeWork moment.world.hosts
-  pub apart : BegunRequestsAreApart moment.world.hosts
-  pub may_write : OnlyTheWriterWrites moment.world.log moment.world.hosts moment.past.attempts
-  pub one_writer : ThereIsOneWriter moment.world.log moment.world.wire moment.past.attempts
-  pub held : OpenDisksAreHeld moment.world.log moment.world.hosts
+  pub writers : WritersAreKept moment.world.log moment.world.hosts moment.world.wire moment.past.attempts
   pub waited_for : WorksAreWaitedFor (log_effects moment.world.log) (λ (id : ℕ). false) moment.world.hosts moment.past.attempts
   pub granted : CommandsKeepTheirGrants moment.world.log moment.world.hosts
   pub ends : RowsHaveEnds moment.world.hosts
@@ -61,6 +57,8 @@ pub record IsKeptSoFar (script : List Statement) (moment : MomentWithPast) : Typ
   pub placed : RowsAreAtTargets (targets_by moment.world.log) (log_effects moment.world.log) moment.world.hosts
   pub rows_begun : RowsAreBegun moment.world.log (is_live_object moment.world.log moment.past.attempts) moment.world.hosts
       moment.past.attempts
+  -- of any objects
+  pub of_attempts : (live : ℕ → Bool) → CopiesAreOfAttempts (log_effects moment.world.log) live moment.world.hosts moment.past.attempts
   pub stays : ServedRowsStay (is_live_object moment.world.log moment.past.attempts) moment.world.hosts moment.past.attempts
   pub listing : ListsComeFirst moment.world.hosts
   pub search_first : SearchesAreOfTheFirst moment.world.hosts
@@ -68,5 +66,13 @@ pub record IsKeptSoFar (script : List Statement) (moment : MomentWithPast) : Typ
   -- of any objects
   pub list_told : (live : ℕ → Bool) → ListsAreWhole live moment.world.hosts moment.world.wire
   pub pending : (live : ℕ → Bool) → PendingIsLacked (targets_by moment.world.log) (log_effects moment.world.log) live moment.world.hosts
+  pub row_told : (good : ℕ → Bool) → ToldRowsAreTrue (targets_by moment.world.log) (log_effects moment.world.log) good
+      moment.world.hosts moment.world.wire
+  pub told_of_attempts : (live : ℕ → Bool) → ToldCopiesAreOfAttempts (log_effects moment.world.log) live moment.world.hosts
+      moment.world.wire moment.past.attempts
   pub norow_told : (good : ℕ → Bool) → NoRowIsTrue good moment.world.hosts moment.world.wire
+  pub levels_asked : (good : ℕ → Bool) → LevelsAreAsked (targets_by moment.world.log) moment.world.log (log_effects moment.world.log) good
+      moment.world.hosts
+  pub passed : (good : ℕ → Bool) → PassedLevelsLackRows (targets_by moment.world.log) moment.world.log (log_effects moment.world.log) good
+      moment.world.hosts
   pub peers : OtherEpochsChangeNothing script moment.world

@@ -1,9 +1,12 @@
 -- What it rests on that a session's open read comes behind every attempt on its object: that nothing begins on a disk that became a
 -- snapshot, and which ids a session reads.
-use Rattle.std.specs.Prelude.{◌≡◌, ◌⊎◌, ℕ, ◌≤◌, ◌==◌, Bool, true, false, List, Some}
+use Rattle.std.specs.Prelude.{◌≡◌, ◌⊎◌, ℕ, ◌+◌, ◌≤◌, ◌==◌, Bool, true, false, List, Some, slice_get, take}
 use Rattle.std.specs.List.{list_any}
 use Rattle.std.specs.FinMap as tree
 use Rattle.object_id.specs.declared.entry.Entry.{Entry}
+use Rattle.object_id.specs.declared.entry.Entry.TheVariants.{Snapshot}
+use Rattle.object_id.specs.declared.node.NodeId.{NodeId}
+use Rattle.object_id.specs.declared.oid.Vid.{Vid}
 use Rattle.object_id.specs.Oid.{vid_of}
 use Rattle.peer_proto.specs.Work.{oid_of}
 use Rattle.vdi_directory.specs.declared.effect.Effect.{Effect}
@@ -47,6 +50,12 @@ pub record SnapshotsAreClosed (log : List Entry) (wire : Wire) (attempts : List 
   pub each : EachAttempt attempts (λ j attempt. was_snapped log (vid_of (object_of attempt)) ≡ true
       → HasEnded wire attempt (snapped_in log (vid_of (object_of attempt)))
       ⊎ IsFencedOff log attempt (snapped_in log (vid_of (object_of attempt))))
+
+-- each entry of a snapshot made its disk one
+abbrev pub SnapshotsAreTaken : List Entry → Type 0
+SnapshotsAreTaken log =
+    (place : ℕ) (by : NodeId) (old vid : Vid) → slice_get log place ≡ Some (Snapshot by old vid)
+    → was_snapped (take (place + 1) log) old.0 ≡ true
 
 -- ---- attempts of a gateway
 

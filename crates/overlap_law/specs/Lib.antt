@@ -32,6 +32,8 @@ pub mod NoObjects
 pub mod ToDo
 pub mod Pieces
 pub mod Checks
+pub mod DiskEvents
+pub mod DiskBlocks
 pub mod RequestsOfScript
 pub mod Groups
 pub mod Overlap
@@ -50,5 +52,16 @@ pub mod BornObjects
 pub mod HeldLevels
 pub mod GrantedAttempts
 pub mod LastReads
-pub mod RefusedItems
 pub mod PiecesInRange
+pub mod WorksOfAttempts
+pub mod EventsElsewhere
+pub mod WholeTables
+pub mod OpenTables
+pub mod AskedTargets
+pub mod ToCome
+pub mod StayingBlocks
+pub mod HistoryGrowth
+pub mod FirstCreates
+pub mod ToldPieces
+pub mod ToldReads
+pub mod NamedWorks

@@ -1,5 +1,5 @@
 -- The lists of recoveries: what was told of objects, and what is pending by it.
-use Rattle.std.specs.Prelude.{◌≡◌, ◌⊎◌, ℕ, ◌<◌, ◌==◌, Bool, true, false, List, Option, Some, None}
+use Rattle.std.specs.Prelude.{◌≡◌, ◌⊎◌, ℕ, ◌<◌, ◌==◌, Bool, true, false, List, [], Option, Some, None}
 use Rattle.std.specs.List.{list_any}
 use Rattle.object_id.specs.declared.node.NodeId.{NodeId}
 use Rattle.object_id.specs.declared.policy.Policy.{Policy}
@@ -20,10 +20,11 @@ use Rattle.overlap_law.specs.Packets.{Wire}
 use Rattle.overlap_law.specs.Rows.{IsMadeBy}
 use Rattle.overlap_law.specs.ToldRows.{ToldObjects, ToldRow, IsListUnderWay}
 
--- where a recovery's list isn't finished, it isn't known what is pending, and nothing is searched
+-- where a recovery's list isn't finished, it isn't known what is pending, nothing is searched, and nothing is missing
 pub record ListsComeFirst (hosts : Hosts) : Type 0 where
   pub pending : EachUp hosts (λ n node. is_listed node.recovery ≡ false → node.peer.pending ≡ None)
   pub search : EachUp hosts (λ n node. is_listed node.recovery ≡ false → node.recovery.search ≡ None)
+  pub missing : EachUp hosts (λ n node. is_listed node.recovery ≡ false → node.recovery.missing ≡ [])
 
 -- a node that told something to a recovery came to its epoch
 pub record TellersHaveCome (hosts : Hosts) (wire : Wire) : Type 0 where

@@ -12,7 +12,7 @@ use Rattle.sheep_world.specs.LogHolds.{MayGrow}
 use Rattle.sheep_world.specs.HoldsTogether.{MessagesAreInRange}
 use Rattle.sheep_world.specs.EventKinds.{IsUntoldLoss, IsUnreadDelivery, IsNodeLoss, IsNodeLeave, IsNodeReweight, IsNodeJoin, IsNodeReturn}
 use Rattle.sheep_world.specs.EventKinds.{IsPhaseEnd}
-use Rattle.overlap_law.specs.Past.{MomentWithPast, moment_after, next_moment, first_moment}
+use Rattle.overlap_law.specs.Past.{MomentWithPast, moment_after, next_moment, first_moment, run_with_past}
 use Rattle.overlap_law.specs.StepMoments.{SteppingNode, IsStepping, StepsByChanges, StepsAtOnce, first_in_step, last_in_step, IsWithinStep}
 use Rattle.overlap_law.specs.StepMoments.{moment_in_step}
 
@@ -58,6 +58,20 @@ pub data MomentTrail (script : List Statement) (start : MomentWithPast) : Moment
   Still : MomentTrail script start start
   Then : {moment next : MomentWithPast} → MomentTrail script start moment → MomentChange script start moment next
       → MomentTrail script start next
+
+-- the changes that are left of a trail, up to its end
+pub data TrailLeft (script : List Statement) (start : MomentWithPast) : MomentWithPast → MomentWithPast → Type 0 where
+  AtEnd : {end : MomentWithPast} → TrailLeft script start end end
+  Next : {moment next end : MomentWithPast} → MomentChange script start moment next → TrailLeft script start next end
+      → TrailLeft script start moment end
+
+-- a change on the way of an event that happens in a run
+pub record IsOnTheWay (script : List Statement) (events : List Event) (event : Event) (start end before after : MomentWithPast) : Type 0 where
+  pub run : run_with_past script events ≡ Some start
+  pub happens : next_moment script event start ≡ Some end
+  pub behind : MomentTrail script start before
+  pub change : MomentChange script start before after
+  pub left : TrailLeft script start after end
 
 -- what is asked of the worlds of a script's runs: there is room for one epoch more, and what is sent and replied is in range
 pub record RunsAreInRange (script : List Statement) : Type 0 where

@@ -8,6 +8,7 @@ use Rattle.object_id.specs.declared.entry.Entry.{Entry}
 use Rattle.object_id.specs.Oid.{vid_of}
 use Rattle.vdi_directory.specs.declared.effect.Effect.{Effect}
 use Rattle.vdi_directory.specs.Decisions.{log_effects}
+use Rattle.vdi_directory.specs.Dead.{is_gone}
 use Rattle.vdi_directory.specs.States.{state_of, is_live_state}
 use Rattle.peer_proto.specs.declared.guest.GuestRsp.TheVariants as replies
 use Rattle.peer_proto.specs.declared.say.PeerSay.TheVariants as says
@@ -90,11 +91,11 @@ pub record IsMessageFor (node : Node) (vid : ℕ) (message : Message) : Type 0 w
   pub asker : tree.get node.requests req ≡ Some request
   pub disk : disk_for (session_at request.session node).disk (oid_of work.work) request.course ≡ Some vid
 
--- a part of the invariant: no message for such a disk is refused since its target doesn't have the object, as far as its gateway
--- knows, or by a reply that is still on its way
+-- a part of the invariant: no message for a disk that was available, and is neither deleted nor given back, is refused since its target
+-- doesn't have the object, as far as its gateway knows; nor does a reply on its way say so of one of which nothing came yet
 pub record NothingIsLacked (effects : List Effect) (good_id : ℕ → Bool) (hosts : Hosts) (wire : Wire) : Type 0 where
   pub known : EachUp hosts (λ n node. (vid : ℕ) (message : Message) → IsMessageFor node vid message
-      → is_live_state (state_of effects vid) ≡ true → good_id vid ≡ true → message.status ≢ statuses.Refused refusals.NoObj)
+      → is_gone (state_of effects vid) ≡ false → good_id vid ≡ true → message.status ≢ statuses.Refused refusals.NoObj)
   pub told : EachUp hosts (λ n node. (vid : ℕ) (message : Message) (from : NodeId) (reply : PeerRsp) → IsMessageFor node vid message
-      → is_live_state (state_of effects vid) ≡ true → good_id vid ≡ true → IsAnswering wire (message_name n message.number) from reply
-      → reply.say ≢ says.Refused refusals.NoObj)
+      → message.status ≡ statuses.Unanswered → is_gone (state_of effects vid) ≡ false → good_id vid ≡ true
+      → IsAnswering wire (message_name n message.number) from reply → reply.say ≢ says.Refused refusals.NoObj)

@@ -10,7 +10,7 @@ use Rattle.sheep_world.specs.World.{World}
 use Rattle.sheep_world.specs.RunsWithAsks.{Asks, BeganWithAsks}
 use Rattle.sheep_world.specs.Began.{Began}
 use Rattle.overlap_law.specs.Holders.{targets_by, is_live_object, is_good, is_available_disk}
-use Rattle.overlap_law.specs.Past.{MomentWithPast, next_moment}
+use Rattle.overlap_law.specs.Past.{MomentWithPast, next_moment, run_with_past}
 use Rattle.overlap_law.specs.RunsWithAsks.{next_move_with_past}
 use Rattle.overlap_law.specs.MomentChanges.{RunsAreInRange}
 use Rattle.overlap_law.specs.Facts.{MeetsFacts}
@@ -24,7 +24,7 @@ use Rattle.overlap_law.specs.Groups.{TablesAreKept, WrittenIsKept, PiecesAreKept
 -- are legal and refused requests change nothing
 pub record OverlapAt (live good good_id : ℕ → Bool) (moment : MomentWithPast) : Type 0 where
   pub flight : FlightIsKept moment.world.log moment.world.hosts moment.world.wire moment.past.attempts
-  pub attempts : AttemptsAreKept (targets_by moment.world.log) moment.world.log good_id moment.world.hosts moment.world.wire
+  pub attempts : AttemptsAreKept (targets_by moment.world.log) moment.world.log moment.world.hosts moment.world.wire
       moment.past.refused moment.past.lost moment.past.attempts
   pub writers : WritersAreKept moment.world.log moment.world.hosts moment.world.wire moment.past.attempts
   pub terms : TermsAreKept moment.world.log moment.world.hosts
@@ -60,6 +60,11 @@ pub record OverlapOf (script : List Statement) (moment : MomentWithPast) : Type 
   pub answered : TheRefusedAreAnswered script moment.world moment.past.refused
   pub joins : JoinsAreNew script moment.world
 
+-- by the tests for what is live and good at another moment
+abbrev pub OverlapByTests : MomentWithPast → MomentWithPast → Type 0
+OverlapByTests other moment = OverlapAt (is_live_object other.world.log other.past.attempts)
+    (is_good other.world.log other.past.attempts other.past.unavailable) (is_available_disk other.world.log other.past.unavailable) moment
+
 -- an event that may happen in a world of these keeps it
 abbrev pub KeepsOverlapFrom : (World → Type 0) → List Statement → Event → Type 0
 KeepsOverlapFrom Worlds script event = (before after : MomentWithPast) → Worlds before.world → OverlapOf script before
@@ -78,16 +83,18 @@ abbrev pub AsksKeepOverlap : List Statement → NodeId → Ask → Type 0
 AsksKeepOverlap script node ask = RunsAreInRange script → (before after : MomentWithPast) → BeganWithAsks script before.world
     → OverlapOf script before → next_move_with_past script (Asks node ask) before ≡ Some after → OverlapOf script after
 
--- owed: it gives the six facts, and that the replies are legal
+-- what it gives: the six facts, and that the replies are legal
 pub record GivesFacts (moment : MomentWithPast) : Type 0 where
   pub facts : MeetsFacts moment.world moment.past
   pub legal : IsLegalWhereAvailable moment.past
 
--- the invariant gives the facts and the legality of the replies
-abbrev pub OverlapGivesFacts : Type 0
-OverlapGivesFacts = (moment : MomentWithPast) → Overlap moment → GivesFacts moment
+-- the invariant gives the facts and the legality of the replies, in each run of a script in range
+abbrev pub OverlapGivesFacts : List Statement → Type 0
+OverlapGivesFacts script = RunsAreInRange script → (events : List Event) (moment : MomentWithPast)
+    → run_with_past script events ≡ Some moment → Overlap moment → GivesFacts moment
 
--- owed: it gives that no object is missing, at each event that may come next
+-- in a run in range it gives that no object is missing, at each event that may come next
 abbrev pub OverlapGivesObjects : List Statement → Type 0
-OverlapGivesObjects script = (before : MomentWithPast) (event : Event) (made : EventOutcome) → OverlapOf script before
-    → step script event before.world ≡ Some made → NoObjectIsMissing script before made
+OverlapGivesObjects script = RunsAreInRange script → (events : List Event) (before : MomentWithPast) (event : Event) (made : EventOutcome)
+    → run_with_past script events ≡ Some before → Overlap before → step script event before.world ≡ Some made
+    → NoObjectIsMissing script before made

@@ -1,5 +1,5 @@
 -- Requests in the wire ask for pieces inside the rows of their objects.
-use Rattle.std.specs.Prelude.{◌≡◌, ℕ, ◌+◌, ◌≤◌, Bool, true, false, List, length, Some, Ok}
+use Rattle.std.specs.Prelude.{◌≡◌, ℕ, ◌+◌, ◌≤◌, List, length, Some, Ok}
 use Rattle.object_id.specs.declared.entry.VdiSpec.{VdiSpec}
 use Rattle.object_id.specs.declared.node.NodeId.{NodeId}
 use Rattle.object_id.specs.Oid.{kind_of, vid_of}
@@ -13,7 +13,6 @@ use Rattle.peer_service.specs.State.{row_size}
 use Rattle.message_wire.specs.declared.name.MessageName.{MessageName}
 use Rattle.message_wire.specs.declared.packet.Packet.TheVariants.{Request}
 use Rattle.sheep_world.specs.World.{World, message_at}
-use Rattle.sheep_world.specs.NodeCauses.{NodeCause, GuestAsks, RequestComes, ReplyComes, LossIsTold, EntryIsRead, EntryIsPut, RecoveryTicks, WorkIsRetried}
 use Rattle.overlap_law.specs.Each.{spec_in}
 
 -- a piece ends inside the rows of an object, whose id was reserved
@@ -22,34 +21,15 @@ pub record EndsInRows (effects : List Effect) (oid end : ℕ) : Type 0 where
   pub made : spec_in effects (vid_of oid) ≡ Some spec
   pub inside : end ≤ row_size (kind_of oid) spec
 
--- what is asked to create or write is so; of a read nothing is said
+-- what is asked to create, write or read is so
 abbrev pub PiecesEndInRows : List Effect → PeerAsk → Type 0
 PiecesEndInRows effects (asks.Create key size offset bytes) = offset + length bytes ≤ size
 PiecesEndInRows effects (asks.Write key offset bytes) = EndsInRows effects key.oid (offset + length bytes)
-PiecesEndInRows effects (asks.Read key offset size) = Unit {0}
+PiecesEndInRows effects (asks.Read key offset size) = EndsInRows effects key.oid (offset + size)
 PiecesEndInRows effects asks.List = Unit {0}
 PiecesEndInRows effects (asks.RecoverRead oid level) = Unit {0}
-
--- whether a piece of a row is read
-abbrev pub asks_piece : PeerAsk → Bool
-asks_piece (asks.Create key size offset bytes) = false
-asks_piece (asks.Write key offset bytes) = false
-asks_piece (asks.Read key offset size) = true
-asks_piece asks.List = false
-asks_piece (asks.RecoverRead oid level) = false
 
 -- each request in the wire is so
 pub record PiecesAreInRange (world : World) : Type 0 where
   pub each : (name : MessageName) (to : NodeId) (bytes : List ℕ) (request : PeerReq) → message_at name world ≡ Some (Request to bytes)
       → ask_in bytes ≡ Ok request → PiecesEndInRows (log_effects world.log) request.ask
-
--- what a node steps on isn't a request that reads one
-abbrev pub ReadsNoPiece : NodeCause → Type 0
-ReadsNoPiece (GuestAsks session req ask) = Unit {0}
-ReadsNoPiece (RequestComes name to request) = asks_piece request.ask ≡ false
-ReadsNoPiece (ReplyComes name from rsp) = Unit {0}
-ReadsNoPiece (LossIsTold name packet) = Unit {0}
-ReadsNoPiece (EntryIsRead entry) = Unit {0}
-ReadsNoPiece (EntryIsPut entry) = Unit {0}
-ReadsNoPiece RecoveryTicks = Unit {0}
-ReadsNoPiece WorkIsRetried = Unit {0}

@@ -26,7 +26,8 @@ use Rattle.sheep_node.specs.State.{Node}
 use Rattle.overlap_law.specs.Attempts.{AttemptRecord, object_of, attempts_on}
 use Rattle.overlap_law.specs.Words.{Hosts, is_made, is_mute, covers_unit, bytes_by}
 use Rattle.overlap_law.specs.Each.{EachUp, EachAttempt, spec_in}
-use Rattle.overlap_law.specs.Grants.{published_in}
+use Rattle.overlap_law.specs.Grants.{published_in, writer_of}
+use Rattle.overlap_law.specs.Writers.{session_holder}
 use Rattle.overlap_law.specs.Fates.{IsCreated}
 
 -- the unit of an inode that is the table's entry of an index
@@ -94,7 +95,11 @@ pub record TablesAreOfTheChain (effects : List Effect) (hosts : Hosts) (attempts
       → session.disk ≡ Some disk → index < objects_of disk.inode.spec → slice_index disk.inode.table index ≡ disk.inode.vid
       → is_dead effects disk.inode.vid ≡ false → IsCreated attempts (object_number disk.inode.vid index) node.peer.epoch)
 
--- the inode of an id that is published was made by then
+-- each id
+abbrev pub every_id : ℕ → Bool
+every_id vid = true
+
+-- the inode of an id that is published was made by then, also where the disk wasn't available
 pub record PublishedInodesAreMade (log : List Entry) (good_id : ℕ → Bool) (attempts : List AttemptRecord) : Type 0 where
   pub each : (vid : ℕ) → is_live_state (state_of (log_effects log) vid) ≡ true → good_id vid ≡ true
       → IsCreated attempts (inode_number vid) (published_in log vid)
@@ -126,11 +131,16 @@ pub record IsOfTable (attempts : List AttemptRecord) (node : Node) (session : Se
   pub alone : AreAmong (slice_index disk.inode.table index ∷ []) (candidates attempts disk.inode.vid index)
       ⊎ ((disk.snapshot ≡ false) × (IsEntryOpen node disk.inode.vid index ⊎ IsEntryWaiting session disk.inode.vid index))
 
--- a session's table is what the inode of its disk has
+-- a session has its open disk yet: where it is no snapshot, the session may write it by the whole log. One that the session gives back,
+-- by an entry that is in the log and that its node hasn't read, may be another's
+abbrev pub IsYetOf : List Effect → ℕ → ℕ → Disk → Type 0
+IsYetOf effects n number disk = disk.snapshot ≡ false → writer_of effects disk.inode.vid ≡ Some (session_holder n number)
+
+-- a session's table is what the inode of its disk has, as long as it has the disk
 pub record TablesAreTheInodes (effects : List Effect) (good_id : ℕ → Bool) (hosts : Hosts) (attempts : List AttemptRecord) : Type 0 where
   pub each : EachUp hosts (λ n node. (number index : ℕ) (session : Session) (disk : Disk) → tree.get node.sessions number ≡ Some session
       → session.disk ≡ Some disk → good_id disk.inode.vid ≡ true → is_dead effects disk.inode.vid ≡ false
-      → index < objects_of disk.inode.spec → IsOfTable attempts node session disk index)
+      → index < objects_of disk.inode.spec → IsYetOf effects n number disk → IsOfTable attempts node session disk index)
 
 -- there is exactly one entry, told once or more
 abbrev pub IsOneEntry : Option (List ℕ) → Type 0

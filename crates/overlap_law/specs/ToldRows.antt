@@ -1,6 +1,5 @@
 -- What nodes told to a recovery: their objects, and their rows at a level.
 use Rattle.std.specs.Prelude.{◌≡◌, ◌≢◌, ◌⊎◌, ℕ, nat_lt, min, true, false, List, slice_get, Option, Some, None, if◌then◌else◌}
-use Rattle.std.specs.List.{list_any}
 use Rattle.object_id.specs.declared.node.NodeId.{NodeId}
 use Rattle.object_id.specs.declared.node.Epoch.{Epoch}
 use Rattle.object_store.specs.declared.row.RowCopy.{RowCopy}
@@ -9,12 +8,10 @@ use Rattle.peer_proto.specs.declared.ask.PeerAsk.TheVariants as asks
 use Rattle.peer_proto.specs.declared.say.PeerSay.TheVariants as says
 use Rattle.peer_proto.specs.declared.say.PeerRsp.{PeerRsp}
 use Rattle.peer_service.specs.Serve.{row_or_none}
-use Rattle.recovery.specs.Level.{is_of_search}
 use Rattle.recovery.specs.declared.search.RowAnswer.{RowAnswer}
-use Rattle.recovery.specs.State.{Message, Search, Recovery, all_unanswered, search_on}
+use Rattle.recovery.specs.State.{Message, Search, Recovery, all_unanswered}
 use Rattle.message_wire.specs.Message.{message_name}
 use Rattle.sheep_node.specs.State.{Node}
-use Rattle.sheep_node.specs.RecoveryView.{recovery_state_of}
 use Rattle.overlap_law.specs.Packets.{Wire, IsAnswering}
 
 -- a node's list of its objects is on its way to a recovery of a node, which asked for it in this epoch
@@ -39,25 +36,25 @@ pub record IsListJoined (recovery : Recovery) (from : NodeId) (oids : List ℕ) 
 abbrev pub ToldObjects : Wire → ℕ → Recovery → NodeId → List ℕ → Type 0
 ToldObjects wire n recovery from oids = IsListUnderWay wire n recovery from recovery.epoch oids ⊎ IsListJoined recovery from oids
 
--- a node's row of an object at a level, or that it has none, is on its way to one of a node's recoveries
+-- a node's row of an object at a level, or that it has none, is on its way to a node's recovery; what is on its way to an older one
+-- is never used
 pub record IsRowUnderWay (wire : Wire) (n : ℕ) (recovery : Recovery) (from : NodeId) (epoch oid level : ℕ) (row : Option RowCopy) : Type 0
   where
     pub place : ℕ
     pub message : Message
     pub reply : PeerRsp
-    pub unanswered : slice_get (all_unanswered recovery) place ≡ Some message
+    pub unanswered : slice_get recovery.unanswered place ≡ Some message
     pub asked : message.request.ask ≡ asks.RecoverRead oid (record { 0 = level })
     pub of_epoch : message.request.epoch.0 ≡ epoch
     pub answering : IsAnswering wire (message_name n message.request.number) from reply
     pub said : reply.say ≡ row_or_none row
 
--- a search keeps it, while further answers of its level are awaited
+-- the recovery's search keeps it, for the level that it is at
 pub record IsRowKept (node : Node) (from : NodeId) (epoch oid level : ℕ) (row : Option RowCopy) : Type 0 where
   pub search : Search
   pub place : ℕ
   pub answer : RowAnswer
-  pub there : search_on (recovery_state_of node) ≡ Some search
-  pub awaited : list_any (is_of_search search.oid) node.recovery.unanswered ≡ true
+  pub there : node.recovery.search ≡ Some search
   pub among : slice_get search.answers place ≡ Some answer
   pub from_it : answer.from ≡ from
   pub told : answer.row ≡ row
@@ -65,7 +62,7 @@ pub record IsRowKept (node : Node) (from : NodeId) (epoch oid level : ℕ) (row 
   pub of_object : search.oid ≡ oid
   pub of_level : search.level ≡ level
 
--- a node told to one of a node's recoveries, that of an epoch, its row of an object at a level, or that it has none
+-- a node told to a node's recovery, that of an epoch, its row of an object at a level, or that it has none
 abbrev pub ToldRow : Wire → ℕ → Node → NodeId → ℕ → ℕ → ℕ → Option RowCopy → Type 0
 ToldRow wire n node from epoch oid level row =
     IsRowUnderWay wire n node.recovery from epoch oid level row ⊎ IsRowKept node from epoch oid level row

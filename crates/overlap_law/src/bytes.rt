@@ -25,6 +25,7 @@ ghost use Rattle.overlap_law.specs.Rows.{RowsHaveEnds, RowsAreAtTargets, RowsAre
 ghost use Rattle.overlap_law.specs.Searches.{ToldCopiesAreOfAttempts};
 ghost use Rattle.overlap_law.specs.Since.{reading_of, owes_attempt, HasWhatItOwes, RowsAreSince, CopiesAreOfAttempts};
 ghost use Rattle.overlap_law.specs.StepMoments.{SteppingNode, IsStepping, StepsByChanges, IsWithinStep, first_in_step, moment_in_step};
+ghost use Rattle.overlap_law.specs.ToldPieces.{ToldPiecesAreOfAttempts};
 ghost use Rattle.overlap_law.specs.Units.{covers_unit, row_bytes_at};
 ghost use Rattle.overlap_law.specs.Words.{Hosts, has_served, is_doomed, is_mute};
 
@@ -38,6 +39,25 @@ pub fn copies_stay_of_attempts()
         → ToldCopiesAreOfAttempts (log_effects before.world.log) live before.world.hosts before.world.wire before.past.attempts
         → CopiesAreOfAttempts (log_effects before.world.log) live before.world.hosts before.past.attempts
         → CopiesAreOfAttempts (log_effects after.world.log) live after.world.hosts after.past.attempts }
+{}
+
+/// In each run in range, at each moment on the way of an event too, copies are of attempts, in stores and as recoveries were told them,
+/// whichever objects it is said of: at each unit such a copy has the bytes of some attempt that covers it.
+pub fn copies_are_of_attempts()
+    ensures stored { (script : List Statement) (events : List Event) (start moment : MomentWithPast) (live : ℕ → Bool)
+        → RunsAreInRange script → run_with_past script events ≡ Some start → MomentTrail script start moment
+        → CopiesAreOfAttempts (log_effects moment.world.log) live moment.world.hosts moment.past.attempts }
+    ensures told { (script : List Statement) (events : List Event) (start moment : MomentWithPast) (live : ℕ → Bool)
+        → RunsAreInRange script → run_with_past script events ≡ Some start → MomentTrail script start moment
+        → ToldCopiesAreOfAttempts (log_effects moment.world.log) live moment.world.hosts moment.world.wire moment.past.attempts }
+{}
+
+/// In each run in range, at each moment on the way of an event too, what an open read is told of a copy is of attempts: at each unit inside
+/// it a piece that is on its way back to the read has the bytes of some attempt that covers the unit, whether or not the object is good.
+pub fn what_reads_are_told_is_of_attempts()
+    ensures { (script : List Statement) (events : List Event) (start moment : MomentWithPast)
+        → RunsAreInRange script → run_with_past script events ≡ Some start → MomentTrail script start moment
+        → ToldPiecesAreOfAttempts (log_effects moment.world.log) moment.world.hosts moment.world.wire moment.past.attempts }
 {}
 
 /// An attempt whose epoch a row of its object covers and reaches beyond was served by the row's node, or is doomed: at any moment at

@@ -23,11 +23,11 @@ ghost use Rattle.sheep_world.specs.NodeCauses.{NodeCause, input_of_cause, IsCaus
 ghost use Rattle.sheep_world.specs.OneWork.{WorksAskInRange};
 ghost use Rattle.sheep_world.specs.HoldsTogether.{RepliesFit, HoldsTogether};
 ghost use Rattle.sheep_world.specs.LogHolds.{MayGrow};
+ghost use Rattle.sheep_world.specs.Step.{EventOutcome, step};
 ghost use Rattle.overlap_law.specs.Attempts.{MessageFate, Flying, Served, AttemptRecord, has_message, attempt_with_fate};
 ghost use Rattle.overlap_law.specs.Words.{Hosts, is_beyond, is_made, is_doomed, has_served, unit_start, unit_end, covers_unit, base_of};
 ghost use Rattle.overlap_law.specs.Words.{own_base_of};
-ghost use Rattle.overlap_law.specs.Headline.{OtherEpochsChangeNothing, RefusedMakeNothing};
-ghost use Rattle.overlap_law.specs.RefusedItems.{RefusedButChecksHaveNoItems};
+ghost use Rattle.overlap_law.specs.Headline.{OtherEpochsChangeNothing, RefusedHaveNoItems, RefusedMakeNothing};
 ghost use Rattle.overlap_law.specs.Past.{MomentWithPast, run_with_past, without_past, next_moment, first_moment};
 ghost use Rattle.overlap_law.specs.StepMoments.{SteppingNode, IsStepping, StepsByChanges, IsWithinStep, moment_in_step, attempts_of_change};
 ghost use Rattle.overlap_law.specs.MomentChanges.{MomentChange, MomentTrail, RunsAreInRange, EventsAreTrails};
@@ -43,7 +43,7 @@ ghost use Rattle.overlap_law.specs.NodeEpochs.{RecoveriesArePresent, AnswerersHa
 ghost use Rattle.overlap_law.specs.RequestsOfScript.{JoinsAreNew};
 ghost use Rattle.overlap_law.specs.RoomOfScripts.{HasFewControls};
 ghost use Rattle.overlap_law.specs.RowsInRange.{RowsCanBeTold, ObjectsAreFew};
-ghost use Rattle.overlap_law.specs.PiecesInRange.{ReadsNoPiece, PiecesAreInRange};
+ghost use Rattle.overlap_law.specs.PiecesInRange.{PiecesAreInRange};
 ghost use Rattle.overlap_law.specs.TiedAttempts.{IsTied};
 ghost use Rattle.overlap_law.specs.ShapedAttempts.{AreShaped};
 ghost use Rattle.overlap_law.specs.Groups.{TermsAreKept, FlightIsKept};
@@ -333,13 +333,13 @@ pub fn attempts_of_the_refused_are_mute()
 {}
 
 /// In each world of a run in range nodes and wire go together, and so do works and requests, and all that is asked and told can be spelled;
-/// and an up node may take each step that an event has it take. For what a request in the wire creates or writes ends inside the rows of
-/// its object. Of a read that a node serves this isn't said: there is still to show that the piece ends inside the row.
+/// and an up node may take each step that an event has it take. For what a request in the wire creates, writes or reads ends inside the rows
+/// of its object: a read goes by the entries of an open disk's table, which name none but the disk and those above it.
 pub fn nodes_step_on_what_they_may()
     ensures together { (script : List Statement) (world : World) → RunsAreInRange script → Began script world → HoldsTogether script world }
     ensures may { (script : List Statement) (world : World) (n : ℕ) (host : Host) (cause : NodeCause) → RunsAreInRange script
         → Began script world → host_at n world ≡ Some host → is_host_up host ≡ true → IsCause script world n host cause
-        → ReadsNoPiece cause → May (input_of_cause cause) host.node }
+        → May (input_of_cause cause) host.node }
     ensures pieces { (script : List Statement) (world : World) → RunsAreInRange script → Began script world → PiecesAreInRange world }
 {}
 
@@ -351,12 +351,12 @@ pub fn refused_requests_make_nothing()
         → RefusedMakeNothing moment.past.refused moment.past.lost moment.past.attempts }
 {}
 
-/// In each run in range a refused request that is no check has no items in the history: what it began to write its refusal took back, and
-/// nothing of it begins later.
-pub fn refused_writes_have_no_items()
+/// In each run in range a refused request has no items in the history: what it began to write its refusal took back, also what a check
+/// began, and nothing of it begins later. So the headline says it of each run.
+pub fn refused_requests_have_no_items()
     ensures { (script : List Statement) (events : List Event) (moment : MomentWithPast) → RunsAreInRange script
         → run_with_past script events ≡ Some moment
-        → RefusedButChecksHaveNoItems script moment.past.refused moment.past.history }
+        → RefusedHaveNoItems moment.past.refused moment.past.history }
 {}
 
 /// In each world of a run what was sent last for works can be spelled, and each node is sound, as long as there is room for an epoch.

@@ -8,9 +8,9 @@
 //! (`specs/Words.antt`), live holders (`specs/Holders.antt`), the six facts on which the overlap rests
 //! (`specs/Contents.antt`, `specs/Facts.antt`), the headline (`specs/Headline.antt`), beside it that no object is missing
 //! (`specs/NoObjects.antt`), and the invariant that is to carry them (`specs/Overlap.antt`); the laws of `overlap.rt` say
-//! what it gives at once. The facts, the headline and that no object is missing aren't proved here, but for the headline's
-//! part on peers of another epoch; the laws of `laws.rt`, `works.rt`, `writers.rt`, `rows.rt`, `searches.rt` and `heart.rt` say what the
-//! words mean.
+//! what it gives at once, and those of `facts.rt` that it gives the facts, which hold of every run under two premises. The headline
+//! and that no object is missing aren't proved here, but for the headline's part on peers of another epoch; the laws of `laws.rt`,
+//! `works.rt`, `writers.rt`, `rows.rt`, `searches.rt`, `heart.rt` and `tables.rt` say what the words mean.
 //!
 //! An event is taken apart into small changes of a moment (`specs/StepMoments.antt`, `specs/MomentChanges.antt`), each of one kind by what
 //! it makes of the wire and the attempts (`specs/Traffic.antt`). So what each of them keeps holds of every run in range: that the wire and
@@ -18,7 +18,8 @@
 //! (`specs/ShapedAttempts.antt`), that the wire is linked with what nodes wait for, that gateways know the fates of their attempts, what
 //! the group of epochs and nodes says (`specs/NodeEpochs.antt`), some of the group of writers (`specs/Writers.antt`), over what the works
 //! of sessions rest on (`specs/AwaitedEntries.antt`, `specs/CommandDisks.antt`, `specs/WriterClaims.antt`), some of the group of rows
-//! (`specs/Rows.antt`), and some of the group of recoveries (`specs/Lists.antt`, `specs/Searches.antt`). The runs of a script that a text
+//! (`specs/Rows.antt`), some of the group of recoveries (`specs/Lists.antt`, `specs/Searches.antt`), and some of that of inodes and
+//! tables (`specs/Tables.antt`, `specs/ToCome.antt`). The runs of a script that a text
 //! may spell are in range: each node has rows of few objects (`specs/RowsInRange.antt`), since each object was set apart for a request of
 //! the script, or is an inode.
 //!
@@ -26,23 +27,47 @@
 //! of `with_asks.rt` say why, and that what is owed of events and of reads gives the headline of those runs too.
 #![tactic(auto)]
 
+mod births;
 mod bytes;
+mod facts;
 mod heart;
+mod history;
+mod items;
 mod kept_event;
+mod kept_rows;
 mod laws;
+mod legal;
+mod lists;
+mod objects;
 mod overlap;
+mod reads;
 mod rows;
 mod searches;
+mod since;
+mod tables;
 mod with_asks;
 mod works;
 mod writers;
 
+pub use births::attempts_are_of_the_born;
+pub use births::attempts_stay_carried_to_the_end;
+pub use births::creates_come_first;
+pub use births::none_is_before_birth;
+pub use births::what_is_good_at_the_end_has_targets;
+pub use bytes::copies_are_of_attempts;
 pub use bytes::copies_stay_of_attempts;
 pub use bytes::rows_have_what_they_owe_as_attempts_begin;
 pub use bytes::rows_have_what_they_owe_as_entries_are_read;
 pub use bytes::served_rows_have_what_they_owe;
 pub use bytes::what_a_node_passed_by_is_doomed;
-pub use heart::a_finished_list_is_complete;
+pub use bytes::what_reads_are_told_is_of_attempts;
+pub use facts::attempts_stand;
+pub use facts::bases_have_holders;
+pub use facts::lists_have_all_bases;
+pub use facts::lost_gateways_are_fenced;
+pub use facts::rows_have_their_bases;
+pub use facts::the_facts_hold;
+pub use facts::the_overlap_gives_the_facts;
 pub use heart::attempts_stay_carried;
 pub use heart::no_row_is_of_an_earlier_level;
 pub use heart::no_search_has_passed_what_is_made;
@@ -50,7 +75,22 @@ pub use heart::recovered_rows_stay_kept;
 pub use heart::what_is_good_has_targets;
 pub use heart::what_is_made_is_held;
 pub use heart::what_was_passed_lacks_rows;
+pub use history::attempts_of_the_refused_come_to_nothing;
+pub use history::blocks_stay_written;
+pub use history::disks_are_there_by_the_log;
+pub use history::each_change_adds_to_the_history;
+pub use history::items_are_open_until_their_request_ends;
+pub use history::what_is_added_keeps_blocks;
+pub use history::what_stays_written_is_written;
+pub use history::writes_that_begin_keep_blocks;
+pub use items::disks_of_the_history_have_their_blocks;
+pub use items::each_block_under_way_is_open;
+pub use items::only_the_holder_begins_writes_of_its_disk;
+pub use items::pieces_left_to_write_are_open;
+pub use items::what_checks_write_stands;
+pub use items::what_is_under_way_is_open;
 pub use kept_event::keeps_overlap;
+pub use kept_rows::rows_and_recoveries_are_kept;
 pub use laws::a_base_is_made;
 pub use laws::an_attempt_begins_where_one_opens;
 pub use laws::an_event_is_a_trail_of_changes;
@@ -69,8 +109,8 @@ pub use laws::other_attempts_hear_nothing;
 pub use laws::packets_are_of_open_works;
 pub use laws::peers_of_another_epoch_change_nothing;
 pub use laws::recoveries_are_of_members_that_came;
+pub use laws::refused_requests_have_no_items;
 pub use laws::refused_requests_make_nothing;
-pub use laws::refused_writes_have_no_items;
 pub use laws::runs_of_few_controls_are_in_range;
 pub use laws::the_attempts_are_shaped;
 pub use laws::the_attempts_stay_in_order;
@@ -88,14 +128,33 @@ pub use laws::what_is_replied_fits;
 pub use laws::what_nodes_have_read_is_of_the_log;
 pub use laws::what_works_ask_can_be_spelled;
 pub use laws::who_joins_is_new;
+pub use legal::pieces_may_be_read;
+pub use legal::reads_go_on_with_what_may_be_read;
+pub use legal::replies_stay_legal;
+pub use legal::what_a_read_tells_may_be_read;
+pub use legal::what_entries_add_may_follow;
+pub use legal::what_requests_did_is_told_by_events;
+pub use legal::what_was_read_stays_so;
+pub use lists::finished_lists_are_noted_once;
+pub use lists::lists_stay_complete;
+pub use lists::what_is_recovered_stays_kept;
+pub use objects::no_object_is_lacked;
+pub use objects::no_object_is_missing;
+pub use objects::nothing_comes_to_be_lacked;
+pub use objects::rows_are_asked_of_targets;
+pub use objects::the_overlap_gives_objects;
 pub use overlap::a_script_opens_with_the_overlap;
 pub use overlap::the_messages_of_the_gone_are_fenced;
 pub use overlap::the_overlap_gives_complete_lists;
 pub use overlap::the_overlap_gives_holders;
 pub use overlap::the_overlap_gives_legal_replies;
+pub use overlap::the_overlap_holds_by_the_tests_of_an_events_end;
 pub use overlap::the_overlap_holds_of_fewer;
 pub use overlap::the_overlap_makes_attempts_stand;
 pub use overlap::the_settled_have_recovered;
+pub use reads::each_snapshot_is_taken;
+pub use reads::reads_are_known;
+pub use reads::the_writers_are_kept;
 pub use rows::requests_are_of_attempts;
 pub use rows::rows_are_at_targets;
 pub use rows::rows_are_begun;
@@ -103,18 +162,44 @@ pub use rows::rows_are_whole;
 pub use rows::rows_stand_in_turn;
 pub use rows::served_rows_stay;
 pub use rows::what_nodes_have_was_born;
+pub use searches::levels_are_asked;
 pub use searches::searches_are_in_order;
+pub use searches::the_made_stays_unmissed;
+pub use searches::told_rows_are_true;
+pub use searches::told_rows_keep_what_they_owe;
+pub use searches::what_a_search_passes_lacks_rows;
 pub use searches::what_is_pending_is_lacked;
+pub use searches::what_isnt_pending_is_there;
+pub use searches::what_was_there_stays_there;
 pub use searches::what_was_told_stays;
+pub use since::attempts_are_of_works;
+pub use since::rows_have_what_they_owe_as_no_node_steps;
+pub use since::rows_have_what_they_owe_as_requests_are_answered;
+pub use since::rows_have_what_they_owe_over_each_change;
+pub use tables::candidates_are_of_what_may_come;
+pub use tables::inodes_of_working_disks_are_made;
+pub use tables::published_inodes_are_made;
+pub use tables::snapshots_stay_frozen;
+pub use tables::tables_are_the_inodes_by_what_may_come;
+pub use tables::tables_stay_made_between_steps;
+pub use tables::tables_stay_the_inodes_between_steps;
+pub use tables::what_attempts_name_stays_made;
+pub use tables::what_is_done_was_made;
+pub use tables::what_may_come_might_before;
+pub use tables::what_was_created_stays_created;
 pub use with_asks::a_clients_read_makes_nothing;
 pub use with_asks::a_run_with_asks_has_its_past;
 pub use with_asks::what_a_clients_read_keeps;
 pub use with_asks::what_is_owed_gives_the_headline;
 pub use with_asks::what_runs_with_asks_keep;
+pub use works::own_entries_of_tables_stay_made;
 pub use works::requests_of_nodes_are_the_scripts;
 pub use works::tables_are_of_one_spec;
+pub use works::tables_are_of_the_chain;
 pub use works::the_attempts_are_whole;
+pub use works::what_is_written_back_names_what_is_made;
 pub use works::works_are_waited_for;
+pub use works::works_keep_naming_what_is_made;
 pub use writers::a_session_has_one_inode_work;
 pub use writers::attempts_are_in_order;
 pub use writers::attempts_are_of_epochs_that_began;

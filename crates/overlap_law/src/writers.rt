@@ -35,7 +35,7 @@ ghost use Rattle.overlap_law.specs.Courses.{CommandsKeepTheirGrants};
 ghost use Rattle.vdi_directory.specs.Chains.{is_above};
 ghost use Rattle.vdi_directory.specs.States.{state_of, is_live_state};
 ghost use Rattle.overlap_law.specs.GrantedAttempts.{AttemptsAreUnderTheGrant};
-ghost use Rattle.overlap_law.specs.LastReads.{was_snapped, snapped_in, SnapshotsAreClosed, AttemptsAreOfThePast, ReadsAreKnown};
+ghost use Rattle.overlap_law.specs.LastReads.{was_snapped, snapped_in, SnapshotsAreClosed, AttemptsAreOfThePast};
 
 /// In each world that a run of a script with few controls reaches there is room for one epoch more: an epoch begins only by a control, or
 /// by the leave of a member, which was there at first or came by a control.
@@ -286,21 +286,16 @@ pub fn attempts_are_of_the_past()
 {}
 
 /// In each run in range no attempt on an object is of a later epoch than an open read of it by a session, nor of the same epoch while
-/// something of it is in flight, if after each change of a moment each such read is on an id that its session may write, or on a disk that
-/// became a snapshot by what the node has read. So it is at each moment on the way of an event, and at its end.
+/// something of it is in flight. So it is at each moment on the way of an event, and at its end.
 pub fn open_reads_are_the_last()
     ensures { (script : List Statement) (events : List Event) (start moment : MomentWithPast) → RunsAreInRange script
-        → ((first before after : MomentWithPast) → Began script first.world → MomentChange script first before after
-        → ReadsAreKnown after.world.log after.world.hosts)
         → run_with_past script events ≡ Some start → MomentTrail script start moment
         → ReadsAreLast moment.world.hosts moment.world.wire moment.past.attempts }
 {}
 
 /// In each run in range beside an open create or write a node has on its object no other open work but what a client reads, a session has
-/// one open work on its inode, and its reads and writes that have begun have no index in common, if each open read of a session is on an id
-/// that its session may write, or on a disk that became a snapshot by what the node has read.
+/// one open work on its inode, and its reads and writes that have begun have no index in common.
 pub fn works_are_apart()
     ensures { (script : List Statement) (events : List Event) (moment : MomentWithPast) → RunsAreInRange script
-        → run_with_past script events ≡ Some moment → ReadsAreKnown moment.world.log moment.world.hosts
-        → WorksAreApart moment.world.hosts }
+        → run_with_past script events ≡ Some moment → WorksAreApart moment.world.hosts }
 {}

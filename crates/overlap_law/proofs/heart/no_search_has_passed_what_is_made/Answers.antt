@@ -1,6 +1,7 @@
+use Rattle.overlap_law.proofs.HeldLevels.{has_made}
 use Rattle.overlap_law.proofs.UnpassedLevels.{not_passed}
 use Rattle.overlap_law.proofs.heart.no_search_has_passed_what_is_made.Goals as goal
 
 pub returns : goal.returns
-returns c = λ script events start moment range is trail live good good_id overlap lives.
-    not_passed script range events start moment is trail live good good_id overlap lives
+returns c = λ script events start moment range is trail good alive kept carried passed.
+    not_passed script range events start moment is trail good (has_made script range events start moment is trail good alive kept carried) passed

@@ -2,4 +2,4 @@ use Rattle.overlap_law.proofs.WorksApart.{works_apart-in_run}
 use Rattle.overlap_law.proofs.writers.works_are_apart.Goals as goal
 
 pub returns : goal.returns
-returns c = λ script events moment range is known. works_apart-in_run script range events moment is known
+returns c = λ script events moment range is. works_apart-in_run script range events moment is

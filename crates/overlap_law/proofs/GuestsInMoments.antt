@@ -1,0 +1,274 @@
+-- Over a change of a moment a node keeps its gateway and its sessions, or has none; or it goes on in its step. And the attempts are as
+-- they were then, but for their fates.
+use Rattle.std.proofs.Common.{◌≡◌, ◌≢◌, ◌⊎◌, inl, inr, ⊎_elim, ℕ, false, List, [], ◌∷◌, Some, slice_get, refl, sym, ap, subst, ◌∙◌}
+use Rattle.std.specs.FinMap as tree
+use Rattle.proof_tools.proofs.Booleans.{cond_either}
+use Rattle.proof_tools.proofs.FiniteMaps.{get-insert_cases}
+use Rattle.object_id.specs.declared.entry.Entry.{Entry}
+use Rattle.cluster_script.specs.declared.statement.Statement.{Statement}
+use Rattle.gateway.specs.State as gateway_states
+use Rattle.recovery.specs.Steps as recovery_steps
+use Rattle.sheep_node.specs.declared.event.Event.{Event}
+use Rattle.sheep_node.specs.declared.input.Input.TheVariants as inputs
+use Rattle.sheep_node.specs.State.{Node}
+use Rattle.sheep_node.specs.RecoveryView.{recovery_state_of}
+use Rattle.sheep_node.specs.StepState.{StepState, at_first, with_node}
+use Rattle.sheep_node.specs.LogReading.{entry_read, on_back}
+use Rattle.sheep_node.specs.Step.{on_request, recovery_stepped, on_put, on_recover_tick, on_input, is_due, with_recovered, recovered_put}
+use Rattle.sheep_node.specs.Step.{node_step}
+use Rattle.sheep_node.specs.Changes.{input_received}
+use Rattle.sheep_world.specs.World.{Host}
+use Rattle.sheep_world.specs.Step.{EventOutcome}
+use Rattle.sheep_world.specs.MembershipChanges.{lost_host}
+use Rattle.sheep_world.specs.NodeCauses.{NodeCause, GuestAsks, RequestComes, ReplyComes, LossIsTold, EntryIsRead, EntryIsPut, RecoveryTicks}
+use Rattle.sheep_world.specs.NodeCauses.{WorkIsRetried, input_of_cause, host_with_node}
+use Rattle.sheep_world.specs.EventKinds.{log_after_return}
+use Rattle.sheep_world.specs.HostChanges.{host_after_return, joined_host}
+use Rattle.overlap_law.specs.Attempts.{AttemptRecord}
+use Rattle.overlap_law.specs.BegunAttempts.{attempts_after}
+use Rattle.overlap_law.specs.Reached.{Hosts}
+use Rattle.overlap_law.specs.Past.{MomentWithPast, moment_after, past_after_event}
+use Rattle.overlap_law.specs.StepMoments.{SteppingNode, IsStepping, StepsByChanges, StepsAtOnce, first_in_step, last_in_step, IsWithinStep}
+use Rattle.overlap_law.specs.StepMoments.{moment_in_step, attempts_with_loss, attempts_at_cause}
+use Rattle.overlap_law.specs.MomentChanges as moments
+use Rattle.overlap_law.specs.MomentChanges.{MomentChange}
+use Rattle.overlap_law.proofs.AttemptsInSteps.{attempts-at_first, attempts-at_end}
+use Rattle.overlap_law.proofs.AttemptsOfEvents.{attempts-of_untold_loss, attempts-of_unread_delivery, attempts-of_loss, attempts-of_leave}
+use Rattle.overlap_law.proofs.AttemptsOfEvents.{attempts-of_reweight, attempts-of_join, attempts-of_return, attempts-of_phase_end}
+use Rattle.overlap_law.proofs.KnownFatesLater.{WasMarked, as_it_was, lost_was, caused_was}
+use Rattle.overlap_law.proofs.NewAttempts.{WasAttempt}
+use Rattle.overlap_law.proofs.OpenInMoments.{received_gateway, made_gateway}
+
+-- ---- what leaves the sessions and the requests as they are
+
+received_sessions : (cause : NodeCause) (node : Node) → StepsByChanges cause
+    → (input_received (input_of_cause cause) (at_first node)).node.sessions ≡ node.sessions
+unfolding entry_read
+received_sessions (GuestAsks session req ask) node by = refl
+received_sessions (RequestComes name to request) node by = absurd by
+received_sessions (ReplyComes name from rsp) node by =
+    cond_either (λ (start : StepState). start.node.sessions ≡ node.sessions) (gateway_states.gateway_awaits rsp.number node.gateway)
+    (at_first node)
+    (recovery_stepped (recovery_steps.recovery_on_reply rsp (recovery_state_of node)) (at_first node)) refl refl
+received_sessions (LossIsTold name packet) node by =
+    cond_either (λ (start : StepState). start.node.sessions ≡ node.sessions) (gateway_states.gateway_awaits name.number node.gateway)
+    (at_first node)
+    (recovery_stepped (recovery_steps.recovery_on_loss name.number (recovery_state_of node)) (at_first node)) refl refl
+received_sessions (EntryIsRead entry) node by = refl
+received_sessions (EntryIsPut entry) node by = absurd by
+received_sessions RecoveryTicks node by = absurd by
+received_sessions WorkIsRetried node by = refl
+
+due_sessions : (so_far : StepState) → (recovered_put so_far).node.sessions ≡ so_far.node.sessions
+unfolding recovered_put
+due_sessions so_far =
+    cond_either (λ (now : StepState). now.node.sessions ≡ so_far.node.sessions) (is_due so_far.node) (with_recovered so_far) so_far refl
+    refl
+
+received_requests : (cause : NodeCause) (node : Node) → StepsByChanges cause
+    → (input_received (input_of_cause cause) (at_first node)).node.requests ≡ node.requests
+unfolding entry_read
+received_requests (GuestAsks session req ask) node by = refl
+received_requests (RequestComes name to request) node by = absurd by
+received_requests (ReplyComes name from rsp) node by =
+    cond_either (λ (start : StepState). start.node.requests ≡ node.requests) (gateway_states.gateway_awaits rsp.number node.gateway)
+    (at_first node)
+    (recovery_stepped (recovery_steps.recovery_on_reply rsp (recovery_state_of node)) (at_first node)) refl refl
+received_requests (LossIsTold name packet) node by =
+    cond_either (λ (start : StepState). start.node.requests ≡ node.requests) (gateway_states.gateway_awaits name.number node.gateway)
+    (at_first node)
+    (recovery_stepped (recovery_steps.recovery_on_loss name.number (recovery_state_of node)) (at_first node)) refl refl
+received_requests (EntryIsRead entry) node by = refl
+received_requests (EntryIsPut entry) node by = absurd by
+received_requests RecoveryTicks node by = absurd by
+received_requests WorkIsRetried node by = refl
+
+due_requests : (so_far : StepState) → (recovered_put so_far).node.requests ≡ so_far.node.requests
+unfolding recovered_put
+due_requests so_far =
+    cond_either (λ (now : StepState). now.node.requests ≡ so_far.node.requests) (is_due so_far.node) (with_recovered so_far) so_far refl
+    refl
+
+put_requests : (outbox : List Entry) (node : Node) → (on_put outbox (at_first node)).node.requests ≡ node.requests
+put_requests [] node = refl
+put_requests (entry ∷ later) node = refl
+
+made_requests : (cause : NodeCause) (node : Node) → StepsAtOnce cause
+    → (node_step (input_of_cause cause) node).node.requests ≡ node.requests
+unfolding node_step on_input on_request on_recover_tick
+made_requests (GuestAsks session req ask) node by = absurd by
+made_requests (RequestComes name to request) node by = due_requests (on_request request (at_first node))
+made_requests (ReplyComes name from rsp) node by = absurd by
+made_requests (LossIsTold name packet) node by = absurd by
+made_requests (EntryIsRead entry) node by = absurd by
+made_requests (EntryIsPut entry) node by = due_requests (on_put node.outbox (at_first node)) ∙ put_requests node.outbox node
+made_requests RecoveryTicks node by = due_requests (on_recover_tick (at_first node))
+made_requests WorkIsRetried node by = absurd by
+
+put_sessions : (outbox : List Entry) (node : Node) → (on_put outbox (at_first node)).node.sessions ≡ node.sessions
+put_sessions [] node = refl
+put_sessions (entry ∷ later) node = refl
+
+made_sessions : (cause : NodeCause) (node : Node) → StepsAtOnce cause
+    → (node_step (input_of_cause cause) node).node.sessions ≡ node.sessions
+unfolding node_step on_input on_request on_recover_tick
+made_sessions (GuestAsks session req ask) node by = absurd by
+made_sessions (RequestComes name to request) node by = due_sessions (on_request request (at_first node))
+made_sessions (ReplyComes name from rsp) node by = absurd by
+made_sessions (LossIsTold name packet) node by = absurd by
+made_sessions (EntryIsRead entry) node by = absurd by
+made_sessions (EntryIsPut entry) node by = due_sessions (on_put node.outbox (at_first node)) ∙ put_sessions node.outbox node
+made_sessions RecoveryTicks node by = due_sessions (on_recover_tick (at_first node))
+made_sessions WorkIsRetried node by = absurd by
+
+back_none : (entries : List Entry) (node : Node) → (on_back entries node).sessions ≡ tree.empty
+unfolding on_back
+back_none entries node = refl
+
+back_requests : (entries : List Entry) (node : Node) → (on_back entries node).requests ≡ tree.empty
+unfolding on_back
+back_requests entries node = refl
+
+returned_requests : (entries : List Entry) (node : Node) → (node_step (inputs.Back entries) node).node.requests ≡ tree.empty
+unfolding node_step on_input
+returned_requests entries node = due_requests (with_node (on_back entries node) (at_first node)) ∙ back_requests entries node
+
+returned_none : (entries : List Entry) (node : Node) → (node_step (inputs.Back entries) node).node.sessions ≡ tree.empty
+unfolding node_step on_input
+returned_none entries node = due_sessions (with_node (on_back entries node) (at_first node)) ∙ back_none entries node
+
+-- ---- the sessions of a host after a change
+
+-- how the sessions of a host came to be as they are
+pub data GuestsChange (before : MomentWithPast) (n : ℕ) (host : Host) : Type 0 where
+  GuestsStay : (was : Host) → tree.get before.world.hosts n ≡ Some was → (host.is_lost ≡ false → was.is_lost ≡ false)
+      → host.node.gateway ≡ was.node.gateway → host.node.sessions ≡ was.node.sessions → host.node.requests ≡ was.node.requests
+      → GuestsChange before n host
+  GuestsAreNone : host.node.sessions ≡ tree.empty → host.node.requests ≡ tree.empty → GuestsChange before n host
+
+abbrev pub AllGuestsChange : MomentWithPast → MomentWithPast → Type 0
+AllGuestsChange before after = (n : ℕ) (host : Host) → tree.get after.world.hosts n ≡ Some host → GuestsChange before n host
+
+-- each attempt was there, but for its fates
+abbrev pub AttemptsWere : MomentWithPast → MomentWithPast → Type 0
+AttemptsWere before after = (j : ℕ) (now : AttemptRecord) → slice_get after.past.attempts j ≡ Some now → WasAttempt before j now
+
+-- a node goes on in its step
+pub record IsGoingOn (script : List Statement) (start before after : MomentWithPast) : Type 0 where
+  pub stepping : SteppingNode
+  pub so_far : StepState
+  pub next : StepState
+  pub is : IsStepping script start.world stepping
+  pub by : StepsByChanges stepping.cause
+  pub within : IsWithinStep stepping so_far next
+  pub before_so : before ≡ moment_in_step script stepping start so_far
+  pub after_so : after ≡ moment_in_step script stepping start next
+
+-- one host is another
+one_guests : (before after : MomentWithPast) (k : ℕ) (new : Host) → after.world.hosts ≡ tree.insert before.world.hosts k new
+    → GuestsChange before k new → AllGuestsChange before after
+one_guests before after k new is change n host there = ⊎_elim
+    (λ (own : (n ≡ k) × (new ≡ host)).
+    subst (λ (q : ℕ). GuestsChange before q host) (sym own.0) (subst (GuestsChange before k) own.1 change))
+    (λ (other : (n ≢ k) × (tree.get before.world.hosts n ≡ Some host)). GuestsStay host other.1 (λ up. up) refl refl refl)
+    (get-insert_cases before.world.hosts k new n host (ap (λ (held : Hosts). tree.get held n) (sym is) ∙ there))
+
+same_guests : (before after : MomentWithPast) → after.world.hosts ≡ before.world.hosts → AllGuestsChange before after
+same_guests before after same n host there =
+    GuestsStay host (ap (λ (held : Hosts). tree.get held n) (sym same) ∙ there) (λ up. up) refl refl refl
+
+-- ---- each change
+
+marked_were : (before after : MomentWithPast) (attempts : List AttemptRecord) → after.past.attempts ≡ attempts
+    → ((j : ℕ) (now : AttemptRecord) → slice_get attempts j ≡ Some now → WasMarked before.past.attempts j now) → AttemptsWere before after
+marked_were before after attempts same marked j now got =
+    let w = marked j now (ap (λ (list : List AttemptRecord). slice_get list j) (sym same) ∙ got) in
+    record { was = w.was; at = w.at; fates = w.fates; same = w.same }
+
+event_attempts : (script : List Statement) (start : MomentWithPast) (event : Event) (made : EventOutcome) (attempts : List AttemptRecord)
+    → attempts_after script event start.world made.world start.past.attempts ≡ attempts
+    → (moment_after script event start made).past.attempts ≡ attempts
+unfolding past_after_event
+event_attempts script start event made attempts so = so
+
+abbrev pub IsBetween : MomentWithPast → MomentWithPast → Type 0
+IsBetween before after = AllGuestsChange before after × AttemptsWere before after
+
+module _ (script : List Statement) (start : MomentWithPast) where
+  still : (event : Event) (made : EventOutcome)
+      → attempts_after script event start.world made.world start.past.attempts ≡ start.past.attempts
+      → AttemptsWere start (moment_after script event start made)
+  still event made so =
+      marked_were start (moment_after script event start made) start.past.attempts
+      (event_attempts script start event made start.past.attempts so)
+      (as_it_was start.past.attempts)
+
+  pub between : {before after : MomentWithPast} → MomentChange script start before after
+      → IsGoingOn script start before after ⊎ IsBetween before after
+  between (moments.StepBegins stepping is by) =
+      let after = moment_in_step script stepping start (first_in_step stepping) in
+      inr (
+        one_guests start after stepping.n (host_with_node stepping.host (first_in_step stepping).node) refl
+            (GuestsStay stepping.host is.there (λ up. up) (received_gateway stepping.cause stepping.host.node by)
+            (received_sessions stepping.cause stepping.host.node by) (received_requests stepping.cause stepping.host.node by)),
+        marked_were start after (attempts_at_cause stepping.host.node stepping.cause start.past.attempts)
+            (attempts-at_first script start stepping is by) (caused_was stepping.host.node stepping.cause start.past.attempts),
+      )
+  between (moments.StepGoesOn stepping so_far next is by within) = inl (record {
+    stepping = stepping;
+    so_far = so_far;
+    next = next;
+    is = is;
+    by = by;
+    within = within;
+    before_so = refl;
+    after_so = refl;
+  })
+  between (moments.StepIsMade stepping is by) =
+      let after = moment_in_step script stepping start (last_in_step stepping) in
+      inr (
+        one_guests start after stepping.n (host_with_node stepping.host (last_in_step stepping).node) refl
+            (GuestsStay stepping.host is.there (λ up. up) (made_gateway stepping.cause stepping.host.node by)
+            (made_sessions stepping.cause stepping.host.node by) (made_requests stepping.cause stepping.host.node by)),
+        marked_were start after (attempts_at_cause stepping.host.node stepping.cause start.past.attempts)
+            (attempts-at_end script start stepping is by) (caused_was stepping.host.node stepping.cause start.past.attempts),
+      )
+  between {before} {after} (moments.LossIsUntold event made happened h) = inr (
+    same_guests before after (ap (λ (m : EventOutcome). m.world.hosts) (sym h.made_so)),
+    marked_were before after (attempts_with_loss h.name h.packet start.past.attempts)
+        (event_attempts script start event made (attempts_with_loss h.name h.packet start.past.attempts)
+        (attempts-of_untold_loss script event start.world made start.past.attempts h)) (lost_was h.name h.packet start.past.attempts),
+  )
+  between {before} {after} (moments.DeliveryIsUnread event made happened h) = inr (
+    same_guests before after (ap (λ (m : EventOutcome). m.world.hosts) (sym h.made_so)),
+    still event made (attempts-of_unread_delivery script event start.world made start.past.attempts h),
+  )
+  between {before} {after} (moments.NodeIsLost event made happened h) = inr (
+    one_guests before after h.n (lost_host h.host) (ap (λ (m : EventOutcome). m.world.hosts) (sym h.made_so))
+        (GuestsStay h.host h.there (λ up. absurd (cc (up))) refl refl refl),
+    still event made (attempts-of_loss script event start.world made start.past.attempts h),
+  )
+  between {before} {after} (moments.NodeLeaves event made happened h) = inr (
+    same_guests before after (ap (λ (m : EventOutcome). m.world.hosts) (sym h.made_so)),
+    still event made (attempts-of_leave script event start.world made start.past.attempts h),
+  )
+  between {before} {after} (moments.NodeIsReweighted event made happened h) = inr (
+    same_guests before after (ap (λ (m : EventOutcome). m.world.hosts) (sym h.made_so)),
+    still event made (attempts-of_reweight script event start.world made start.past.attempts h),
+  )
+  between {before} {after} (moments.NodeJoins event made happened h) = inr (
+    one_guests before after h.n (joined_host script h.n) (ap (λ (m : EventOutcome). m.world.hosts) (sym h.made_so))
+        (GuestsAreNone refl refl),
+    still event made (attempts-of_join script event start.world made start.past.attempts h),
+  )
+  between {before} {after} (moments.NodeComesBack event made happened h) =
+      let log = log_after_return script h.n start.world in
+      inr (
+        one_guests before after h.n (host_after_return log h.host) (ap (λ (m : EventOutcome). m.world.hosts) (sym h.made_so))
+            (GuestsAreNone (returned_none log h.host.node) (returned_requests log h.host.node)),
+        still event made (attempts-of_return script event start.world made start.past.attempts h),
+      )
+  between {before} {after} (moments.PhaseEnds event made happened h) = inr (
+    same_guests before after (ap (λ (m : EventOutcome). m.world.hosts) (sym h.made_so)),
+    still event made (attempts-of_phase_end script event start.world made start.past.attempts h),
+  )

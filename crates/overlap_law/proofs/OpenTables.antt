@@ -1,0 +1,154 @@
+-- In each run in range, at each moment on the way of its events, the table of an open disk names none but the disk and those above it, and
+-- has an entry for each object of the disk.
+use Rattle.std.proofs.Common.{◌≡◌, ◌≢◌, ⊎_elim, inl, ℕ, List, ◌++◌, Option, Some, IfSome, refl, sym, ap, subst, ◌∙◌}
+use Rattle.std.specs.FinMap as tree
+use Rattle.proof_tools.proofs.FiniteMaps.{get-insert_same, get-insert_cases}
+use Rattle.object_id.specs.declared.entry.Entry.{Entry}
+use Rattle.cluster_script.specs.declared.statement.Statement.{Statement}
+use Rattle.vdi_directory.specs.Decisions.{log_effects}
+use Rattle.guest_driver.specs.declared.disk.Disk.{Disk}
+use Rattle.sheep_node.specs.declared.event.Event.{Event}
+use Rattle.sheep_node.specs.declared.session.Session.{Session}
+use Rattle.sheep_node.specs.Changes as changes
+use Rattle.sheep_node.specs.State.{Node}
+use Rattle.sheep_node.specs.StepFacts.{read_after}
+use Rattle.sheep_node.specs.StepState.{StepState}
+use Rattle.sheep_node.proofs.StepResults.{step_reads}
+use Rattle.sheep_world.specs.World.{Host, World}
+use Rattle.sheep_world.specs.Began.{Began}
+use Rattle.sheep_world.specs.EventKinds.{outcome_of_step}
+use Rattle.sheep_world.specs.HostChanges.{host_after_step}
+use Rattle.sheep_world.specs.NodeCauses.{input_of_cause, event_of_cause, host_with_node, log_after_cause}
+use Rattle.sheep_world.specs.Step.{EventOutcome, step}
+use Rattle.sheep_world.proofs.BegunWorlds.{goes_on}
+use Rattle.sheep_world.proofs.LogFrontLaws.{all_read}
+use Rattle.overlap_law.specs.MomentChanges as moments
+use Rattle.overlap_law.specs.MomentChanges.{MomentChange, MomentTrail, RunsAreInRange}
+use Rattle.overlap_law.specs.OpenTables.{EntriesAreOfTheChain}
+use Rattle.overlap_law.specs.Past.{MomentWithPast, run_with_past}
+use Rattle.overlap_law.specs.Reached.{Hosts}
+use Rattle.overlap_law.specs.StepMoments.{SteppingNode, IsStepping, StepsByChanges, LeadsInStep, first_in_step, hosts_in_step}
+use Rattle.overlap_law.specs.Tables.{IsOfChain}
+use Rattle.overlap_law.specs.WholeTables.{TablesAreWhole}
+use Rattle.overlap_law.proofs.CausedWorks.{by_changes, no_object}
+use Rattle.overlap_law.proofs.ChainTables.{HasChainTable, at_index, above_later}
+use Rattle.overlap_law.proofs.GrantedEpochs.{spec_stays}
+use Rattle.overlap_law.proofs.KnownDiskSteps.{effects_after}
+use Rattle.overlap_law.proofs.KnownDisksInRuns.{caused_known, nodes_know}
+use Rattle.overlap_law.proofs.LogsInMoments.{log_by_changes}
+use Rattle.overlap_law.proofs.NoRecoveredDue.{began-with_past}
+use Rattle.overlap_law.proofs.PlacesTaken.{places_taken}
+use Rattle.overlap_law.proofs.WholeInRuns.{sound_here, named, may_change, nodes_whole}
+use Rattle.overlap_law.proofs.WholeNodes.{AreWholeOn, whole_grows}
+use Rattle.overlap_law.proofs.WholeSteps.{tables_so_far}
+
+-- the works of each node are whole by the log
+abbrev AreWholeBy : List Entry → Hosts → Type 0
+AreWholeBy log hosts = (n : ℕ) (host : Host) → tree.get hosts n ≡ Some host → AreWholeOn (log_effects log) host.node
+
+-- they are so by a longer one
+by_more : (log more : List Entry) (node : Node) → AreWholeOn (log_effects log) node → AreWholeOn (log_effects (log ++ more)) node
+by_more log more =
+    whole_grows (log_effects log) (log_effects (log ++ more)) (λ vid spec. spec_stays log more vid spec) (above_later log more)
+
+module _ (script : List Statement) (range : RunsAreInRange script) where
+  in_world : (world : World) → Began script world → AreWholeBy world.log world.hosts
+  in_world world began n host there =
+      let front = all_read script world began n host there in
+      subst (λ (log : List Entry). AreWholeOn (log_effects log) host.node) (sym front.is)
+      (by_more host.node.peer.entries front.rest host.node (nodes_whole script range world began n host there))
+
+  module _ (start : MomentWithPast) (began : Began script start.world) where
+    at_end : (event : Event) (made : EventOutcome) → step script event start.world ≡ Some made → AreWholeBy made.world.log made.world.hosts
+    at_end event made happened = in_world made.world (goes_on script event start.world made began happened)
+
+    -- the node that steps, as far as it has come
+    module _ (stepping : SteppingNode) (is : IsStepping script start.world stepping) (by : StepsByChanges stepping.cause)
+        (so_far : StepState) (leads : LeadsInStep stepping (first_in_step stepping) so_far) where
+      abbrev node : Node
+      node = stepping.host.node
+
+      abbrev read : List Entry
+      read = read_after (input_of_cause stepping.cause) node.peer.entries
+
+      own_so_far : AreWholeOn (log_effects read) so_far.node
+      own_so_far =
+          tables_so_far (input_of_cause stepping.cause) node
+          (may_change script range start.world began stepping.n stepping.host is.there is.up stepping.cause (by_changes stepping.cause by)
+          is.caused)
+          (named script range start.world began stepping.n stepping.host is.there is.up stepping.cause is.caused)
+          (sound_here script range start.world began stepping.n stepping.host is.there is.up)
+          (caused_known script range.is_script (effects_after (input_of_cause stepping.cause) node) start.world stepping.n stepping.host
+          stepping.cause is.caused)
+          (no_object script start.world stepping.n stepping.host stepping.cause is.caused)
+          (nodes_know script range start.world began stepping.n stepping.host is.there)
+          (places_taken script range start.world began stepping.n stepping.host is.there is.up stepping.cause is.caused)
+          (nodes_whole script range start.world began stepping.n stepping.host is.there) so_far leads
+
+      -- by the log then
+      own_then : AreWholeOn (log_effects (log_after_cause stepping.cause start.world.log)) so_far.node
+      own_then =
+          let after = outcome_of_step script stepping.n stepping.host stepping.cause start.world in
+          let begun : Began script after.world
+          = goes_on script (event_of_cause stepping.n stepping.cause) start.world after began is.made in
+          let front = all_read script after.world begun stepping.n (host_after_step stepping.cause stepping.host)
+          (get-insert_same start.world.hosts stepping.n (host_after_step stepping.cause stepping.host)) in
+          let log : log_after_cause stepping.cause start.world.log ≡ read ++ front.rest
+          = front.is ∙ ap (λ (entries : List Entry). entries ++ front.rest) (step_reads (input_of_cause stepping.cause) node) in
+          subst (λ (log : List Entry). AreWholeOn (log_effects log) so_far.node) (sym log)
+          (by_more read front.rest so_far.node own_so_far)
+
+      in_step : AreWholeBy (log_after_cause stepping.cause start.world.log) (hosts_in_step stepping start.world so_far)
+      in_step n host there = ⊎_elim
+          (λ (own : (n ≡ stepping.n) × (host_with_node stepping.host so_far.node ≡ host)).
+          subst (λ (h : Host). AreWholeOn (log_effects (log_after_cause stepping.cause start.world.log)) h.node) own.1 own_then)
+          (λ (other : (n ≢ stepping.n) × (tree.get start.world.hosts n ≡ Some host)).
+          subst (λ (log : List Entry). AreWholeOn (log_effects log) host.node) (sym (log_by_changes stepping.cause by start.world.log))
+          (in_world start.world began n host other.1))
+          (get-insert_cases start.world.hosts stepping.n (host_with_node stepping.host so_far.node) n host there)
+
+    whole_after : {before after : MomentWithPast} → MomentChange script start before after → AreWholeBy after.world.log after.world.hosts
+    whole_after (moments.StepBegins stepping is by) = in_step stepping is by (first_in_step stepping) changes.Still
+    whole_after (moments.StepGoesOn stepping so_far next is by within) =
+        in_step stepping is by next (changes.Then within.leads within.change)
+    whole_after (moments.StepIsMade stepping is by) =
+        at_end (event_of_cause stepping.n stepping.cause) (outcome_of_step script stepping.n stepping.host stepping.cause start.world)
+        is.made
+    whole_after (moments.LossIsUntold event made happened h) = at_end event made happened
+    whole_after (moments.DeliveryIsUnread event made happened h) = at_end event made happened
+    whole_after (moments.NodeIsLost event made happened h) = at_end event made happened
+    whole_after (moments.NodeLeaves event made happened h) = at_end event made happened
+    whole_after (moments.NodeIsReweighted event made happened h) = at_end event made happened
+    whole_after (moments.NodeJoins event made happened h) = at_end event made happened
+    whole_after (moments.NodeComesBack event made happened h) = at_end event made happened
+    whole_after (moments.PhaseEnds event made happened h) = at_end event made happened
+
+    along_trail : {moment : MomentWithPast} → MomentTrail script start moment → AreWholeBy moment.world.log moment.world.hosts
+    along_trail moments.Still = in_world start.world began
+    along_trail (moments.Then trail change) = whole_after change
+
+  -- ---- the disks that sessions have open
+
+  module _ (log : List Entry) (hosts : Hosts) (all : AreWholeBy log hosts) (n : ℕ) (host : Host) (there : tree.get hosts n ≡ Some host)
+      (number : ℕ) (session : Session) (got : tree.get host.node.sessions number ≡ Some session) (disk : Disk)
+      (on : session.disk ≡ Some disk) where
+    open_table : HasChainTable (log_effects log) disk.inode
+    open_table =
+        subst (λ (o : Option Disk). IfSome o (λ (disk : Disk). HasChainTable (log_effects log) disk.inode)) on
+        ((all n host there).each_session number session got).disk
+
+  module _ (events : List Event) (start moment : MomentWithPast) (ran : run_with_past script events ≡ Some start)
+      (trail : MomentTrail script start moment) where
+    whole_there : AreWholeBy moment.world.log moment.world.hosts
+    whole_there = along_trail start (began-with_past script events start ran) trail
+
+    pub entries_of_chain : EntriesAreOfTheChain (log_effects moment.world.log) moment.world.hosts
+    entries_of_chain n host there up number index session disk got on within =
+        at_index (IsOfChain (log_effects moment.world.log) disk.inode.vid) (inl refl) disk.inode.table index
+        (open_table moment.world.log moment.world.hosts whole_there n host there number session got disk on).entries
+
+    pub whole_tables : TablesAreWhole moment.world.hosts
+    whole_tables = record {
+      each = λ n host there up number session disk got on.
+          (open_table moment.world.log moment.world.hosts whole_there n host there number session got disk on).whole;
+    }

@@ -1,0 +1,297 @@
+-- A command that waits for the publication of an id waited for it before a change of its node, or the work was done just now by which it
+-- makes the id's inode.
+use Rattle.std.proofs.Common.{◌≡◌, ◌≢◌, ◌⊎◌, inl, inr, ⊎_elim, ℕ, true, false, List, Option, Some, None, option_map, refl, sym, ap, subst}
+use Rattle.std.proofs.Common.{◌∙◌}
+use Rattle.std.specs.Option.{option_and_then}
+use Rattle.std.specs.FinMap as tree
+use Rattle.std.proofs.lemmas.Bool.{cases_eq}
+use Rattle.std.proofs.lemmas.Option.{same_Some}
+use Rattle.proof_tools.proofs.FiniteMaps.{get-remove_same, get-remove_other, get-insert_cases}
+use Rattle.object_id.specs.declared.cause.Cause.TheVariants.{Halt}
+use Rattle.object_id.specs.declared.entry.Entry.{Entry}
+use Rattle.object_id.specs.declared.entry.Entry.TheVariants as entries
+use Rattle.object_id.specs.declared.entry.Origin.TheVariants.{Fresh, SnapshotOf, CloneOf}
+use Rattle.object_id.specs.declared.node.NodeId.{NodeId}
+use Rattle.object_id.specs.declared.oid.Vid.{Vid}
+use Rattle.inode.specs.Layout.{Content}
+use Rattle.peer_proto.specs.declared.guest.GuestRsp.{GuestRsp}
+use Rattle.peer_proto.specs.declared.guest.VdiAsk.{VdiAsk}
+use Rattle.peer_service.specs.State.{effects_of}
+use Rattle.peer_service.specs.LogReading.{decision_on}
+use Rattle.gateway.specs.declared.message.Status.{Status}
+use Rattle.gateway.specs.Attempt as gateways
+use Rattle.gateway.specs.Work.{zones_for}
+use Rattle.gateway.specs.State.{Work}
+use Rattle.guest_driver.specs.Driver as drivers
+use Rattle.disk_check.specs.Check.{begin_check}
+use Rattle.vdi_directory.specs.declared.decision.Decision.{Decision}
+use Rattle.vdi_directory.specs.declared.decision.Decision.TheVariants as decisions
+use Rattle.vdi_directory.specs.declared.effect.Effect.{Effect}
+use Rattle.vdi_directory.specs.declared.header.Header.{Header}
+use Rattle.vdi_directory.specs.Chains.{chain_of}
+use Rattle.vdi_directory.specs.Effects.{header_of}
+use Rattle.vdi_ops.specs.Entries.{first_entry}
+use Rattle.vdi_ops.specs.Op.{Op, OpStep, OpStage, Asked, Working, Publishing, Answered, Task, Opening, WritingBack, Tagging, Copying}
+use Rattle.vdi_ops.specs.Op.{Making}
+use Rattle.vdi_ops.specs.Steps.{first_step, begin_command, tag_step, copy_step, step_after_grant, step_after_decision, done_at, task_done}
+use Rattle.vdi_ops.specs.Steps.{decided_at, op_on_done, on_decision}
+use Rattle.sheep_node.specs.declared.course.Course.{Course}
+use Rattle.sheep_node.specs.declared.course.Request.{Request}
+use Rattle.sheep_node.specs.declared.course.Course.TheVariants.{Waiting, Driving, Commanding, Checking, DoingWork, AwaitingDecision}
+use Rattle.sheep_node.specs.declared.input.Input.{Input}
+use Rattle.sheep_node.specs.State.{Node}
+use Rattle.sheep_node.specs.StepState.{StepState, session_in, request_ended}
+use Rattle.sheep_node.specs.Courses.{inode_open}
+use Rattle.sheep_node.specs.Changes as changes
+use Rattle.sheep_node.specs.Changes.{without_ended_work, Outcome, ToWork, ToEntry, ToReply, without_denied_work, zones_of_members, EndsWork}
+use Rattle.sheep_node.specs.Changes.{RequestSteps, DiskBegins, DiskGoesOn, CommandBegins, CommandGoesOn, CommandDecided, CheckBegins}
+use Rattle.sheep_node.specs.Changes.{CheckGoesOn, ObjectBegins, ObjectIsDone, EntryBegins, EntryDecided, WorkIsNext, AtOnce, InTurn, Again}
+use Rattle.sheep_node.specs.Changes.{AgainAlone, Change}
+use Rattle.sheep_node.proofs.OneWorkParts.{Requests}
+use Rattle.sheep_node.proofs.RefusedCourses.{course_refused-keeps, request_refused-keeps}
+use Rattle.overlap_law.specs.Drafts.{published_by}
+
+-- ---- what a command publishes
+
+-- the id of the publication that a command waits for
+abbrev pub published_at : OpStage → Option Vid
+published_at (Asked entry) = None
+published_at (Working vid task) = None
+published_at (Publishing entry made) = published_by entry
+published_at (Answered change) = None
+
+abbrev pub published_in_course : Course → Option Vid
+published_in_course (Waiting ask) = None
+published_in_course (Driving driver) = None
+published_in_course (Commanding op) = published_at op.stage
+published_in_course (Checking check) = None
+published_in_course (DoingWork work) = None
+published_in_course (AwaitingDecision entry) = None
+
+-- by a step, if there is one
+abbrev published_by_step : Option OpStep → Option Vid
+published_by_step None = None
+published_by_step (Some step) = published_at step.op.stage
+
+step_of : (o : Option OpStep) (step : OpStep) → o ≡ Some step → published_by_step o ≡ None → published_at step.op.stage ≡ None
+step_of o step is none = ap published_by_step (sym is) ∙ none
+
+begins_none : (by : NodeId) (session : ℕ) (ask : VdiAsk) (disk : Option Content) (step : OpStep)
+    → begin_command by session ask disk ≡ Some step
+    → published_at step.op.stage ≡ None
+unfolding begin_command
+begins_none by session ask disk step is = by_entry (first_entry by session disk ask) is
+  where
+    by_entry : (o : Option Entry) → option_map (first_step by session) o ≡ Some step → published_at step.op.stage ≡ None
+    by_entry None is = absurd (cc (is))
+    by_entry (Some entry) is = step_of (Some (first_step by session entry)) step is refl
+
+-- ---- what is decided
+
+module _ (op : Op) where
+  tagged_none : (vid : Vid) (tag : List ℕ) (header : Header) (disk : Option Content)
+      → published_by_step (option_map (tag_step op vid tag header) disk) ≡ None
+  tagged_none vid tag header None = refl
+  tagged_none vid tag header (Some old) = refl
+
+  copied_none : (vid : Vid) (chain : List ℕ) (header : Header) (parent : Option Vid)
+      → published_by_step (option_map (copy_step op vid chain header) parent) ≡ None
+  copied_none vid chain header None = refl
+  copied_none vid chain header (Some parent) = refl
+
+  granted_none : (vid : Vid) (chain : List ℕ) (disk : Option Content) (entry : Entry) (header : Header)
+      → published_by_step (step_after_grant op vid chain disk entry header) ≡ None
+  granted_none vid chain disk (entries.Format members) header = refl
+  granted_none vid chain disk (entries.Join node zone vnodes) header = refl
+  granted_none vid chain disk (entries.Leave node) header = refl
+  granted_none vid chain disk (entries.Reweight node vnodes) header = refl
+  granted_none vid chain disk (entries.Recovered node epoch) header = refl
+  granted_none vid chain disk (entries.Reserve by session name (Fresh spec)) header = refl
+  granted_none vid chain disk (entries.Reserve by session name (SnapshotOf tag)) header = tagged_none vid tag header disk
+  granted_none vid chain disk (entries.Reserve by session name (CloneOf base tag)) header = copied_none vid chain header header.parent
+  granted_none vid chain disk (entries.Publish by of) header = refl
+  granted_none vid chain disk (entries.Clone by of) header = refl
+  granted_none vid chain disk (entries.Snapshot by old of) header = refl
+  granted_none vid chain disk (entries.Delete by session name tag) header = refl
+  granted_none vid chain disk (entries.Lock by session name tag) header = refl
+  granted_none vid chain disk (entries.Unlock by session of) header = refl
+
+  decided_none : (known : List Effect) (disk : Option Content) (entry : Entry) (decision : Decision)
+      → published_by_step (step_after_decision known disk op entry decision) ≡ None
+  decided_none known disk entry decisions.None = refl
+  decided_none known disk entry (decisions.Granted vid) = by_header (header_of known vid.0)
+    where
+      by_header : (o : Option Header)
+          → published_by_step (option_and_then (step_after_grant op vid (chain_of known vid.0) disk entry) o) ≡ None
+      by_header None = refl
+      by_header (Some header) = granted_none vid (chain_of known vid.0) disk entry header
+  decided_none known disk entry (decisions.Refused cause) = refl
+
+  stage_none : (known : List Effect) (disk : Option Content) (decision : Decision) (stage : OpStage)
+      → published_by_step (decided_at known disk decision op stage) ≡ None
+  stage_none known disk decision (Asked entry) = decided_none known disk entry decision
+  stage_none known disk decision (Working vid task) = refl
+  stage_none known disk decision (Publishing entry made) = refl
+  stage_none known disk decision (Answered change) = refl
+
+  on_decision-none : (known : List Effect) (disk : Option Content) (decision : Decision) (step : OpStep)
+      → on_decision known disk decision op ≡ Some step → published_at step.op.stage ≡ None
+  unfolding on_decision
+  on_decision-none known disk decision step is = step_of (decided_at known disk decision op op.stage) step is
+      (stage_none known disk decision op.stage)
+
+-- ---- what is done
+
+-- a command is at the making of an inode, after which it publishes an id
+pub record IsMaking (op : Op) (vid : Vid) : Type 0 where
+  pub of : Vid
+  pub entry : Entry
+  pub made : Option Content
+  pub at : op.stage ≡ Working of (Making entry made)
+  pub says : published_by entry ≡ Some vid
+
+module _ (op : Op) (bytes : List ℕ) (step : OpStep) (vid : Vid) where
+  by_task : (of : Vid) (task : Task) → op.stage ≡ Working of task → published_at (task_done op of bytes task).op.stage ≡ Some vid
+      → IsMaking op vid
+  by_task of (Opening true ids header) at says = absurd (cc (says))
+  by_task of (Opening false ids header) at says = absurd (cc (says))
+  by_task of (WritingBack inode) at says = absurd (cc (says))
+  by_task of (Tagging old inode) at says = absurd (cc (says))
+  by_task of (Copying ids header) at says = absurd (cc (says))
+  by_task of (Making entry made) at says = record { of = of; entry = entry; made = made; at = at; says = says }
+
+  done_making : op_on_done bytes op ≡ Some step → published_at step.op.stage ≡ Some vid → IsMaking op vid
+  unfolding op_on_done
+  done_making is says = by_stage op.stage refl is
+    where
+      by_stage : (stage : OpStage) → op.stage ≡ stage → done_at bytes op stage ≡ Some step → IsMaking op vid
+      by_stage (Asked entry) at is = absurd (cc (is))
+      by_stage (Working of task) at is =
+          by_task of task at (ap (λ (s : OpStep). published_at s.op.stage) (same_Some (task_done op of bytes task) step is) ∙ says)
+      by_stage (Publishing entry made) at is = absurd (cc (is))
+      by_stage (Answered change) at is = absurd (cc (is))
+
+-- ---- over a change of a node
+
+-- a request is there that waits for the publication
+pub record HadPublication (q : ℕ) (vid : Vid) (so_far : StepState) : Type 0 where
+  pub request : Request
+  pub there : tree.get so_far.node.requests q ≡ Some request
+  pub says : published_in_course request.course ≡ Some vid
+
+-- or its inode's making is done now
+pub record IsMadeNow (input : Input) (node : Node) (q : ℕ) (vid : Vid) (so_far : StepState) : Type 0 where
+  pub session : ℕ
+  pub number : ℕ
+  pub work : Work
+  pub attempt : gateways.Attempt
+  pub status : Status
+  pub bytes : List ℕ
+  pub op : Op
+  pub ends : EndsWork input node so_far session q number work attempt status (Commanding op) bytes
+  pub making : IsMaking op vid
+
+module _ (q : ℕ) (vid : Vid) (input : Input) (node : Node) where
+  abbrev pub HadOrMade : StepState → Type 0
+  HadOrMade so_far = HadPublication q vid so_far ⊎ IsMadeNow input node q vid so_far
+
+  module _ (origin : StepState) where
+    abbrev AreFrom : Requests → Type 0
+    AreFrom requests = (r : Request) → tree.get requests q ≡ Some r → published_in_course r.course ≡ Some vid → HadOrMade origin
+
+    abbrev From : StepState → Type 0
+    From so_far = AreFrom so_far.node.requests
+
+    ended_from : (session req : ℕ) (reply : GuestRsp) (so_far : StepState) → From so_far → From (request_ended session req reply so_far)
+    unfolding request_ended
+    ended_from session req reply so_far from r got says = ⊎_elim
+        (λ (own : q ≡ req).
+        let none = ap (tree.get (tree.remove so_far.node.requests req)) own
+        ∙ get-remove_same so_far.node.requests req in absurd (cc (none, got)))
+        (λ (other : q ≢ req). from r (sym (get-remove_other so_far.node.requests req q other) ∙ got) says)
+        (cases_eq q req)
+
+    put_from : (requests : Requests) (session req : ℕ) (course : Course)
+        → (q ≡ req → published_in_course course ≡ Some vid → HadOrMade origin)
+        → AreFrom requests → AreFrom (tree.insert requests req (record { session = session; course = course }))
+    put_from requests session req course own from r got says = ⊎_elim
+        (λ (here : (q ≡ req) × (record { session = session; course = course } ≡ r)).
+        own here.0 (ap (λ (r : Request). published_in_course r.course) here.1 ∙ says))
+        (λ (other : (q ≢ req) × (tree.get requests q ≡ Some r)). from r other.1 says)
+        (get-insert_cases requests req (record { session = session; course = course }) q r got)
+
+  from_itself : (so_far : StepState) → From so_far so_far
+  from_itself so_far r got says = inl (record { request = r; there = got; says = says })
+
+  -- one that publishes nothing
+  put_none : (so_far : StepState) (session req : ℕ) (course : Course) → published_in_course course ≡ None
+      → AreFrom so_far (tree.insert so_far.node.requests req (record { session = session; course = course }))
+  put_none so_far session req course none =
+      put_from so_far so_far.node.requests session req course (λ own says. absurd (cc (none, says))) (from_itself so_far)
+
+  steps_from : (so_far : StepState) (session req : ℕ) (next : Outcome) (moved : StepState)
+      → RequestSteps input node so_far session req next moved
+      → From so_far moved
+  steps_from so_far session req next moved (DiskBegins ask disk there on may) =
+      put_none so_far session req (Driving (drivers.begin_driver disk ask).driver) refl
+  steps_from so_far session req next moved (DiskGoesOn number work attempt status bytes driver disk step ends on is) =
+      put_none so_far session req (Driving step.driver) refl
+  steps_from so_far session req next moved (CommandBegins ask step arrival is) =
+      put_none so_far session req (Commanding step.op)
+      (begins_none so_far.node.me session ask (inode_open (session_in session so_far).disk) step is)
+  steps_from so_far session req next moved (CommandGoesOn number work attempt status bytes op step ends is) =
+      put_from so_far so_far.node.requests session req (Commanding step.op)
+      (λ own says. inr (record {
+        session = session;
+        number = number;
+        work = work;
+        attempt = attempt;
+        status = status;
+        bytes = bytes;
+        op = op;
+        ends = subst (λ (k : ℕ). EndsWork input node so_far session k number work attempt status (Commanding op) bytes) (sym own) ends;
+        making = done_making op bytes step vid is says;
+      })) (from_itself so_far)
+  steps_from so_far session req next moved (CommandDecided entry op step from read there waits is) =
+      put_none so_far session req (Commanding step.op)
+      (on_decision-none op (effects_of so_far.node.peer) (inode_open (session_in session so_far).disk) (decision_on entry node.peer) step
+      is)
+  steps_from so_far session req next moved (CheckBegins inode arrival on) = put_none so_far session req
+      (Checking (begin_check inode).check) refl
+  steps_from so_far session req next moved (CheckGoesOn number work attempt status bytes check step ends is) =
+      put_none so_far session req (Checking step.check) refl
+  steps_from so_far session req next moved (ObjectBegins asked arrival) = put_none so_far session req (DoingWork asked) refl
+  steps_from so_far session req next moved (ObjectIsDone number work attempt status bytes asked ends) = from_itself so_far
+  steps_from so_far session req next moved (EntryBegins entry arrival) = put_none so_far session req (AwaitingDecision entry) refl
+  steps_from so_far session req next moved (EntryDecided entry wanted from read there waits) = from_itself so_far
+
+  next_from : (so_far : StepState) (session req : ℕ) (asked : Work) (lined : StepState)
+      → WorkIsNext input node so_far session req asked lined
+      → From so_far lined
+  next_from so_far session req asked lined (AtOnce work moved steps begins) = steps_from so_far session req (ToWork work) moved steps
+  next_from so_far session req asked lined (InTurn work later none is) = from_itself so_far
+  next_from so_far session req asked lined (Again work course from next there request) = from_itself so_far
+  next_from so_far session req asked lined (AgainAlone work from next there none) = from_itself so_far
+
+  pub publication_from : (so_far next : StepState) → Change input node so_far next → From so_far next
+  publication_from so_far next (changes.Marks req number work attempt status learns over) = from_itself so_far
+  publication_from so_far next (changes.Fails session req number work attempt status course ends done why) = from_itself so_far
+  publication_from so_far next (changes.Stops session req number work attempt status course bytes ends over) = from_itself so_far
+  publication_from so_far next (changes.Refuses session req number work attempt status course cause ends done why) =
+      course_refused-keeps (From so_far) (ended_from so_far) (λ entry before now. now) session req cause course
+      (without_ended_work session req work status so_far)
+      (from_itself so_far)
+  publication_from so_far next (changes.Opens session req asked lined comes enough) = next_from so_far session req asked lined comes
+  publication_from so_far next (changes.Holds session req asked lined comes short touched) = next_from so_far session req asked lined comes
+  publication_from so_far next (changes.Denies session req asked lined request comes short untouched there own) =
+      request_refused-keeps (From so_far) (ended_from so_far) (λ entry before now. now) req
+      (Halt (zones_of_members lined.node) (zones_for asked.work)) request
+      (without_denied_work session req asked lined) (next_from so_far session req asked lined comes)
+  publication_from so_far next (changes.Strays req work gateway there none apart) = from_itself so_far
+  publication_from so_far next (changes.Lines session req work moved steps waits) = steps_from so_far session req (ToWork work) moved steps
+  publication_from so_far next (changes.Appends session req entry moved steps) = steps_from so_far session req (ToEntry entry) moved steps
+  publication_from so_far next (changes.Replies session req reply moved steps) =
+      ended_from so_far session req reply moved (steps_from so_far session req (ToReply reply) moved steps)
+  publication_from so_far next (changes.Arrives session req ask disk arrival on) = put_none so_far session req (Waiting ask) refl
+  publication_from so_far next (changes.Rejects session req ask cause arrival) = from_itself so_far
+  publication_from so_far next (changes.Recovers due) = from_itself so_far

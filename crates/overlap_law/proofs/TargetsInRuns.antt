@@ -1,0 +1,309 @@
+-- In each world of a run in range the requests in the wire that ask for a row go to a target of their epoch, under the index of its part.
+use Rattle.std.proofs.Common.{◌≡◌, arith, ℕ, ◌+◌, true, List, [], ◌∷◌, ◌++◌, length, filter, map, All, Some, Ok, refl, sym, ap, subst, ◌∙◌}
+use Rattle.std.specs.List.{enumerate_from}
+use Rattle.std.specs.FinMap as tree
+use Rattle.std.proofs.lemmas.List.Elements.{All-nil, All-cons, All-head, All-tail}
+use Rattle.proof_tools.proofs.FiniteMaps.{get-insert_same}
+use Rattle.object_id.specs.declared.entry.Entry.{Entry}
+use Rattle.object_id.specs.declared.entry.Member.{Member}
+use Rattle.object_id.specs.declared.node.NodeId.{NodeId}
+use Rattle.object_id.specs.declared.policy.Policy.{Policy}
+use Rattle.object_id.specs.Oid.{kind_of}
+use Rattle.object_id.specs.Policy.{wanted_of}
+use Rattle.epoch_log.specs.Appending.{IsReservable}
+use Rattle.epoch_log.specs.Epochs.{begins_epoch, epoch_of, members_in}
+use Rattle.epoch_log.proofs.EpochLemmas.{epoch_of-append}
+use Rattle.hash_ring.specs.Circle.{hash_of_object}
+use Rattle.hash_ring.specs.Placement.{targets_of}
+use Rattle.vnode_table.specs.Epochs.{members_at}
+use Rattle.vnode_table.specs.Targets.{targets_in}
+use Rattle.cluster_script.specs.declared.statement.Statement.{Statement}
+use Rattle.peer_proto.specs.declared.ask.PeerReq.{PeerReq}
+use Rattle.peer_proto.specs.Ask.{ask_bytes, ask_in, IsPeerReq}
+use Rattle.peer_proto.specs.Work.{oid_of, policy_of}
+use Rattle.peer_proto.proofs.AskLemmas.{ask-again}
+use Rattle.vdi_directory.specs.declared.effect.Effect.{Effect}
+use Rattle.vdi_directory.specs.Decisions.{log_effects}
+use Rattle.peer_service.specs.State.{Peer}
+use Rattle.gateway.specs.Work.{targets_asked}
+use Rattle.gateway.specs.Attempt.{message_for, send_of}
+use Rattle.gateway.specs.State.{Work}
+use Rattle.recovery.specs.State.{Message}
+use Rattle.recovery.specs.Tick.{tick_messages, tick_sends}
+use Rattle.sheep_node.specs.declared.event.Event.{Event}
+use Rattle.sheep_node.specs.declared.input.Input.{Input}
+use Rattle.sheep_node.specs.State.{Node}
+use Rattle.sheep_node.specs.RecoveryView.{recovery_state_of}
+use Rattle.sheep_node.specs.StepState.{StepState, at_first}
+use Rattle.sheep_node.specs.StepFacts.{read_after, epochs_of, IsByTheLog}
+use Rattle.sheep_node.specs.Step.{on_recover_tick, node_step}
+use Rattle.sheep_node.specs.Changes.{input_received, with_open_attempt, WorkIsNext, Leads}
+use Rattle.sheep_node.proofs.StepEffects.{Untouched, untouched_in}
+use Rattle.sheep_node.proofs.StepResults.{step_peer, step_epochs, step_reads}
+use Rattle.message_wire.specs.declared.packet.Packet.{Packet}
+use Rattle.message_wire.specs.declared.packet.Packet.TheVariants.{Request, Reply}
+use Rattle.message_wire.specs.Message.{name_cmp}
+use Rattle.sheep_world.specs.World.{Host, World, is_host_up}
+use Rattle.sheep_world.specs.LogFronts.{IsFront}
+use Rattle.sheep_world.specs.Opening.{initial_world}
+use Rattle.sheep_world.specs.Step.{EventOutcome, step}
+use Rattle.sheep_world.specs.NodeCauses.{NodeCause, GuestAsks, RequestComes, ReplyComes, LossIsTold, EntryIsRead, EntryIsPut, RecoveryTicks, WorkIsRetried, input_of_cause, IsCause, world_after_cause}
+use Rattle.sheep_world.specs.EventKinds.{log_after_return, EventKind, NodeStep, UntoldLoss, UnreadDelivery, NodeLoss, NodeLeave, NodeReweight, NodeJoin, NodeReturn, PhaseEnd}
+use Rattle.sheep_world.specs.HostChanges.{host_after_step}
+use Rattle.sheep_world.specs.Began.{Began, IsInvariant}
+use Rattle.sheep_world.proofs.BegunWorlds.{goes_on, by_induction}
+use Rattle.sheep_world.proofs.EventInversion.{happens}
+use Rattle.sheep_world.proofs.LogAtOpening.{log-holds}
+use Rattle.sheep_world.proofs.LogFrontLaws.{log_grows, all_read}
+use Rattle.sheep_world.proofs.NodesByTheLog.{by_the_log}
+use Rattle.sheep_world.proofs.RecoveryMessages.{same_asked}
+use Rattle.sheep_world.proofs.ReturningNodes.{stepped_renewed}
+use Rattle.sheep_world.proofs.StepsByCause.{served_silent}
+use Rattle.overlap_law.specs.AskedTargets.{AsksTarget, AsksGoToTargets}
+use Rattle.overlap_law.specs.Each.{policy_in}
+use Rattle.overlap_law.specs.Holders.{targets_by}
+use Rattle.overlap_law.specs.MomentChanges.{RunsAreInRange}
+use Rattle.overlap_law.specs.Past.{MomentWithPast, run_with_past}
+use Rattle.overlap_law.proofs.CausedWorks.{IsNotServed, no_object}
+use Rattle.overlap_law.proofs.CreatesOnTheWire.{AllSo, SendsSo, any_reply, wire_so}
+use Rattle.overlap_law.proofs.EpochsInRuns.{members_read}
+use Rattle.overlap_law.proofs.KnownAsks.{IsKnownMessage, sent_known}
+use Rattle.overlap_law.proofs.KnownDiskSteps.{effects_after, work_known}
+use Rattle.overlap_law.proofs.KnownDisksInRuns.{caused_known, read_reservable, nodes_know}
+use Rattle.overlap_law.proofs.LackedAtEntries.{policy_stays}
+use Rattle.overlap_law.proofs.NoRecoveredDue.{began-with_past}
+use Rattle.overlap_law.proofs.PlacedRows.{some_by_policy}
+use Rattle.overlap_law.proofs.PlacesTaken.{places_taken}
+use Rattle.overlap_law.proofs.SendsOfChanges.{received_nothing, put_sends, in_order_so_far}
+use Rattle.overlap_law.proofs.SendsOfWorks.{sends_for, steps_send}
+use Rattle.overlap_law.proofs.SentToTargets.{SendGoesTo, targets_stay_asked, asks_no_row, policy_of_work, attempt_goes}
+use Rattle.overlap_law.proofs.ShapedAttempts.{entered_newest}
+use Rattle.overlap_law.proofs.WholeInRuns.{sound_world, sound_here, named, may_change, nodes_whole}
+use Rattle.overlap_law.proofs.WholeSteps.{turn_whole}
+
+-- a packet that asks for a row goes to a target
+abbrev TargetsSo : List Entry → Packet → Type 0
+TargetsSo log (Request to bytes) = (request : PeerReq) → ask_in bytes ≡ Ok request → AsksTarget log to request.epoch.0 request.ask
+TargetsSo log (Reply from bytes) = Unit {0}
+
+sent_in_wire : (log : List Entry) (sends : List (NodeId × PeerReq)) → All (λ (send : NodeId × PeerReq). IsPeerReq send.1) sends
+    → All (SendGoesTo log) sends → All (λ (send : NodeId × PeerReq). TargetsSo log (Request send.0 (ask_bytes send.1))) sends
+sent_in_wire log [] spelled so = All-nil _
+sent_in_wire log (send ∷ sends) spelled so =
+    let Is : NodeId × PeerReq → Type 0 = λ (send : NodeId × PeerReq). IsPeerReq send.1 in
+    All-cons (λ (send : NodeId × PeerReq). TargetsSo log (Request send.0 (ask_bytes send.1))) send sends
+    (λ request read.
+    let same : send.1 ≡ request = same_asked send.1 request (sym (ask-again send.1 (All-head Is send sends spelled)) ∙ read) in
+    subst (λ (r : PeerReq). AsksTarget log send.0 r.epoch.0 r.ask) same (All-head (SendGoesTo log) send sends so))
+    (sent_in_wire log sends (All-tail Is send sends spelled) (All-tail (SendGoesTo log) send sends so))
+
+-- a recovery asks for none so
+messages_so : (log : List Entry) (known : List Effect) (messages : List Message) → All (IsKnownMessage known) messages
+    → All (SendGoesTo log) (map (λ (message : Message). (message.to, message.request)) messages)
+messages_so log known [] all = All-nil (SendGoesTo log)
+messages_so log known (message ∷ messages) all =
+    All-cons (SendGoesTo log) (message.to, message.request) (map (λ (message : Message). (message.to, message.request)) messages)
+    (asks_no_row log known message.to message.request.epoch.0 message.request.ask message.wanted
+    (All-head (IsKnownMessage known) message messages all))
+    (messages_so log known messages (All-tail (IsKnownMessage known) message messages all))
+
+tick_so : (log : List Entry) (node : Node) → All (SendGoesTo log) (on_recover_tick (at_first node)).outputs.sends
+unfolding on_recover_tick tick_sends
+tick_so log node =
+    messages_so log (log_effects node.peer.entries) (tick_messages node.sends (recovery_state_of node))
+    (sent_known (log_effects node.peer.entries) node.sends (recovery_state_of node) (λ oid. refl))
+
+module _ (script : List Statement) (range : RunsAreInRange script) where
+  module _ (world : World) (began : Began script world) where
+    -- what a step sends
+    module _ (n : ℕ) (host : Host) (there : tree.get world.hosts n ≡ Some host) (up : is_host_up host ≡ true) (cause : NodeCause)
+        (caused : IsCause script world n host cause) (next : Began script (world_after_cause script n host cause world)) where
+      abbrev input : Input
+      input = input_of_cause cause
+
+      abbrev entries : List Entry
+      entries = read_after input host.node.peer.entries
+
+      abbrev log_then : List Entry
+      log_then = (world_after_cause script n host cause world).log
+
+      abbrev last : Node
+      last = (node_step input host.node).node
+
+      reservable : All IsReservable entries
+      reservable = read_reservable script range world n host cause next
+
+      front : IsFront last.peer.entries log_then
+      front = all_read script (world_after_cause script n host cause world) next n (host_after_step cause host)
+          (get-insert_same world.hosts n (host_after_step cause host))
+
+      log_so : log_then ≡ entries ++ front.rest
+      log_so = front.is ∙ ap (λ (read : List Entry). read ++ front.rest) (step_reads input host.node)
+
+      follows : IsByTheLog last
+      follows =
+          by_the_log script range.is_script range.room (world_after_cause script n host cause world) next n (host_after_step cause host)
+          (get-insert_same world.hosts n (host_after_step cause host))
+
+      module _ (so_far : StepState) (leads : Leads input host.node (input_received input (at_first host.node)) so_far) (session req : ℕ)
+          (asked : Work) (lined : StepState) (comes : WorkIsNext input host.node so_far session req asked lined)
+          (onward : Leads input host.node (input_received input (at_first host.node)) (with_open_attempt req asked lined)) where
+        -- the node where an attempt opens knows what it knows at the end
+        is_same : untouched_in (with_open_attempt req asked lined) ≡ untouched_in (input_received input (at_first host.node))
+        is_same = (in_order_so_far (with_open_attempt req asked lined) onward).same
+
+        peer_so : lined.node.peer ≡ last.peer
+        peer_so = ap (λ (u : Untouched). u.peer) is_same ∙ sym (step_peer input host.node)
+
+        epoch_so : lined.node.peer.epoch ≡ epoch_of entries
+        epoch_so = ap (λ (p : Peer). p.epoch) peer_so ∙ follows.epoch_so ∙ ap epoch_of (step_reads input host.node)
+
+        epochs_so : lined.node.epochs ≡ epochs_of entries
+        epochs_so =
+            ap (λ (u : Untouched). u.epochs) is_same ∙ sym (step_epochs input host.node) ∙ follows.epochs_so
+            ∙ ap epochs_of (step_reads input host.node)
+
+        targets_so : (oid : ℕ) (policy : Policy) → policy_in (log_effects entries) oid ≡ Some policy
+            → targets_in lined.node.epochs lined.node.peer.epoch oid policy
+            ≡ targets_by (entries ++ front.rest) lined.node.peer.epoch oid policy
+        unfolding targets_in targets_by
+        targets_so oid policy known =
+            ap (λ (members : List Member). targets_of members (hash_of_object oid) (wanted_of policy (kind_of oid)))
+            ((λ i. members_at (epochs_so i) (epoch_so i))
+            ∙ members_read entries front.rest (epoch_of entries) (entered_newest entries (some_by_policy entries oid policy known))
+            ∙ ap (members_in (entries ++ front.rest)) (sym epoch_so))
+
+        -- so what it sends goes to targets
+        opens : IsNotServed cause → All (SendGoesTo log_then) (sends_for asked lined.node)
+        opens not =
+            let known : policy_in (log_effects entries) (oid_of asked.work) ≡ Some (policy_of asked.work)
+            = policy_of_work (log_effects entries) asked.work
+            (turn_whole input host.node (may_change script range world began n host there up cause not caused)
+            (named script range world began n host there up cause caused) (sound_here script range world began n host there up)
+            (caused_known script range.is_script (effects_after input host.node) world n host cause caused)
+            (no_object script world n host cause caused) (nodes_know script range world began n host there)
+            (places_taken script range world began n host there up cause caused)
+            (nodes_whole script range world began n host there) so_far leads session req asked lined comes)
+            (work_known input host.node reservable
+            (caused_known script range.is_script (effects_after input host.node) world n host cause caused)
+            (nodes_know script range world began n host there) so_far leads session req asked lined comes) in
+            let made : policy_in (log_effects log_then) (oid_of asked.work) ≡ Some (policy_of asked.work)
+            = ap (λ (log : List Entry). policy_in (log_effects log) (oid_of asked.work)) log_so
+            ∙ policy_stays entries front.rest (oid_of asked.work) (policy_of asked.work) known in
+            let grows : epoch_of (entries ++ front.rest) ≡ epoch_of entries + length (filter begins_epoch front.rest)
+            = epoch_of-append entries front.rest in
+            let last_epoch : epoch_of log_then ≡ epoch_of (entries ++ front.rest) = ap epoch_of log_so in
+            let now = epoch_so in
+            let targets : targets_in lined.node.epochs lined.node.peer.epoch (oid_of asked.work) (policy_of asked.work)
+            ≡ targets_by log_then lined.node.peer.epoch (oid_of asked.work) (policy_of asked.work)
+            = targets_so (oid_of asked.work) (policy_of asked.work) known
+            ∙ ap (λ (log : List Entry). targets_by log lined.node.peer.epoch (oid_of asked.work) (policy_of asked.work)) (sym log_so) in
+            subst (λ (targets : List NodeId). All (SendGoesTo log_then)
+            (map (send_of lined.node.gateway.me (record { 0 = lined.node.peer.epoch }) asked.work)
+            (map (message_for asked.work) (enumerate_from lined.node.sends (targets_asked asked.work asked.ended targets))))) (sym targets)
+            (attempt_goes log_then (log-holds script range.is_script range.room (world_after_cause script n host cause world) next).log
+            lined.node.gateway.me (record { 0 = lined.node.peer.epoch }) asked.work (omega (arith, now, grows, last_epoch)) made
+            lined.node.sends asked.ended)
+
+      by_works : IsNotServed cause → All (SendGoesTo log_then) (input_received input (at_first host.node)).outputs.sends
+          → All (SendGoesTo log_then) (node_step input host.node).outputs.sends
+      by_works not received =
+          steps_send (SendGoesTo log_then) input host.node
+          (λ so_far leads session req asked lined comes enough onward. opens so_far leads session req asked lined comes onward not) received
+
+      none_so : (sends : List (NodeId × PeerReq)) → sends ≡ [] → All (SendGoesTo log_then) sends
+      none_so sends none = subst (All (SendGoesTo log_then)) (sym none) (All-nil (SendGoesTo log_then))
+
+    step_so : (n : ℕ) (host : Host) (there : tree.get world.hosts n ≡ Some host) (up : is_host_up host ≡ true) (cause : NodeCause)
+        (caused : IsCause script world n host cause) (next : Began script (world_after_cause script n host cause world))
+        → All (SendGoesTo (world_after_cause script n host cause world).log) (node_step (input_of_cause cause) host.node).outputs.sends
+    step_so n host there up (GuestAsks session req ask) caused next =
+        by_works n host there up (GuestAsks session req ask) caused next tt
+        (none_so n host there up (GuestAsks session req ask) caused next _ (received_nothing (GuestAsks session req ask) host.node tt).1)
+    step_so n host there up (RequestComes name to request) caused next =
+        none_so n host there up (RequestComes name to request) caused next _ (served_silent request host.node)
+    step_so n host there up (ReplyComes name from rsp) caused next =
+        by_works n host there up (ReplyComes name from rsp) caused next tt
+        (none_so n host there up (ReplyComes name from rsp) caused next _ (received_nothing (ReplyComes name from rsp) host.node tt).1)
+    step_so n host there up (LossIsTold name packet) caused next =
+        by_works n host there up (LossIsTold name packet) caused next tt
+        (none_so n host there up (LossIsTold name packet) caused next _ (received_nothing (LossIsTold name packet) host.node tt).1)
+    step_so n host there up (EntryIsRead entry) caused next =
+        by_works n host there up (EntryIsRead entry) caused next tt
+        (none_so n host there up (EntryIsRead entry) caused next _ (received_nothing (EntryIsRead entry) host.node tt).1)
+    step_so n host there up (EntryIsPut entry) caused next =
+        none_so n host there up (EntryIsPut entry) caused next _ (put_sends host.node)
+    step_so n host there up RecoveryTicks caused next =
+        by_works n host there up RecoveryTicks caused next tt
+        (tick_so (world_after_cause script n host RecoveryTicks world).log host.node)
+    step_so n host there up WorkIsRetried caused next =
+        by_works n host there up WorkIsRetried caused next tt
+        (none_so n host there up WorkIsRetried caused next _ (received_nothing WorkIsRetried host.node tt).1)
+
+    -- ---- one event
+
+    module _ (before : AsksGoToTargets world) (event : Event) (made : EventOutcome) (happened : step script event world ≡ Some made) where
+      abbrev new : List Entry
+      new = made.world.log
+
+      old_so : AllSo (TargetsSo new) world.wire
+      old_so name (Reply from bytes) got = tt
+      old_so name (Request to bytes) got = λ request read.
+          let front = log_grows script event world made (happens script event world made happened) in
+          subst (λ (log : List Entry). AsksTarget log to request.epoch.0 request.ask) (sym front.is)
+          (targets_stay_asked world.log front.rest to request.epoch.0 request.ask (before.each name to bytes request got read))
+
+      sends_after : (kind : EventKind script event world made) → SendsSo (TargetsSo new) script event world made kind
+      sends_after (NodeStep h) =
+          let begun : Began script made.world = goes_on script event world made began happened in
+          let next : Began script (world_after_cause script h.n h.host h.cause world)
+          = subst (λ (m : EventOutcome). Began script m.world) (sym h.made_so) begun in
+          let sends : List (NodeId × PeerReq) = (node_step (input_of_cause h.cause) h.host.node).outputs.sends in
+          subst (λ (m : EventOutcome). All (λ (send : NodeId × PeerReq). TargetsSo m.world.log (Request send.0 (ask_bytes send.1))) sends)
+          h.made_so
+          (sent_in_wire (world_after_cause script h.n h.host h.cause world).log sends
+          (subst (λ (m : EventOutcome). All (λ (send : NodeId × PeerReq). IsPeerReq send.1) m.world.outputs.sends) (sym h.made_so)
+          (sound_world script range made.world begun).sent)
+          (step_so h.n h.host h.there h.up h.cause h.caused next))
+      sends_after (UntoldLoss h) = tt
+      sends_after (UnreadDelivery h) = tt
+      sends_after (NodeLoss h) = tt
+      sends_after (NodeLeave h) = tt
+      sends_after (NodeReweight h) = tt
+      sends_after (NodeJoin h) = tt
+      sends_after (NodeReturn h) =
+          subst (All (λ (send : NodeId × PeerReq). TargetsSo new (Request send.0 (ask_bytes send.1))))
+          (sym (stepped_renewed (log_after_return script h.n world) h.host.node).silent) (All-nil _)
+      sends_after (PhaseEnd h) = tt
+
+      goes_after : AsksGoToTargets made.world
+      goes_after = record {
+        each = λ name to bytes request got read.
+            let kind = happens script event world made happened in
+            wire_so (TargetsSo new) script event world made old_so kind (sends_after kind)
+            (any_reply (TargetsSo new) (λ from rsp. tt) script event world made kind) name (Request to bytes) got request read;
+      }
+
+  -- ---- every world
+
+  opens_so : AsksGoToTargets (initial_world script)
+  unfolding initial_world
+  opens_so = record {
+    each = λ name to bytes request got read.
+        let there : tree.get (tree.empty {X = Packet} {R = name_cmp}) name ≡ Some (Request to bytes) = got in
+        let none = tree.get-empty {X = Packet} name_cmp name in
+        absurd (cc (there, none));
+  }
+
+  stays_so : IsInvariant script AsksGoToTargets
+  stays_so = record {
+    opens = opens_so;
+    keeps = λ event world made began happened before. goes_after world began before event made happened;
+  }
+
+  pub asks_go_to_targets : (world : World) → Began script world → AsksGoToTargets world
+  asks_go_to_targets world began = by_induction script AsksGoToTargets stays_so world began
+
+  pub targets-in_run : (events : List Event) (moment : MomentWithPast) → run_with_past script events ≡ Some moment
+      → AsksGoToTargets moment.world
+  targets-in_run events moment is = asks_go_to_targets moment.world (began-with_past script events moment is)

@@ -1,0 +1,5 @@
+use Rattle.overlap_law.proofs.FactsOfRuns.{stand-in_run}
+use Rattle.overlap_law.proofs.facts.attempts_stand.Goals as goal
+
+pub returns : goal.returns
+returns c = λ script range first events moment is. stand-in_run script range events moment is first

@@ -1,0 +1,5 @@
+use Rattle.overlap_law.proofs.FactsOfRuns.{contents-in_run}
+use Rattle.overlap_law.proofs.facts.rows_have_their_bases.Goals as goal
+
+pub returns : goal.returns
+returns c = λ script range first events moment is. contents-in_run script range events moment is first

@@ -1,6 +1,0 @@
-use Rattle.overlap_law.proofs.ItemsInRuns.{refused_none-in_run}
-use Rattle.overlap_law.proofs.laws.refused_writes_have_no_items.Goals as goal
-
-pub returns : goal.returns
-returns c = λ script events moment range is req disk block no_check refused.
-    refused_none-in_run script range req no_check events moment is refused disk block

@@ -1,0 +1,104 @@
+//! Laws of the group of the history: that what a block may come to be read as may be read of it.
+ghost use Rattle.std.specs.Prelude.{◌≡◌, ◌++◌, ℕ, Bool, true, List, Some};
+ghost use Rattle.object_id.specs.declared.entry.Entry.{Entry};
+ghost use Rattle.disk_history.specs.declared.event.HistEvent.{HistEvent};
+ghost use Rattle.vdi_directory.specs.declared.effect.Effect.{Effect};
+ghost use Rattle.vdi_directory.specs.Decisions.{log_effects};
+ghost use Rattle.cluster_script.specs.declared.statement.Statement.{Statement};
+ghost use Rattle.sheep_node.specs.declared.event.Event.{Event};
+ghost use Rattle.sheep_world.specs.Began.{Began};
+ghost use Rattle.sheep_world.specs.NodeCauses.{NodeCause};
+ghost use Rattle.sheep_world.specs.World.{World};
+ghost use Rattle.overlap_law.specs.Attempts.{AttemptRecord};
+ghost use Rattle.overlap_law.specs.Headline.{ledger_of};
+ghost use Rattle.overlap_law.specs.Holders.{is_object_among};
+ghost use Rattle.overlap_law.specs.HistoryGrowth.{HistoryGrows, added_at_cause, added_in};
+ghost use Rattle.overlap_law.specs.MomentChanges.{MomentChange, MomentTrail, RunsAreInRange};
+ghost use Rattle.overlap_law.specs.Past.{MomentWithPast, run_with_past};
+ghost use Rattle.overlap_law.specs.StayingBlocks.{ItemsAreOpen, BlocksStayWritten, WorksMayStay, EntersWhatMayCome, GrowsKeeping};
+ghost use Rattle.overlap_law.specs.StayingBlocks.{DisksAreLive};
+ghost use Rattle.overlap_law.specs.StayingBlocks.{AllKeepBlocks};
+ghost use Rattle.overlap_law.specs.StayingBlocks.{InodesAreLive, ComesToNothing};
+ghost use Rattle.overlap_law.specs.Tables.{EntriesAreMade, PublishedInodesAreMade};
+ghost use Rattle.overlap_law.specs.Words.{Hosts};
+ghost use Rattle.overlap_law.specs.WrittenBlocks.{BlocksAreWritten};
+
+/// As long as a request hasn't ended by a history, each item of it is open, in each block of each disk, also where it was copied to.
+pub fn items_are_open_until_their_request_ends()
+    ensures { (history : List HistEvent) → ItemsAreOpen (ledger_of history) }
+{}
+
+/// Of each run in range, each change of a moment adds to the history what one of five kinds says: nothing; the writes that a guest's
+/// request begins, or a check; what one reply ends or reads; what the log's new entry makes, copies or deletes; the writers that a lost
+/// node leaves. The log gets an entry in the fourth kind alone.
+pub fn each_change_adds_to_the_history()
+    ensures { (script : List Statement) (start before after : MomentWithPast) → RunsAreInRange script → Began script start.world
+        → MomentChange script start before after
+        → HistoryGrows script start.world after.world.log before.past.history after.past.history }
+{}
+
+/// In each run in range, at each moment on the way of an event: the disks that the history has, and that aren't deleted, are there by the
+/// log.
+pub fn disks_are_there_by_the_log()
+    ensures { (script : List Statement) (events : List Event) (start moment : MomentWithPast) → RunsAreInRange script
+        → run_with_past script events ≡ Some start → MomentTrail script start moment
+        → DisksAreLive (ledger_of moment.past.history) (log_effects moment.world.log) }
+{}
+
+/// In each run in range, at each moment on the way of an event: the attempts of a request that was refused come to nothing, since no
+/// message of them was served, and none flies. So a refusal takes no item by which a block may be read.
+pub fn attempts_of_the_refused_come_to_nothing()
+    ensures { (script : List Statement) (events : List Event) (start moment : MomentWithPast) → RunsAreInRange script
+        → run_with_past script events ≡ Some start → MomentTrail script start moment → (req : ℕ)
+        → is_object_among req moment.past.refused ≡ true → ComesToNothing moment.world.hosts moment.past.attempts req }
+{}
+
+/// Of each run in range, each change of a moment on the way of an event keeps it that what a block may come to be read as may be read of
+/// it, whichever requests are refused, if the history grows in it only by events that keep it so: a write begins, a block is read, a disk
+/// is deleted; a writer is lost, or refused of which nothing may come any more, and had not ended; a write is done where its blocks may
+/// come to be read as its own bytes alone; a disk is made of which nothing may come yet, or is made like another one. It does so if in
+/// the moment after it the open works make what may be read, and the entries that attempts give to inodes stand for what is made; and if
+/// an attempt that begins enters what the inode might come to have.
+pub fn blocks_stay_written()
+    ensures { (script : List Statement) (events : List Event) (start before after : MomentWithPast) → RunsAreInRange script
+        → run_with_past script events ≡ Some start → MomentTrail script start before → MomentChange script start before after
+        → (live good_id : ℕ → Bool)
+        → GrowsKeeping (log_effects after.world.log) good_id after.world.hosts after.past.attempts before.past.history after.past.history
+        → InodesAreLive (log_effects after.world.log) live good_id → EntersWhatMayCome good_id before after
+        → EntriesAreMade (log_effects after.world.log) live good_id after.past.attempts
+        → WorksMayStay (ledger_of after.past.history) (log_effects after.world.log) good_id after.world.hosts after.past.attempts
+        → BlocksStayWritten (ledger_of before.past.history) (log_effects before.world.log) good_id before.world.hosts before.past.attempts
+        → BlocksStayWritten (ledger_of after.past.history) (log_effects after.world.log) good_id after.world.hosts after.past.attempts }
+{}
+
+/// A history that stays as it is keeps what blocks may be read as, and so does one that gets what the beginning of a step adds, whatever
+/// else holds: it begins writes, and reads blocks.
+pub fn writes_that_begin_keep_blocks()
+    ensures still { (effects : List Effect) (good_id : ℕ → Bool) (hosts : Hosts) (attempts : List AttemptRecord) (history : List HistEvent)
+        → GrowsKeeping effects good_id hosts attempts history history }
+    ensures begin { (script : List Statement) (world : World) (cause : NodeCause) (effects : List Effect) (good_id : ℕ → Bool)
+        (hosts : Hosts) (attempts : List AttemptRecord) (history : List HistEvent)
+        → GrowsKeeping effects good_id hosts attempts history (history ++ added_at_cause script world cause) }
+{}
+
+/// A history that grows in a change of a moment keeps what blocks may be read as, if what is added does.
+pub fn what_is_added_keeps_blocks()
+    ensures { (script : List Statement) (world : World) (log : List Entry) (history later : List HistEvent)
+        → (grows : HistoryGrows script world log history later) → (effects : List Effect) (good_id : ℕ → Bool) (hosts : Hosts)
+        (attempts : List AttemptRecord) → AllKeepBlocks effects good_id hosts attempts (ledger_of history) (added_in grows)
+        → GrowsKeeping effects good_id hosts attempts history later }
+{}
+
+/// In each run in range, at each moment on the way of an event: where what a block may come to be read as may be read of it, whichever
+/// requests are refused, the blocks are written as the group of the history says: what a block may be read as is among what it may come
+/// to be read as. It is so if the inodes of published ids were created, and the entries that attempts give to inodes stand for what is
+/// made.
+pub fn what_stays_written_is_written()
+    ensures { (script : List Statement) (events : List Event) (start moment : MomentWithPast) → RunsAreInRange script
+        → run_with_past script events ≡ Some start → MomentTrail script start moment → (live good_id : ℕ → Bool)
+        → InodesAreLive (log_effects moment.world.log) live good_id
+        → PublishedInodesAreMade moment.world.log good_id moment.past.attempts
+        → EntriesAreMade (log_effects moment.world.log) live good_id moment.past.attempts
+        → BlocksStayWritten (ledger_of moment.past.history) (log_effects moment.world.log) good_id moment.world.hosts moment.past.attempts
+        → BlocksAreWritten (ledger_of moment.past.history) (log_effects moment.world.log) good_id moment.world.hosts moment.past.attempts }
+{}
