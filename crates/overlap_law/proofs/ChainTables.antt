@@ -9,6 +9,7 @@ use Rattle.std.proofs.lemmas.List.Elements.{All-nil, All-cons, All-head, All-tai
 use Rattle.object_id.specs.declared.entry.Entry.{Entry}
 use Rattle.object_id.specs.declared.entry.VdiSpec.{VdiSpec}
 use Rattle.object_id.specs.declared.oid.Vid.{Vid}
+use Rattle.object_id.specs.Oid.{IsVid}
 use Rattle.object_id.specs.Spec.{objects_of}
 use Rattle.epoch_log.specs.Appending.{IsReservable}
 use Rattle.inode.specs.Layout.{Content}
@@ -37,6 +38,10 @@ IsInChain known vid id = (id ≡ vid) ⊎ (is_above known id vid ≡ true)
 pub record HasChainTable (known : List Effect) (inode : Content) : Type 0 where
   pub entries : All (IsOfChain known inode.vid) inode.table
   pub whole : length inode.table ≡ objects_of inode.spec
+
+-- an id is another disk's
+abbrev pub IsOtherId : ℕ → ℕ → Type 0
+IsOtherId vid id = IsVid id × (id ≢ vid)
 
 -- it doesn't name the disk itself
 abbrev pub HasNoOwn : Content → Type 0
@@ -142,6 +147,18 @@ module _ (known : List Effect) where
         by_header (Some header) there made =
             let same : header.spec ≡ spec = cc (made) in
             subst (IsKnownDisk known id) same (header_known vid header there id above)
+
+    -- none of those above a disk is the disk itself
+    pub chain_other : (vid : ℕ) (header : Header) → header_of known vid ≡ Some header → All (IsOtherId vid) (chain_of known vid)
+    unfolding is_above
+    chain_other vid header there =
+        All-weaker (λ (id : ℕ). list_any (λ other. other == id) (chain_of known vid) ≡ true) (IsOtherId vid) (λ id is. (
+          (header_known vid header there id is).id,
+          λ same.
+              let less = chains.older id vid is in
+              let equal = ap (grant_place known) same in
+              absurd (omega (arith, less, equal)),
+        )) (chain_of known vid) (each_among (chain_of known vid))
 
     -- what its entries name
     pub names_known : (inode : Content) → IsKnownInode known inode → HasChainTable known inode → HasKnownTable known inode

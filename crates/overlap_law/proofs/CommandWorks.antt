@@ -22,7 +22,7 @@ use Rattle.vdi_ops.specs.declared.act.OpAct.{OpAct}
 use Rattle.vdi_ops.specs.declared.act.OpAct.TheVariants as op_acts
 use Rattle.vdi_ops.specs.InodeWorks.{create_inode, write_back}
 use Rattle.vdi_ops.specs.Op.{Opening, Working, Op, OpStep}
-use Rattle.vdi_ops.specs.Tables.{table_in, inode_by}
+use Rattle.vdi_ops.specs.Tables.{holes, table_in, inode_by}
 use Rattle.vdi_ops.specs.Steps.{op_on_done}
 use Rattle.vdi_ops.proofs.WorkLemmas.{field_text}
 use Rattle.disk_check.specs.Check.{begin_check}
@@ -57,12 +57,12 @@ use Rattle.overlap_law.proofs.FrozenSnapshots.{working_lives}
 use Rattle.overlap_law.proofs.KnownDisks.{IsKnownInode, known_validity}
 use Rattle.overlap_law.proofs.KnownDiskSteps.{IsKnownSoFar, effects_after}
 use Rattle.overlap_law.proofs.OpeningReads.{knows_well}
-use Rattle.overlap_law.proofs.OtherWorks.{HasNone, tag_none, read_none, begins_with_entry, IsOfDecision, ReadsIt, CreatesIt, TagsIt}
+use Rattle.overlap_law.proofs.OtherWorks.{IsOfTask, HasNone, tag_none, read_none, begins_with_entry, IsOfDecision, ReadsIt, CreatesIt, TagsIt}
 use Rattle.overlap_law.proofs.OtherWorks.{decided_work}
 use Rattle.overlap_law.proofs.OtherWorks.{done_work, check_begins_none, check_goes_none}
 use Rattle.overlap_law.proofs.WrittenBack.{written_back_names}
 
-command_act : (act : OpAct) (work : ObjWork) → outcome_of_command act ≡ ToWork work → act ≡ op_acts.Work work
+pub command_act : (act : OpAct) (work : ObjWork) → outcome_of_command act ≡ ToWork work → act ≡ op_acts.Work work
 command_act (op_acts.Append entry) work is = absurd (cc (is))
 command_act (op_acts.Work one) work is = ap (λ (outcome : Outcome). op_acts.Work (work_of outcome)) is
   where
@@ -72,7 +72,7 @@ command_act (op_acts.Work one) work is = ap (λ (outcome : Outcome). op_acts.Wor
     work_of (ToReply reply) = one
 command_act (op_acts.Reply reply) work is = absurd (cc (is))
 
-check_act : (act : CheckAct) (work : ObjWork) → outcome_of_check act ≡ ToWork work → act ≡ check_acts.Work work
+pub check_act : (act : CheckAct) (work : ObjWork) → outcome_of_check act ≡ ToWork work → act ≡ check_acts.Work work
 check_act (check_acts.Work one) work is = ap (λ (outcome : Outcome). check_acts.Work (work_of outcome)) is
   where
     work_of : Outcome → ObjWork
@@ -137,19 +137,24 @@ module _ (script : List Statement) (range : RunsAreInRange script) (events : Lis
       working_lives (log_effects here.world.log) vid.0 (held-works here.world.log vid.0 _ kept.0.held)
 
   module _ (session req : ℕ) (work : ObjWork) where
+    -- no read or write goes on
+    abbrev Apart : StepState → Type 0
+    Apart moved = (driver : Driver) → tree.get moved.node.requests req ≢ Some (record { session = session; course = Driving driver })
+
     created : (inode : Content) (next : Outcome) (moved : StepState) → RequestSteps input node so_far session req next moved
-        → next ≡ ToWork work → work ≡ create_inode inode → Names work
-    created inode next moved steps to same =
+        → next ≡ ToWork work → Apart moved → work ≡ create_inode inode → Names work
+    created inode next moved steps to apart same =
         subst Names (sym same)
         (inodes on so_far is by leads refl session req inode moved
-        (subst (λ (o : Outcome). RequestSteps input node so_far session req o moved) (to ∙ ap ToWork same) steps))
+        (subst (λ (o : Outcome). RequestSteps input node so_far session req o moved) (to ∙ ap ToWork same) steps) apart)
 
     decided : (op : Op) → tree.get so_far.node.requests req ≡ Some (record { session = session; course = Commanding op })
-        → (next : Outcome) (moved : StepState) → RequestSteps input node so_far session req next moved → next ≡ ToWork work
-        → IsOfDecision (inode_open (session_in session so_far).disk) op work → Names work
-    decided op there next moved steps to (ReadsIt vid spec same) = subst Names (sym same) (no_entry _ (read_none vid spec))
-    decided op there next moved steps to (CreatesIt inode same) = created inode next moved steps to same
-    decided op there next moved steps to (TagsIt inode from number name tag opened at same) =
+        → (next : Outcome) (moved : StepState) → RequestSteps input node so_far session req next moved → next ≡ ToWork work → Apart moved
+        → IsOfDecision (effects_of so_far.node.peer) (inode_open (session_in session so_far).disk) op work → Names work
+    decided op there next moved steps to apart (ReadsIt vid spec same) = subst Names (sym same) (no_entry _ (read_none vid spec))
+    decided op there next moved steps to apart (CreatesIt vid header at same) =
+        created (inode_by header vid.0 (holes header.spec)) next moved steps to apart same
+    decided op there next moved steps to apart (TagsIt inode from number name tag opened at same) =
         let known_inode : IsKnownInode known inode
         = subst (λ (o : Option Content). IfSome o (IsKnownInode known)) opened
         (inode_valid (known_validity known) AnySent session so_far on_known) in
@@ -161,9 +166,10 @@ module _ (script : List Statement) (range : RunsAreInRange script) (events : Lis
     goes_on : (number : ℕ) (done : Work) (attempt : gateways.Attempt) (status : Status) (bytes : List ℕ) (op : Op) (step : OpStep)
         → EndsWork input node so_far session req number done attempt status (Commanding op) bytes → op_on_done bytes op ≡ Some step
         → step.act ≡ op_acts.Work work
-        → (next : Outcome) (moved : StepState) → RequestSteps input node so_far session req next moved → next ≡ ToWork work → Names work
-    goes_on number done attempt status bytes op step ends goes act next moved steps to = ⊎_elim
-        (λ (creates : (inode : Content) × (work ≡ create_inode inode)). created creates.0 next moved steps to creates.1)
+        → (next : Outcome) (moved : StepState) → RequestSteps input node so_far session req next moved → next ≡ ToWork work → Apart moved
+        → Names work
+    goes_on number done attempt status bytes op step ends goes act next moved steps to apart = ⊎_elim
+        (λ (creates : (inode : Content) × (work ≡ create_inode inode) × IsOfTask op bytes inode). created creates.0 next moved steps to apart creates.1)
         (λ (writes : (vid : Vid) × (ids : List ℕ) × (header : Header) × (op.stage ≡ Working vid (Opening false ids header))
         × (work ≡ write_back (inode_by header vid.0 (table_in ids header.spec bytes)) bytes)).
         let (vid, ids, header, at, same) = writes in
@@ -186,9 +192,9 @@ module _ (script : List Statement) (range : RunsAreInRange script) (events : Lis
         (command_act step.act work to))
     other_named next moved (CommandGoesOn number done attempt status bytes op step ends goes) to apart =
         goes_on number done attempt status bytes op step ends goes (command_act step.act work to) next moved
-        (CommandGoesOn number done attempt status bytes op step ends goes) to
+        (CommandGoesOn number done attempt status bytes op step ends goes) to apart
     other_named next moved (CommandDecided entry op step from read there waits goes) to apart =
-        decided op there next moved (CommandDecided entry op step from read there waits goes) to
+        decided op there next moved (CommandDecided entry op step from read there waits goes) to apart
         (decided_work (inode_open (session_in session so_far).disk) op step work (command_act step.act work to)
         (effects_of so_far.node.peer) (decision_on entry node.peer) goes)
     other_named next moved (CheckBegins inode arrival at) to apart =

@@ -523,3 +523,5 @@ pub mod FencedGateways
 pub mod EntriesOfInodes
 pub mod PiecesOfRows
 pub mod DoneReads
+pub mod CreatedEntries
+pub mod NewInodes

@@ -1,13 +1,12 @@
 -- What stands for what was made, together: a made create comes before each write; the own entries of open tables, of works that are to do and of
 -- attempts stand for objects that were created. Each change on the way of an event keeps all of it.
-use Rattle.std.proofs.Common.{◌≡◌, ℕ, Bool, true, false, List, Some, refl}
+use Rattle.std.proofs.Common.{◌≡◌, ℕ, Bool, true, List, Some, refl}
 use Rattle.vdi_directory.specs.Decisions.{log_effects}
 use Rattle.cluster_script.specs.declared.statement.Statement.{Statement}
 use Rattle.sheep_node.specs.declared.event.Event.{Event}
 use Rattle.overlap_law.specs.Fates.{CreatesComeFirst}
 use Rattle.overlap_law.specs.FirstCreates.{CreatesAlwaysComeFirst}
-use Rattle.overlap_law.specs.MomentChanges.{MomentTrail, MomentChange, RunsAreInRange}
-use Rattle.overlap_law.specs.NamedWorks.{NewInodesNameWhatIsMade}
+use Rattle.overlap_law.specs.MomentChanges.{MomentTrail, MomentChange, RunsAreInRange, Still}
 use Rattle.overlap_law.specs.OpenTables.{OpenTablesAreMade}
 use Rattle.overlap_law.specs.Past.{MomentWithPast, first_moment, run_with_past}
 use Rattle.overlap_law.specs.Tables.{OwnEntriesAreMade}
@@ -20,14 +19,11 @@ use Rattle.overlap_law.proofs.LastReads.{last_reads-in_run}
 use Rattle.overlap_law.proofs.NamedEntries.{own_after}
 use Rattle.overlap_law.proofs.NamedWorks.{works_stay_named}
 use Rattle.overlap_law.proofs.OpeningReads.{reads_name}
+use Rattle.overlap_law.proofs.NewInodes.{no_id, inodes_name}
 use Rattle.overlap_law.proofs.NoRecoveredDue.{began-with_past}
 use Rattle.overlap_law.proofs.OpenTables.{entries_of_chain}
 use Rattle.overlap_law.proofs.OpeningOverlap.{no_request, no_session, overlap_opens}
 use Rattle.overlap_law.proofs.OwnTablesSaid.{tables_stay_made}
-
--- no id
-abbrev pub no_id : ℕ → Bool
-no_id vid = false
 
 -- each object
 abbrev each_object : ℕ → Bool
@@ -39,9 +35,7 @@ pub record StandsForTheMade (moment : MomentWithPast) : Type 0 where
   pub named : WorksNameWhatIsMade (log_effects moment.world.log) no_id moment.world.hosts moment.past.attempts
   pub own : OwnEntriesAreMade each_object moment.past.attempts
 
-module _ (script : List Statement) (range : RunsAreInRange script)
-    (inodes : (events : List Event) (start before : MomentWithPast) → run_with_past script events ≡ Some start
-    → MomentTrail script start before → NewInodesNameWhatIsMade script no_id start before) where
+module _ (script : List Statement) (range : RunsAreInRange script) where
   keeps : (events : List Event) (start before after : MomentWithPast) → run_with_past script events ≡ Some start
       → MomentTrail script start before → MomentChange script start before after → StandsForTheMade before → StandsForTheMade after
   keeps events start before after run trail change made =
@@ -49,7 +43,7 @@ module _ (script : List Statement) (range : RunsAreInRange script)
       = works_stay_named script range no_id start (began-with_past script events start run) change
       (asked_name script range events start before run trail no_id
       (others_name script range events start before run trail each_object no_id (λ oid some alive. refl)
-      (record { each = λ j attempt there vid index object alive good. absurd (cc (good)) }) made.own (inodes events start before run trail)))
+      (record { each = λ j attempt there vid index object alive good. absurd (cc (good)) }) made.own (inodes_name script range events start before run trail)))
       made.named in
       record {
         first =
@@ -84,3 +78,12 @@ module _ (script : List Statement) (range : RunsAreInRange script)
   pub creates_first-in_run : CreatesAlwaysComeFirst script
   creates_first-in_run events start moment run trail =
       (kept_on_the_way script StandsForTheMade opens keeps events start moment run trail).first
+
+  -- what own entries stand for was created, whichever objects are live
+  pub own_entries-in_run : (events : List Event) (moment : MomentWithPast) → run_with_past script events ≡ Some moment
+      → (live : ℕ → Bool) → OwnEntriesAreMade live moment.past.attempts
+  own_entries-in_run events moment run live = record {
+    each = λ j attempt there vid index is_id object alive inside covered own.
+        (kept_on_the_way script StandsForTheMade opens keeps events moment moment run Still).own.each j attempt there vid index is_id
+        object refl inside covered own;
+  }

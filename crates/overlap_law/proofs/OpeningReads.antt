@@ -49,6 +49,9 @@ use Rattle.sheep_node.specs.declared.course.Course.TheVariants.{Commanding}
 use Rattle.sheep_node.specs.declared.course.Request.{Request}
 use Rattle.sheep_node.specs.declared.event.Event.{Event}
 use Rattle.sheep_node.specs.declared.input.Input.{Input}
+use Rattle.sheep_node.specs.declared.input.Input.TheVariants as inputs
+use Rattle.object_id.specs.declared.entry.Entry.{Entry}
+use Rattle.peer_service.specs.State.{effects_of}
 use Rattle.sheep_node.specs.Changes.{IsTold, EndsWork}
 use Rattle.sheep_node.specs.SoundWorks.{IsSoundStage}
 use Rattle.sheep_node.specs.State.{Node}
@@ -87,7 +90,10 @@ use Rattle.overlap_law.proofs.PlacesTaken.{places_taken}
 use Rattle.overlap_law.proofs.NoRecoveredDue.{began-with_past}
 use Rattle.overlap_law.proofs.ToldPieces.{IsToldPiece, ReadsAreTold, piece_stays, reads-on_the_way}
 use Rattle.overlap_law.proofs.WholeInRuns.{sound_here, named, may_change, nodes_whole}
-use Rattle.overlap_law.proofs.WholeSteps.{IsWellKnown, well}
+use Rattle.overlap_law.proofs.WholeNodes.{AreWholeOn}
+use Rattle.overlap_law.proofs.WholeSteps.{IsWellKnown, well, tables_so_far, read_so, headers_after}
+use Rattle.sheep_node.proofs.SoundCommands.{HeadersAreSound}
+use Rattle.sheep_node.specs.LogReading.{entry_read as log_entry_read}
 use Rattle.overlap_law.proofs.DoneReads.{AwaitedAt, awaited_at, only_one, marked_one, inode_gives, inode_whole, piece_told, number_in_piece}
 
 -- an attempt on an inode, of an epoch or before it, gave it this entry
@@ -151,6 +157,46 @@ module _ (script : List Statement) (range : RunsAreInRange script) (events : Lis
       (nodes_know script range start.world began stepping.n stepping.host is.there)
       (places_taken script range start.world began stepping.n stepping.host is.there is.up stepping.cause is.caused)
       (nodes_whole script range start.world began stepping.n stepping.host is.there) so_far leads
+
+  -- the tables of its commands are those of their disks, of what it knows then
+  pub knows_tables : AreWholeOn known so_far.node
+  knows_tables =
+      tables_so_far input node
+      (may_change script range start.world began stepping.n stepping.host is.there is.up stepping.cause (by_changes stepping.cause by)
+      is.caused)
+      (named script range start.world began stepping.n stepping.host is.there is.up stepping.cause is.caused)
+      (sound_here script range start.world began stepping.n stepping.host is.there is.up)
+      (caused_known script range.is_script known start.world stepping.n stepping.host stepping.cause is.caused)
+      (no_object script start.world stepping.n stepping.host stepping.cause is.caused)
+      (nodes_know script range start.world began stepping.n stepping.host is.there)
+      (places_taken script range start.world began stepping.n stepping.host is.there is.up stepping.cause is.caused)
+      (nodes_whole script range start.world began stepping.n stepping.host is.there) so_far leads
+
+  pub knows_read : (entry : Entry) → input ≡ inputs.LogEntry entry → effects_of (log_entry_read entry node).peer ≡ known
+  knows_read =
+      read_so input node
+      (may_change script range start.world began stepping.n stepping.host is.there is.up stepping.cause (by_changes stepping.cause by)
+      is.caused)
+      (named script range start.world began stepping.n stepping.host is.there is.up stepping.cause is.caused)
+      (sound_here script range start.world began stepping.n stepping.host is.there is.up)
+      (caused_known script range.is_script known start.world stepping.n stepping.host stepping.cause is.caused)
+      (no_object script start.world stepping.n stepping.host stepping.cause is.caused)
+      (nodes_know script range start.world began stepping.n stepping.host is.there)
+      (places_taken script range start.world began stepping.n stepping.host is.there is.up stepping.cause is.caused)
+      (nodes_whole script range start.world began stepping.n stepping.host is.there)
+
+  pub knows_headers : HeadersAreSound known
+  knows_headers =
+      headers_after input node
+      (may_change script range start.world began stepping.n stepping.host is.there is.up stepping.cause (by_changes stepping.cause by)
+      is.caused)
+      (named script range start.world began stepping.n stepping.host is.there is.up stepping.cause is.caused)
+      (sound_here script range start.world began stepping.n stepping.host is.there is.up)
+      (caused_known script range.is_script known start.world stepping.n stepping.host stepping.cause is.caused)
+      (no_object script start.world stepping.n stepping.host stepping.cause is.caused)
+      (nodes_know script range start.world began stepping.n stepping.host is.there)
+      (places_taken script range start.world began stepping.n stepping.host is.there is.up stepping.cause is.caused)
+      (nodes_whole script range start.world began stepping.n stepping.host is.there)
 
   -- what the step is told of a message is a reply in the wire at its beginning
   told_reply : (cause : NodeCause) → IsCause script start.world stepping.n stepping.host cause → (number : ℕ) (bytes : List ℕ)

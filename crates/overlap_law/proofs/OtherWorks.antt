@@ -90,15 +90,22 @@ begins_with_entry by session ask disk step next work = by_entry (first_entry by 
         let same = ap (λ (s : OpStep). s.act) (same_Some (first_step by session entry) step is) in cc (same, act)
 
 -- what it asks for as its entry is decided: it reads an inode, creates one, or writes the tag that was asked for to the open one
-pub data IsOfDecision (disk : Option Content) (op : Op) (work : ObjWork) : Type 0 where
-  ReadsIt : (vid : ℕ) (spec : VdiSpec) → work ≡ read_inode vid spec → IsOfDecision disk op work
-  CreatesIt : (inode : Content) → work ≡ create_inode inode → IsOfDecision disk op work
+pub data IsOfDecision (known : List Effect) (disk : Option Content) (op : Op) (work : ObjWork) : Type 0 where
+  ReadsIt : (vid : ℕ) (spec : VdiSpec) → work ≡ read_inode vid spec → IsOfDecision known disk op work
+  CreatesIt : (vid : Vid) (header : Header) → header_of known vid.0 ≡ Some header
+      → work ≡ create_inode (inode_by header vid.0 (holes header.spec)) → IsOfDecision known disk op work
   TagsIt : (inode : Content) (by : NodeId) (session : ℕ) (name tag : List ℕ) → disk ≡ Some inode
-      → op.stage ≡ Asked (entries.Reserve by session name (SnapshotOf tag)) → work ≡ write_tag inode tag → IsOfDecision disk op work
+      → op.stage ≡ Asked (entries.Reserve by session name (SnapshotOf tag)) → work ≡ write_tag inode tag → IsOfDecision known disk op work
+
+-- an inode is the one that was to be created as its task is done: that of a disk that was taken the place of, or with the table that was read
+pub data IsOfTask (op : Op) (bytes : List ℕ) (inode : Content) : Type 0 where
+  Tagged : (vid old : Vid) → op.stage ≡ Working vid (Tagging old inode) → IsOfTask op bytes inode
+  Copied : (vid : Vid) (ids : List ℕ) (header : Header) → op.stage ≡ Working vid (Copying ids header)
+      → inode ≡ inode_by header vid.0 (table_in ids header.spec bytes) → IsOfTask op bytes inode
 
 -- and as its work is done: it creates an inode, or writes back what it read
 abbrev pub WritesBackOrCreates : Op → ObjWork → List ℕ → Type 0
-WritesBackOrCreates op work bytes = ((inode : Content) × (work ≡ create_inode inode)) ⊎ ((vid : Vid) × (ids : List ℕ) × (header : Header)
+WritesBackOrCreates op work bytes = ((inode : Content) × (work ≡ create_inode inode) × IsOfTask op bytes inode) ⊎ ((vid : Vid) × (ids : List ℕ) × (header : Header)
     × (op.stage ≡ Working vid (Opening false ids header))
     × (work ≡ write_back (inode_by header vid.0 (table_in ids header.spec bytes)) bytes))
 
@@ -111,52 +118,54 @@ module _ (disk : Option Content) (op : Op) (step : OpStep) (work : ObjWork) (act
   no_work : {P : Type 0} (one : OpStep) → Some one ≡ Some step → (one.act ≢ op_acts.Work work) → P
   no_work one is never = absurd (never (ap (λ (s : OpStep). s.act) (same_Some one step is) ∙ act))
 
-  of_grant : (vid : Vid) (chain : List ℕ) (entry : Entry) (header : Header) → op.stage ≡ Asked entry
-      → step_after_grant op vid chain disk entry header ≡ Some step → IsOfDecision disk op work
-  of_grant vid chain (entries.Format members) header at is = absurd (cc (is))
-  of_grant vid chain (entries.Join node zone vnodes) header at is = absurd (cc (is))
-  of_grant vid chain (entries.Leave node) header at is = absurd (cc (is))
-  of_grant vid chain (entries.Reweight node vnodes) header at is = absurd (cc (is))
-  of_grant vid chain (entries.Recovered node epoch) header at is = absurd (cc (is))
-  of_grant vid chain (entries.Reserve by session name (Fresh spec)) header at is =
-      CreatesIt (inode_by header vid.0 (holes header.spec)) (of_step _ is _ refl)
-  of_grant vid chain (entries.Reserve by session name (SnapshotOf tag)) header at is = by_disk disk refl is
+  of_grant : (known : List Effect) (vid : Vid) (chain : List ℕ) (entry : Entry) (header : Header) → header_of known vid.0 ≡ Some header
+      → op.stage ≡ Asked entry → step_after_grant op vid chain disk entry header ≡ Some step → IsOfDecision known disk op work
+  of_grant known vid chain (entries.Format members) header there at is = absurd (cc (is))
+  of_grant known vid chain (entries.Join node zone vnodes) header there at is = absurd (cc (is))
+  of_grant known vid chain (entries.Leave node) header there at is = absurd (cc (is))
+  of_grant known vid chain (entries.Reweight node vnodes) header there at is = absurd (cc (is))
+  of_grant known vid chain (entries.Recovered node epoch) header there at is = absurd (cc (is))
+  of_grant known vid chain (entries.Reserve by session name (Fresh spec)) header there at is =
+      CreatesIt vid header there (of_step _ is (create_inode (inode_by header vid.0 (holes header.spec))) refl)
+  of_grant known vid chain (entries.Reserve by session name (SnapshotOf tag)) header there at is = by_disk disk refl is
     where
-      by_disk : (o : Option Content) → disk ≡ o → option_map (tag_step op vid tag header) o ≡ Some step → IsOfDecision disk op work
+      by_disk : (o : Option Content) → disk ≡ o → option_map (tag_step op vid tag header) o ≡ Some step
+          → IsOfDecision known disk op work
       by_disk None on is = absurd (cc (is))
       by_disk (Some inode) on is = TagsIt inode by session name tag on at (of_step (tag_step op vid tag header inode) is
           (write_tag inode tag) refl)
-  of_grant vid chain (entries.Reserve by session name (CloneOf base tag)) header at is = by_parent header.parent is
+  of_grant known vid chain (entries.Reserve by session name (CloneOf base tag)) header there at is = by_parent header.parent is
     where
-      by_parent : (o : Option Vid) → option_map (copy_step op vid chain header) o ≡ Some step → IsOfDecision disk op work
+      by_parent : (o : Option Vid) → option_map (copy_step op vid chain header) o ≡ Some step → IsOfDecision known disk op work
       by_parent None is = absurd (cc (is))
       by_parent (Some parent) is =
           ReadsIt parent.0 header.spec (of_step (copy_step op vid chain header parent) is (read_inode parent.0 header.spec) refl)
-  of_grant vid chain (entries.Publish by id) header at is = absurd (cc (is))
-  of_grant vid chain (entries.Clone by id) header at is = absurd (cc (is))
-  of_grant vid chain (entries.Snapshot by old id) header at is = absurd (cc (is))
-  of_grant vid chain (entries.Delete by session name tag) header at is = no_work _ is (λ same. cc (same))
-  of_grant vid chain (entries.Lock by session name tag) header at is = ReadsIt vid.0 header.spec (of_step _ is
+  of_grant known vid chain (entries.Publish by id) header there at is = absurd (cc (is))
+  of_grant known vid chain (entries.Clone by id) header there at is = absurd (cc (is))
+  of_grant known vid chain (entries.Snapshot by old id) header there at is = absurd (cc (is))
+  of_grant known vid chain (entries.Delete by session name tag) header there at is = no_work _ is (λ same. cc (same))
+  of_grant known vid chain (entries.Lock by session name tag) header there at is = ReadsIt vid.0 header.spec (of_step _ is
       (read_inode vid.0 header.spec) refl)
-  of_grant vid chain (entries.Unlock by session id) header at is = no_work _ is (λ same. cc (same))
+  of_grant known vid chain (entries.Unlock by session id) header there at is = no_work _ is (λ same. cc (same))
 
   of_decision : (known : List Effect) (entry : Entry) (decision : Decision) → op.stage ≡ Asked entry
-      → step_after_decision known disk op entry decision ≡ Some step → IsOfDecision disk op work
+      → step_after_decision known disk op entry decision ≡ Some step → IsOfDecision known disk op work
   of_decision known entry decisions.None at is = no_work _ is (λ same. cc (same))
-  of_decision known entry (decisions.Granted vid) at is = by_header (header_of known vid.0) is
+  of_decision known entry (decisions.Granted vid) at is = by_header (header_of known vid.0) refl is
     where
-      by_header : (o : Option Header) → option_and_then (step_after_grant op vid (chain_of known vid.0) disk entry) o ≡ Some step
-          → IsOfDecision disk op work
-      by_header None is = absurd (cc (is))
-      by_header (Some header) is = of_grant vid (chain_of known vid.0) entry header at is
+      by_header : (o : Option Header) → header_of known vid.0 ≡ o
+          → option_and_then (step_after_grant op vid (chain_of known vid.0) disk entry) o ≡ Some step → IsOfDecision known disk op work
+      by_header None none is = absurd (cc (is))
+      by_header (Some header) there is = of_grant known vid (chain_of known vid.0) entry header there at is
   of_decision known entry (decisions.Refused cause) at is = no_work _ is (λ same. cc (same))
 
   pub decided_work : (known : List Effect) (decision : Decision) → on_decision known disk decision op ≡ Some step
-      → IsOfDecision disk op work
+      → IsOfDecision known disk op work
   unfolding on_decision
   decided_work known decision next = by_stage op.stage refl next
     where
-      by_stage : (stage : OpStage) → op.stage ≡ stage → decided_at known disk decision op stage ≡ Some step → IsOfDecision disk op work
+      by_stage : (stage : OpStage) → op.stage ≡ stage → decided_at known disk decision op stage ≡ Some step
+          → IsOfDecision known disk op work
       by_stage (Asked entry) at is = of_decision known entry decision at is
       by_stage (Working vid task) at is = absurd (cc (is))
       by_stage (Publishing entry opened) at is = no_work _ is (λ same. cc (same))
@@ -172,12 +181,12 @@ module _ (disk : Option Content) (op : Op) (step : OpStep) (work : ObjWork) (act
       by_task vid (Opening false ids header) at is =
           inr (vid, ids, header, at, of_step _ is (write_back (inode_by header vid.0 (table_in ids header.spec bytes)) bytes) refl)
       by_task vid (WritingBack inode) at is = no_work _ is (λ same. cc (same))
-      by_task vid (Tagging old inode) at is = inl (inode, of_step _ is (create_inode inode) refl)
+      by_task vid (Tagging old inode) at is = inl (inode, of_step _ is (create_inode inode) refl, Tagged vid old at)
       by_task vid (Copying ids header) at is =
           inl (
             inode_by header vid.0 (table_in ids header.spec bytes),
-            of_step _ is
-                (create_inode (inode_by header vid.0 (table_in ids header.spec bytes))) refl,
+            of_step _ is (create_inode (inode_by header vid.0 (table_in ids header.spec bytes))) refl,
+            Copied vid ids header at refl,
           )
       by_task vid (Making entry opened) at is = no_work _ is (λ same. cc (same))
 

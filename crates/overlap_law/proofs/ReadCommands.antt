@@ -34,7 +34,7 @@ use Rattle.sheep_node.specs.declared.course.Course.TheVariants as courses
 use Rattle.sheep_node.specs.Changes.{outcome_of_command}
 use Rattle.sheep_node.specs.Courses.{disk_after}
 use Rattle.sheep_node.proofs.ValidSteps.{given}
-use Rattle.overlap_law.proofs.ChainTables.{IsInChain, HasChainTable, HasNoOwn, own_chain, in_chain_grows, table_grows, HasChains, taken_over, taken_no_own}
+use Rattle.overlap_law.proofs.ChainTables.{IsInChain, IsOtherId, HasChainTable, HasNoOwn, chain_other, own_chain, in_chain_grows, table_grows, HasChains, taken_over, taken_no_own}
 use Rattle.overlap_law.proofs.KnownDisks.{IsKnownDisk, IsKnownInode, vid-of_inode, kind-of_inode}
 use Rattle.overlap_law.proofs.KnownTables.{table_so}
 use Rattle.overlap_law.proofs.ReadWorks.{ReadsOn, IsReadOutcome, inside_on}
@@ -50,7 +50,7 @@ module _ (known : List Effect) where
   IsTabledTask vid (Opening snapshot ids header) = All (IsInChain known vid.0) ids
   IsTabledTask vid (WritingBack inode) = HasChainTable known inode
   IsTabledTask vid (Tagging old inode) = IsTakenTable inode
-  IsTabledTask vid (Copying ids header) = Unit {0}
+  IsTabledTask vid (Copying ids header) = All (IsOtherId vid.0) ids
   IsTabledTask vid (Making entry opened) = IfSome opened IsTakenTable
 
   abbrev pub IsTabledChange : DiskChange → Type 0
@@ -83,7 +83,7 @@ module _ (old new : List Effect) (above : (elder vid : ℕ) → is_above old eld
       All-weaker (IsInChain old vid.0) (IsInChain new vid.0) (in_chain_grows old new above vid.0) ids is
   task_grows vid (WritingBack inode) is = table_grows old new above inode is
   task_grows vid (Tagging of inode) is = (table_grows old new above inode is.0, is.1)
-  task_grows vid (Copying ids header) is = tt
+  task_grows vid (Copying ids header) is = is
   task_grows vid (Making entry opened) is = if_grows opened is
 
   change_grows : (change : DiskChange) → IsTabledChange old change → IsTabledChange new change
@@ -214,7 +214,10 @@ module _ (known : List Effect) where
           by_parent None from next = absurd (cc (next))
           by_parent (Some parent) from next =
               given IsReadCommandStep next
-              (record { stage = tt; outcome = inode_inside parent.0 header.spec (chains.with_parent vid.0 header parent there from) })
+              (record {
+                stage = chain_other known chains vid.0 header there;
+                outcome = inode_inside parent.0 header.spec (chains.with_parent vid.0 header parent there from);
+              })
       granted_inside (Publish by made) at granted next = absurd (cc (next))
       granted_inside (Clone by made) at granted next = absurd (cc (next))
       granted_inside (Snapshot by old made) at granted next = absurd (cc (next))

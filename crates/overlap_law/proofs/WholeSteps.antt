@@ -306,6 +306,10 @@ module _ (input : Input) (node : Node) (may : May input node) (named : InputName
       ap log_effects
       (entries_reading entry node ∙ sym (ap (λ (input : Input). read_after input node.peer.entries) from))
 
+  -- the headers of what it has read are those of inodes
+  pub headers_after : HeadersAreSound (effects_after input node)
+  headers_after = headers_are_sound (read_after input node.peer.entries) reservable
+
   pub well : (so_far : StepState) → Leads input node (input_received input (at_first node)) so_far
       → IsWellKnown (effects_after input node) input node so_far
   well so_far leads = record {

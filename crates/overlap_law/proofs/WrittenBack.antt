@@ -89,7 +89,7 @@ module _ (inode : Content) (bytes : List ℕ) (id : IsVid inode.vid)
       ∙ number_in_piece bytes from
 
 -- the header of an inode is as long as it is to be
-header_long : (header : Header) (vid : ℕ) (table : List ℕ) → IsInodeHeader header
+pub header_long : (header : Header) (vid : ℕ) (table : List ℕ) → IsInodeHeader header
     → length (header_bytes (inode_by header vid table) (unread_zeros (inode_by header vid table))) ≡ INODE_HEADER_BYTES
 header_long header vid table is =
     header_length (inode_by header vid table) (unread_zeros (inode_by header vid table))

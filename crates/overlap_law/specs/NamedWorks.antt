@@ -56,11 +56,12 @@ OtherWorksNameWhatIsMade script good_id start before = (stepping : SteppingNode)
     → ((driver : Driver) → tree.get moved.node.requests req ≢ Some (record { session = session; course = Driving driver }))
     → NamesWhatIsMade (log_effects before.world.log) good_id before.past.attempts so_far.node.peer.epoch work
 
--- and so does the inode that a command creates next
+-- and so does the inode that a command creates next, which is no read or write
 abbrev pub NewInodesNameWhatIsMade : List Statement → (ℕ → Bool) → MomentWithPast → MomentWithPast → Type 0
 NewInodesNameWhatIsMade script good_id start before = (stepping : SteppingNode) (so_far : StepState)
     → IsStepping script start.world stepping → StepsByChanges stepping.cause → LeadsInStep stepping (first_in_step stepping) so_far
     → before ≡ moment_in_step script stepping start so_far
     → (session req : ℕ) (inode : Content) (moved : StepState)
     → RequestSteps (input_of_cause stepping.cause) stepping.host.node so_far session req (ToWork (create_inode inode)) moved
+    → ((driver : Driver) → tree.get moved.node.requests req ≢ Some (record { session = session; course = Driving driver }))
     → NamesWhatIsMade (log_effects before.world.log) good_id before.past.attempts so_far.node.peer.epoch (create_inode inode)

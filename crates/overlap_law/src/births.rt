@@ -9,10 +9,11 @@ ghost use Rattle.overlap_law.specs.MomentChanges.{MomentChange, MomentTrail, IsO
 ghost use Rattle.overlap_law.specs.Attempts.{AttemptRecord};
 ghost use Rattle.overlap_law.specs.BornObjects.{AttemptsAreOfTheBorn};
 ghost use Rattle.overlap_law.specs.Fates.{CreatesComeFirst};
+ghost use Rattle.overlap_law.specs.FirstCreates.{CreatesAlwaysComeFirst};
 ghost use Rattle.overlap_law.specs.HeldLevels.{NewestHasTargets, NoneIsBeforeBirth};
 ghost use Rattle.overlap_law.specs.Holders.{targets_by, is_good};
 ghost use Rattle.overlap_law.specs.Rows.{AttemptsAreCarried};
-ghost use Rattle.overlap_law.specs.Tables.{TablesAreOfTheChain};
+ghost use Rattle.overlap_law.specs.Tables.{OwnEntriesAreMade, TablesAreOfTheChain};
 ghost use Rattle.overlap_law.specs.ToDo.{WorksNameWhatIsMade};
 
 /// In each run in range each change of a moment on the way of an event keeps that before each write of an object stands a made create of
@@ -26,6 +27,16 @@ pub fn creates_come_first()
         → TablesAreOfTheChain (log_effects before.world.log) before.world.hosts before.past.attempts
         → WorksNameWhatIsMade (log_effects before.world.log) good_id before.world.hosts before.past.attempts
         → CreatesComeFirst before.past.attempts → CreatesComeFirst after.past.attempts }
+{}
+
+/// So in every run in range a made create of an object stands before each write of it, at each moment on the way of an event. And at the
+/// end of each event an own entry that was written into an inode stands for an object that was created by then, whether the object is live
+/// or not. All of this is carried together: the own entries of open tables, of works to do and of attempts stand for what was created; and
+/// a new inode has none.
+pub fn a_made_create_always_comes_first()
+    ensures creates { (script : List Statement) → RunsAreInRange script → CreatesAlwaysComeFirst script }
+    ensures own { (script : List Statement) → RunsAreInRange script → (events : List Event) (moment : MomentWithPast)
+        → run_with_past script events ≡ Some moment → (live : ℕ → Bool) → OwnEntriesAreMade live moment.past.attempts }
 {}
 
 /// So no attempt is of an epoch before that in which its object was born, whichever objects are good, at each moment on the way of an

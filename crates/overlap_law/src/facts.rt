@@ -5,32 +5,29 @@ ghost use Rattle.sheep_node.specs.declared.event.Event.{Event};
 ghost use Rattle.epoch_log.specs.Epochs.{settled_of};
 ghost use Rattle.overlap_law.specs.Past.{MomentWithPast, counts, run_with_past};
 ghost use Rattle.overlap_law.specs.MomentChanges.{RunsAreInRange};
-ghost use Rattle.overlap_law.specs.Holders.{targets_by, is_live_object};
+ghost use Rattle.overlap_law.specs.Holders.{targets_by};
 ghost use Rattle.overlap_law.specs.Overlap.{OverlapGivesFacts};
-ghost use Rattle.overlap_law.specs.Tables.{OwnEntriesAreMade};
-ghost use Rattle.overlap_law.specs.FirstCreates.{CreatesAlwaysComeFirst};
 ghost use Rattle.overlap_law.specs.Contents.{RowContents, AttemptsStand};
 ghost use Rattle.overlap_law.specs.Facts.{EachGood, HoldersOfTheBase, CompleteLists, LostGatewaysAreFenced, MeetsFacts};
 
-/// In every run in range, if a made create comes before each write of its object: each row of a good object that reaches the epoch of the
-/// object's base has at quiet units what the made attempts come to; at any other unit a copy has the bytes of the unit's own base or of a
-/// later attempt.
+/// In every run in range each row of a good object that reaches the epoch of the object's base has at quiet units what the made attempts
+/// come to; at any other unit a copy has the bytes of the unit's own base or of a later attempt.
 pub fn rows_have_their_bases()
-    ensures { (script : List Statement) → RunsAreInRange script → CreatesAlwaysComeFirst script → (events : List Event)
+    ensures { (script : List Statement) → RunsAreInRange script → (events : List Event)
         (moment : MomentWithPast) → run_with_past script events ≡ Some moment
         → EachGood moment.world moment.past (RowContents moment.world.hosts) }
 {}
 
 /// There an attempt on a good object that isn't made is doomed, or each row that reaches beyond its epoch has it.
 pub fn attempts_stand()
-    ensures { (script : List Statement) → RunsAreInRange script → CreatesAlwaysComeFirst script → (events : List Event)
+    ensures { (script : List Statement) → RunsAreInRange script → (events : List Event)
         (moment : MomentWithPast) → run_with_past script events ≡ Some moment
         → EachGood moment.world moment.past (AttemptsStand moment.world.hosts) }
 {}
 
 /// There each target of the base's epoch, or of a later settled one, that counts for it has a row that holds it, of each good object.
 pub fn bases_have_holders()
-    ensures { (script : List Statement) → RunsAreInRange script → CreatesAlwaysComeFirst script → (events : List Event)
+    ensures { (script : List Statement) → RunsAreInRange script → (events : List Event)
         (moment : MomentWithPast) → run_with_past script events ≡ Some moment → EachGood moment.world moment.past
         (HoldersOfTheBase (targets_by moment.world.log) (counts moment.past.ended moment.world) (settled_of moment.world.log)
         moment.world.hosts) }
@@ -38,7 +35,7 @@ pub fn bases_have_holders()
 
 /// And each finished list has each good object whose base is of an epoch below the list's.
 pub fn lists_have_all_bases()
-    ensures { (script : List Statement) → RunsAreInRange script → CreatesAlwaysComeFirst script → (events : List Event)
+    ensures { (script : List Statement) → RunsAreInRange script → (events : List Event)
         (moment : MomentWithPast) → run_with_past script events ≡ Some moment
         → EachGood moment.world moment.past (CompleteLists moment.past.listed moment.world.hosts) }
 {}
@@ -51,12 +48,10 @@ pub fn lost_gateways_are_fenced()
         → LostGatewaysAreFenced moment.world.log moment.world.hosts moment.world.wire moment.past.attempts }
 {}
 
-/// All six facts hold in every run in range, if a made create comes before each write of its object, and if in the moment an own entry that
-/// is written into an inode stands for an object that was made by then.
+/// All six facts hold in every run in range.
 pub fn the_facts_hold()
-    ensures { (script : List Statement) → RunsAreInRange script → CreatesAlwaysComeFirst script → (events : List Event)
+    ensures { (script : List Statement) → RunsAreInRange script → (events : List Event)
         (moment : MomentWithPast) → run_with_past script events ≡ Some moment
-        → OwnEntriesAreMade (is_live_object moment.world.log moment.past.attempts) moment.past.attempts
         → MeetsFacts moment.world moment.past }
 {}
 

@@ -6,20 +6,19 @@ ghost use Rattle.vdi_directory.specs.Decisions.{log_effects};
 ghost use Rattle.overlap_law.specs.Past.{MomentWithPast, run_with_past};
 ghost use Rattle.overlap_law.specs.MomentChanges.{RunsAreInRange};
 ghost use Rattle.overlap_law.specs.Holders.{targets_by, is_live_object, is_good};
-ghost use Rattle.overlap_law.specs.FirstCreates.{CreatesAlwaysComeFirst};
 ghost use Rattle.overlap_law.specs.Groups.{RowsAreKept, SearchesAreKept};
 
-/// The groups of rows and of recoveries hold in every run in range, of the objects that are live and good, if a made create comes before each
-/// write of its object. Each change on the way of an event keeps them, by the test for good objects of the moment at which the event ends:
-/// what is made is carried on to the newest epoch, as what is good there has enough targets; so a recovery finds it at the level at which the
-/// nodes hold it, and passes no level by that has enough rows; what it finds has what it owes; and nothing that was made is missing.
+/// The groups of rows and of recoveries hold in every run in range, of the objects that are live and good. Each change on the way of an
+/// event keeps them, by the test for good objects of the moment at which the event ends: what is made is carried on to the newest epoch, as
+/// what is good there has enough targets; so a recovery finds it at the level at which the nodes hold it, and passes no level by that has
+/// enough rows; what it finds has what it owes; and nothing that was made is missing.
 pub fn rows_and_recoveries_are_kept()
-    ensures rows { (script : List Statement) → RunsAreInRange script → CreatesAlwaysComeFirst script → (events : List Event)
+    ensures rows { (script : List Statement) → RunsAreInRange script → (events : List Event)
         (moment : MomentWithPast) → run_with_past script events ≡ Some moment
         → RowsAreKept (targets_by moment.world.log) moment.world.log (log_effects moment.world.log)
         (is_live_object moment.world.log moment.past.attempts)
         (is_good moment.world.log moment.past.attempts moment.past.unavailable) moment.world.hosts moment.past.attempts }
-    ensures recoveries { (script : List Statement) → RunsAreInRange script → CreatesAlwaysComeFirst script → (events : List Event)
+    ensures recoveries { (script : List Statement) → RunsAreInRange script → (events : List Event)
         (moment : MomentWithPast) → run_with_past script events ≡ Some moment
         → SearchesAreKept (targets_by moment.world.log) moment.world.log (log_effects moment.world.log)
         (is_live_object moment.world.log moment.past.attempts)

@@ -6,7 +6,6 @@ ghost use Rattle.sheep_node.specs.declared.event.Event.{Event};
 ghost use Rattle.sheep_world.specs.Step.{EventOutcome, step};
 ghost use Rattle.overlap_law.specs.AskedTargets.{AsksGoToTargets};
 ghost use Rattle.overlap_law.specs.Fates.{CreatesComeFirst};
-ghost use Rattle.overlap_law.specs.FirstCreates.{CreatesAlwaysComeFirst};
 ghost use Rattle.overlap_law.specs.Holders.{targets_by, is_good, is_available_disk};
 ghost use Rattle.overlap_law.specs.Lists.{WhatIsNotPendingIsThere};
 ghost use Rattle.overlap_law.specs.MomentChanges.{IsOnTheWay, RunsAreInRange};
@@ -60,17 +59,17 @@ pub fn the_overlap_gives_objects()
 {}
 
 /// In each run in range no message for a disk that was available, and is neither deleted nor given back, is lacked, and no object is
-/// missing at the event that comes next, if a made create comes before each write of its object, and what the tables of such disks name was
-/// created, at each moment to which events lead. For then what a node with a finished list hasn't pending is there.
+/// missing at the event that comes next, if what the tables of such disks name was created at each moment to which events lead. For then
+/// what a node with a finished list hasn't pending is there.
 pub fn no_object_is_lacked()
-    ensures nowhere { (script : List Statement) → RunsAreInRange script → CreatesAlwaysComeFirst script
+    ensures nowhere { (script : List Statement) → RunsAreInRange script
         → ((events : List Event) (moment : MomentWithPast) → run_with_past script events ≡ Some moment
         → TablesAreMade (log_effects moment.world.log) (is_available_disk moment.world.log moment.past.unavailable) moment.world.hosts
         moment.past.attempts)
         → (events : List Event) (moment : MomentWithPast) → run_with_past script events ≡ Some moment
         → NothingIsLacked (log_effects moment.world.log) (is_available_disk moment.world.log moment.past.unavailable) moment.world.hosts
         moment.world.wire }
-    ensures missing { (script : List Statement) → RunsAreInRange script → CreatesAlwaysComeFirst script
+    ensures missing { (script : List Statement) → RunsAreInRange script
         → ((events : List Event) (moment : MomentWithPast) → run_with_past script events ≡ Some moment
         → TablesAreMade (log_effects moment.world.log) (is_available_disk moment.world.log moment.past.unavailable) moment.world.hosts
         moment.past.attempts)

@@ -1,0 +1,210 @@
+-- In the middle of a step of a run in range, an inode that a command creates next names none of its disk's own objects: a new disk has
+-- holes alone, one that takes the place of another has what that one had, and a clone has what it read of those above it.
+use Rattle.std.proofs.Common.{◌≡◌, ◌≢◌, ◌⊎◌, ⊎_elim, arith, ℕ, Bool, false, All, List, length, Some, None, refl, sym, ap, subst, ◌∙◌}
+use Rattle.std.specs.FinMap as tree
+use Rattle.std.proofs.lemmas.List.Elements.{All-replicate, All-weaker}
+use Rattle.proof_tools.proofs.FiniteMaps.{get-insert_same}
+use Rattle.object_id.specs.declared.oid.Vid.{Vid}
+use Rattle.object_id.specs.Oid.{IsVid, inode_number}
+use Rattle.object_id.specs.Spec.{objects_of}
+use Rattle.inode.specs.Layout.{Content, IsEntry, header_bytes, unread_zeros}
+use Rattle.inode.specs.declared.layout.TheConstants.{INODE_HEADER_BYTES}
+use Rattle.cluster_script.specs.declared.statement.Statement.{Statement}
+use Rattle.vdi_directory.specs.declared.effect.Effect.{Effect}
+use Rattle.vdi_directory.specs.declared.header.Header.{Header}
+use Rattle.vdi_directory.specs.Decisions.{log_effects}
+use Rattle.vdi_directory.specs.Effects.{header_of}
+use Rattle.peer_service.specs.LogReading.{decision_on}
+use Rattle.peer_service.specs.State.{effects_of}
+use Rattle.peer_proto.specs.declared.work.ObjWork.{ObjWork}
+use Rattle.guest_driver.specs.Driver.{Driver, begin_driver}
+use Rattle.vdi_ops.specs.InodeWorks.{create_inode, write_back}
+use Rattle.vdi_ops.specs.Op.{Opening, Working, Op}
+use Rattle.vdi_ops.specs.Kept.{IsInodeHeader}
+use Rattle.vdi_ops.specs.Tables.{holes, table_in, inode_by}
+use Rattle.vdi_ops.proofs.TableLemmas.{blank_fills, header_length}
+use Rattle.disk_check.specs.Check.{begin_check}
+use Rattle.sheep_node.specs.declared.course.Course.TheVariants.{Driving, Commanding, Checking}
+use Rattle.sheep_node.specs.declared.event.Event.{Event}
+use Rattle.sheep_node.specs.declared.input.Input.{Input}
+use Rattle.sheep_node.specs.Changes.{Outcome, ToWork, RequestSteps}
+use Rattle.sheep_node.specs.Changes.{DiskBegins, DiskGoesOn, CommandBegins, CommandGoesOn, CommandDecided, CheckBegins, CheckGoesOn}
+use Rattle.sheep_node.specs.Changes.{ObjectBegins, ObjectIsDone, EntryBegins, EntryDecided}
+use Rattle.sheep_node.specs.Courses.{inode_open}
+use Rattle.sheep_node.specs.SoundWorks.{IsSoundStage}
+use Rattle.sheep_node.specs.State.{Node}
+use Rattle.sheep_node.specs.StepState.{StepState, session_in}
+use Rattle.sheep_node.proofs.ValidityChanges.{AnySent, course_valid}
+use Rattle.sheep_world.specs.NodeCauses.{input_of_cause}
+use Rattle.overlap_law.specs.MomentChanges.{MomentTrail, RunsAreInRange}
+use Rattle.overlap_law.specs.NamedWorks.{NamesWhatIsMade, NewInodesNameWhatIsMade}
+use Rattle.overlap_law.specs.Past.{MomentWithPast, run_with_past}
+use Rattle.overlap_law.specs.StepMoments.{SteppingNode, IsStepping, StepsByChanges, LeadsInStep, first_in_step, moment_in_step}
+use Rattle.overlap_law.proofs.CausedWorks.{no_object}
+use Rattle.overlap_law.proofs.ChainTables.{IsOtherId}
+use Rattle.overlap_law.proofs.CommandWorks.{command_act, check_act}
+use Rattle.overlap_law.proofs.CreatedEntries.{created_entry}
+use Rattle.overlap_law.proofs.DriverEntries.{names_none}
+use Rattle.overlap_law.proofs.KnownDisks.{known_validity}
+use Rattle.overlap_law.proofs.KnownDiskSteps.{IsKnownSoFar, effects_after}
+use Rattle.overlap_law.proofs.KnownTables.{table_so}
+use Rattle.overlap_law.proofs.OpeningReads.{knows_well, knows_tables, knows_read, knows_headers}
+use Rattle.overlap_law.proofs.OtherWorks.{HasNone, begins_with_entry, IsOfDecision, ReadsIt, CreatesIt, TagsIt, IsOfTask, Tagged, Copied}
+use Rattle.overlap_law.proofs.OtherWorks.{decided_work, done_work, check_begins_none, check_goes_none}
+use Rattle.overlap_law.proofs.ReadCommands.{IsTabledStage}
+use Rattle.overlap_law.proofs.WrittenBack.{header_long}
+
+-- no id
+abbrev pub no_id : ℕ → Bool
+no_id vid = false
+
+-- an entry of the table of a disk that isn't its own
+abbrev IsNotOwn : ℕ → ℕ → Type 0
+IsNotOwn vid entry = IsEntry entry × (entry ≢ vid)
+
+-- an inode that names none of its disk's own objects, and fills its header
+record NamesNoOwn (inode : Content) : Type 0 where
+  head : length (header_bytes inode (unread_zeros inode)) ≡ INODE_HEADER_BYTES
+  entries : All (IsNotOwn inode.vid) inode.table
+
+no_hole : (vid : ℕ) → IsVid vid → IsNotOwn vid 0
+no_hole vid id = (omega arith, λ none. let some = id.0 in absurd (omega (arith, some, none)))
+
+new_names : (header : Header) (vid : ℕ) → IsVid vid → IsInodeHeader header → NamesNoOwn (inode_by header vid (holes header.spec))
+new_names header vid id is = record {
+  head = header_long header vid (holes header.spec) is;
+  entries = All-replicate (IsNotOwn vid) (objects_of header.spec) 0 (no_hole vid id);
+}
+
+copy_names : (header : Header) (vid : ℕ) (ids bytes : List ℕ) → IsVid vid → IsInodeHeader header → All (IsOtherId vid) ids
+    → NamesNoOwn (inode_by header vid (table_in ids header.spec bytes))
+copy_names header vid ids bytes id is others =
+    let kept = table_so (IsNotOwn vid) header.spec ids bytes
+    (All-weaker (IsOtherId vid) (IsNotOwn vid) (λ other of. (of.0.1, of.1)) ids others) in
+    record {
+      head = header_long header vid (table_in ids header.spec bytes) is;
+      entries = All-weaker (λ (entry : ℕ). (entry ≡ 0) ⊎ IsNotOwn vid entry) (IsNotOwn vid) (λ entry. ⊎_elim
+          (λ (none : entry ≡ 0). subst (IsNotOwn vid) (sym none) (no_hole vid id))
+          (λ (of : IsNotOwn vid entry). of)) (table_in ids header.spec bytes) kept;
+    }
+
+module _ (script : List Statement) (range : RunsAreInRange script) (events : List Event) (start : MomentWithPast)
+    (ran : run_with_past script events ≡ Some start) (on : SteppingNode) (is : IsStepping script start.world on)
+    (by : StepsByChanges on.cause) (so_far : StepState) (leads : LeadsInStep on (first_in_step on) so_far)
+    (trail : MomentTrail script start (moment_in_step script on start so_far)) where
+  abbrev here : MomentWithPast
+  here = moment_in_step script on start so_far
+
+  abbrev input : Input
+  input = input_of_cause on.cause
+
+  abbrev node : Node
+  node = on.host.node
+
+  abbrev known : List Effect
+  known = effects_after (input_of_cause on.cause) on.host.node
+
+  abbrev Names : ObjWork → Type 0
+  Names =
+      NamesWhatIsMade (log_effects (moment_in_step script on start so_far).world.log) no_id
+      (moment_in_step script on start so_far).past.attempts so_far.node.peer.epoch
+
+  on_known : IsKnownSoFar known (length so_far.outputs.sends) so_far
+  on_known = (
+    (knows_well script range events start ran on is by so_far leads trail).on_known,
+    record {
+      few = omega arith;
+      sent = λ k d within. tt;
+      to_put = λ k d within. tt;
+    },
+  )
+
+  no_entry : (work : ObjWork) → HasNone work → Names work
+  no_entry work none = names_none (log_effects here.world.log) no_id here.past.attempts so_far.node.peer.epoch work none
+
+  names_inode : (inode : Content) → NamesNoOwn inode → Names (create_inode inode)
+  names_inode inode names = record {
+    each = λ vid index has good some. absurd (cc (good));
+    own = λ vid index has is_vid says.
+        let object : inode_number inode.vid ≡ inode_number vid = has.object in
+        let same : inode.vid ≡ vid = omega (arith, object) in
+        let id : IsVid inode.vid = subst IsVid (sym same) is_vid in
+        let none : 0 ≢ inode.vid = (no_hole inode.vid id).1 in
+        absurd (created_entry (λ (entry : ℕ). entry ≢ inode.vid) none inode index id names.head names.entries (says ∙ sym same));
+  }
+
+  module _ (session req : ℕ) (inode : Content) where
+    abbrev work : ObjWork
+    work = create_inode inode
+
+    of_task : (op : Op) (bytes : List ℕ) (made : Content)
+        → tree.get so_far.node.requests req ≡ Some (record { session = session; course = Commanding op })
+        → IsOfTask op bytes made → NamesNoOwn made
+    of_task op bytes made there (Tagged vid old at) =
+        let sound = subst IsSoundStage at ((knows_well script range events start ran on is by so_far leads trail).sound.courses req
+        (record { session = session; course = Commanding op }) there) in
+        let taken = subst (IsTabledStage known) at ((knows_tables script range events start ran on is by so_far leads trail).courses req
+        (record { session = session; course = Commanding op }) there) in
+        record {
+          head = header_length made (unread_zeros made) (blank_fills made sound.1 sound.2);
+          entries = λ k d within. (sound.0.ids.entries k d within, taken.1 k d within);
+        }
+    of_task op bytes made there (Copied vid ids header at same) =
+        let sound = subst IsSoundStage at ((knows_well script range events start ran on is by so_far leads trail).sound.courses req
+        (record { session = session; course = Commanding op }) there) in
+        let others = subst (IsTabledStage known) at ((knows_tables script range events start ran on is by so_far leads trail).courses req
+        (record { session = session; course = Commanding op }) there) in
+        subst NamesNoOwn (sym same) (copy_names header vid.0 ids bytes sound.0 sound.1 others)
+
+    decided : (op : Op) → effects_of so_far.node.peer ≡ known
+        → IsOfDecision (effects_of so_far.node.peer) (inode_open (session_in session so_far).disk) op work → Names work
+    decided op read (ReadsIt vid spec same) = absurd (cc (same))
+    decided op read (CreatesIt vid header there same) =
+        let sound = knows_headers script range events start ran on is by so_far leads trail vid.0 header
+        (ap (λ (effects : List Effect). header_of effects vid.0) (sym read) ∙ there) in
+        subst Names (sym same) (names_inode (inode_by header vid.0 (holes header.spec)) (new_names header vid.0 sound.id sound.of_inode))
+    decided op read (TagsIt old from number name tag opened at same) = absurd (cc (same))
+
+    steps_name : (next : Outcome) (moved : StepState) → RequestSteps input node so_far session req next moved → next ≡ ToWork work
+        → ((driver : Driver) → tree.get moved.node.requests req ≢ Some (record { session = session; course = Driving driver })) → Names work
+    steps_name next moved (DiskBegins ask disk there at may) to apart =
+        absurd (apart (begin_driver disk ask).driver
+        (get-insert_same so_far.node.requests req (record { session = session; course = Driving (begin_driver disk ask).driver })))
+    steps_name next moved (DiskGoesOn number done attempt status bytes driver disk step ends at goes) to apart =
+        absurd (apart step.driver
+        (get-insert_same so_far.node.requests req (record { session = session; course = Driving step.driver })))
+    steps_name next moved (CommandBegins ask step arrival goes) to apart =
+        absurd (begins_with_entry so_far.node.me session ask (inode_open (session_in session so_far).disk) step goes work
+        (command_act step.act work to))
+    steps_name next moved (CommandGoesOn number done attempt status bytes op step ends goes) to apart = ⊎_elim
+        (λ (creates : (made : Content) × (work ≡ create_inode made) × IsOfTask op bytes made).
+        subst Names (sym creates.1) (names_inode creates.0 (of_task op bytes creates.0 ends.ends.request creates.2)))
+        (λ (writes : (vid : Vid) × (ids : List ℕ) × (header : Header) × (op.stage ≡ Working vid (Opening false ids header))
+        × (work ≡ write_back (inode_by header vid.0 (table_in ids header.spec bytes)) bytes)).
+        let same = writes.4 in absurd (cc (same)))
+        (done_work None op step work (command_act step.act work to) bytes goes)
+    steps_name next moved (CommandDecided entry op step from read there waits goes) to apart =
+        decided op (ap effects_of read ∙ knows_read script range events start ran on is by so_far leads trail entry from)
+        (decided_work (inode_open (session_in session so_far).disk) op step work (command_act step.act work to)
+        (effects_of so_far.node.peer) (decision_on entry node.peer) goes)
+    steps_name next moved (CheckBegins opened arrival at) to apart =
+        no_entry work (check_begins_none opened work (check_act (begin_check opened).act work to))
+    steps_name next moved (CheckGoesOn number done attempt status bytes check step ends goes) to apart =
+        let of_known = course_valid (known_validity known) AnySent session req (Checking check) so_far ends.ends.request on_known in
+        no_entry work (check_goes_none bytes check step work goes (check_act step.act work to) of_known.disk.id of_known.within)
+    steps_name next moved (ObjectBegins one arrival) to apart =
+        absurd (no_object script start.world on.n on.host on.cause is.caused req session one arrival.from)
+    steps_name next moved (ObjectIsDone number done attempt status bytes one ends) to apart = absurd (cc (to))
+    steps_name next moved (EntryBegins entry arrival) to apart = absurd (cc (to))
+    steps_name next moved (EntryDecided entry awaited from read there waits) to apart = absurd (cc (to))
+
+-- ---- every moment in the middle of a step
+
+pub inodes_name : (script : List Statement) → RunsAreInRange script → (events : List Event) (start before : MomentWithPast)
+    → run_with_past script events ≡ Some start → MomentTrail script start before → NewInodesNameWhatIsMade script no_id start before
+inodes_name script range events start before ran trail =
+    λ on so_far is by leads same session req inode moved steps apart.
+    subst (λ (m : MomentWithPast). NamesWhatIsMade (log_effects m.world.log) no_id m.past.attempts so_far.node.peer.epoch
+    (create_inode inode)) (sym same)
+    (steps_name script range events start ran on is by so_far leads (subst (MomentTrail script start) same trail) session req inode
+    (ToWork (create_inode inode)) moved steps refl apart)
