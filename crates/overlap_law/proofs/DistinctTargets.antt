@@ -28,7 +28,7 @@ abbrev pub AreDifferent : List NodeId → Type 0
 AreDifferent nodes = AllPairs (λ (a b : NodeId). a ≢ b) nodes
 
 -- those behind the first aren't either
-different_behind : (first : NodeId) (nodes : List NodeId) → AreDifferent (first ∷ nodes) → AreDifferent nodes
+pub different_behind : (first : NodeId) (nodes : List NodeId) → AreDifferent (first ∷ nodes) → AreDifferent nodes
 different_behind first nodes are i j d before within = are (suc i) (suc j) d (omega (arith, before)) (omega (arith, within))
 
 -- nor is the first one of them
@@ -80,7 +80,7 @@ weighted log epoch is begun =
       weights = IsLog-weights log epoch is begun;
     }
 
-different_targets : (log : List Entry) (epoch oid : ℕ) (policy : Policy) → IsLog log → epoch ≤ epoch_of log
+pub different_targets : (log : List Entry) (epoch oid : ℕ) (policy : Policy) → IsLog log → epoch ≤ epoch_of log
     → AreDifferent (targets_by log epoch oid policy)
 unfolding targets_by
 different_targets log epoch oid policy is begun =

@@ -525,3 +525,4 @@ pub mod PiecesOfRows
 pub mod DoneReads
 pub mod CreatedEntries
 pub mod NewInodes
+pub mod FewLosses

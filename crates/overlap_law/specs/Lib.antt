@@ -65,3 +65,4 @@ pub mod FirstCreates
 pub mod ToldPieces
 pub mod ToldReads
 pub mod NamedWorks
+pub mod FewLosses

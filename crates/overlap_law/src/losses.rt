@@ -1,0 +1,20 @@
+//! Laws of losses: how few of them leave what the headline asks for.
+ghost use Rattle.std.specs.Prelude.{ℕ, ◌≤◌, Bool, List, IsTrue};
+ghost use Rattle.object_id.specs.declared.node.NodeId.{NodeId};
+ghost use Rattle.object_id.specs.declared.entry.Entry.{Entry};
+ghost use Rattle.object_id.specs.declared.policy.Policy.{Policy};
+ghost use Rattle.epoch_log.specs.Appending.{IsLog};
+ghost use Rattle.epoch_log.specs.Epochs.{epoch_of};
+ghost use Rattle.overlap_law.specs.Attempts.{AttemptRecord};
+ghost use Rattle.overlap_law.specs.FewLosses.{LossesAreFew, LossesStayFew};
+ghost use Rattle.overlap_law.specs.Holders.{is_kept_in, is_available};
+
+/// On a large enough cluster few losses leave enough live holders. An object is kept in an epoch, if the epoch's members stand in as many
+/// zones as the object has copies or strips, and at most one less than there are copies, or as many as there are parity strips, of them don't
+/// count for the epoch. So it is available, if that is so of each epoch since its birth, or since the settled one, if that is later.
+pub fn few_losses_leave_enough_live_holders()
+    ensures kept { (counts : NodeId → ℕ → Bool) (log : List Entry) (oid : ℕ) (policy : Policy) (epoch : ℕ) → IsLog log
+        → epoch ≤ epoch_of log → LossesAreFew counts log oid policy epoch → IsTrue (is_kept_in counts log oid policy epoch) }
+    ensures available { (counts : NodeId → ℕ → Bool) (log : List Entry) (attempts : List AttemptRecord) (oid : ℕ) → IsLog log
+        → LossesStayFew counts log attempts oid → IsTrue (is_available counts log attempts oid) }
+{}
