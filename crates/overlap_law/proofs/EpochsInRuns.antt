@@ -68,7 +68,7 @@ has_read log node front follows = record {
 -- ---- every world, and every run
 
 module _ (script : List Statement) (range : RunsAreInRange script) (world : World) (began : Began script world) where
-  up_are_members : TheUpAreMembers world.log world.hosts
+  pub up_are_members : TheUpAreMembers world.log world.hosts
   up_are_members = record { each = λ n host there up. ((log-holds script range.is_script range.room world began).well n host there).stands up }
 
   have_read : NodesHaveRead world.log world.hosts

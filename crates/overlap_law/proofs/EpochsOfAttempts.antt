@@ -89,7 +89,7 @@ module _ (script : List Statement) (range : RunsAreInRange script) where
 
   module _ (start : MomentWithPast) (began : Began script start.world) where
     -- nor in the middle of its step
-    behind_so_far : (stepping : SteppingNode) (so_far next : StepState) → IsStepping script start.world stepping → StepsByChanges stepping.cause
+    pub behind_so_far : (stepping : SteppingNode) (so_far next : StepState) → IsStepping script start.world stepping → StepsByChanges stepping.cause
         → IsWithinStep stepping so_far next → next.node.peer.epoch ≤ epoch_of (log_after_cause stepping.cause start.world.log)
     behind_so_far stepping so_far next is by within =
         let made = world_after_cause script stepping.n stepping.host stepping.cause start.world in

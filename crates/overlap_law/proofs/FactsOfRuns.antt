@@ -18,6 +18,7 @@ use Rattle.overlap_law.specs.Past.{MomentWithPast, counts, run_with_past}
 use Rattle.overlap_law.specs.Tables.{OwnEntriesAreMade}
 use Rattle.overlap_law.proofs.CarriedRows.{rows-in_run, searches-in_run}
 use Rattle.overlap_law.proofs.ContentsOfRows.{contents}
+use Rattle.overlap_law.proofs.EarlyAttempts.{early_in_run}
 use Rattle.overlap_law.proofs.FencedGateways.{lost_gateways}
 use Rattle.overlap_law.proofs.GoneInRuns.{all_fenced}
 use Rattle.overlap_law.proofs.EntriesOfInodes.{entries_named}
@@ -40,6 +41,7 @@ module _ (script : List Statement) (range : RunsAreInRange script) (events : Lis
   gateways-in_run =
       lost_gateways so_far.tied so_far.wire.from_past so_far.wire.fenced
       (all_fenced script range moment.world (began-with_past script events moment is)) so_far.writers.one_writer
+      (early_in_run script range events moment is)
 
   module _ (first : CreatesAlwaysComeFirst script) where
     pub contents-in_run : EachGood moment.world moment.past (RowContents moment.world.hosts)

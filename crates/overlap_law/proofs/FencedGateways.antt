@@ -13,6 +13,8 @@ use Rattle.vdi_directory.specs.Decisions.{log_effects}
 use Rattle.overlap_law.specs.Attempts.{MessageFate, Flying, Served, Doomed, AttemptRecord, object_of}
 use Rattle.overlap_law.specs.Facts.{is_flying, flies, LostGatewaysAreFenced}
 use Rattle.overlap_law.specs.Flight.{RequestsAreOfThePast, TheGoneAreFenced}
+use Rattle.overlap_law.specs.Each.{EachAttempt}
+use Rattle.overlap_law.proofs.GrantsAfterLeaves.{held_at_the_leave}
 use Rattle.overlap_law.specs.Grants.{leave_of, writer_of, granted_in}
 use Rattle.overlap_law.specs.Packets.{Wire, IsQuiet, IsAsking, message_name_at, message_request_at, is_name_in_wire}
 use Rattle.overlap_law.specs.TiedAttempts.{AttemptsAreTied}
@@ -88,9 +90,13 @@ module _ {log : List Entry} {hosts : Hosts} {wire : Wire} {attempts : List Attem
               let most = off.granted_later in
               omega (arith, same, bound, most)
 
-  pub lost_gateways : LostGatewaysAreFenced log hosts wire attempts
-  lost_gateways = record {
+  pub lost_gateways : EachAttempt attempts (λ j attempt. (left : ℕ) → leave_of log attempt.gateway.0 attempt.incarnation ≡ Some left
+      → attempt.epoch < left)
+      → LostGatewaysAreFenced log hosts wire attempts
+  lost_gateways before_leave = record {
     messages = gone-fenced log hosts wire fenced;
+    early = before_leave;
+    held = held_at_the_leave log;
     grants = λ j attempt there left holder flying leave may. granted j attempt there flying left leave holder may;
     later = λ j attempt there k other at left holder flying leave may under.
         let one = early j attempt there flying left leave in

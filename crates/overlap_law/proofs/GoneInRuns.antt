@@ -100,7 +100,7 @@ fenced_still log later n host same is = record {
 }
 
 -- a member hasn't left in its present incarnation
-not_left : {P : Type 0} (log : List Entry) (n incarnation left : ℕ) → IsCounted log n incarnation → is_member_now log n ≡ true
+pub not_left : {P : Type 0} (log : List Entry) (n incarnation left : ℕ) → IsCounted log n incarnation → is_member_now log n ≡ true
     → leave_of log n incarnation ≡ Some left → P
 not_left log n incarnation left is member leaves =
     let count : length (leaves_of log n) + 1 ≡ incarnation = is.member member in
@@ -133,7 +133,7 @@ one_fenced log later hosts k new same own all = record {
 }
 
 -- who is up isn't lost
-up_so : (host : Host) → is_host_up host ≡ true → host.is_lost ≡ false
+pub up_so : (host : Host) → is_host_up host ≡ true → host.is_lost ≡ false
 up_so host up = not-true host.is_lost (and_parts (not host.is_lost) (has_numbers host.node) up).0
 
 same_itself : (log : List Entry) (n : ℕ) → IsSame log log n

@@ -60,18 +60,18 @@ left_by_parts vid node all held writer own = by_found (find (is_on vid) (filter 
         let gone = ap not (eq-eqb reservation.by.0 node.0 at) in
         cc (gone, stays)
 
-left_loses : (before : List Effect) (vid : ℕ) (node : NodeId) (writer : Holder) → writer.node.0 ≡ node.0
+pub left_loses : (before : List Effect) (vid : ℕ) (node : NodeId) (writer : Holder) → writer.node.0 ≡ node.0
     → writer_of (before ++ effects.Left node ∷ []) vid ≡ Some writer → ⊥
 left_loses before vid node writer own is =
     left_by_parts vid node (reservations_of before) (holder_of before vid) writer own
     (sym (writer-after before (effects.Left node) vid) ∙ is)
 
 -- an effect that is a leave
-record IsLeave (node epoch found : ℕ) (effect : Effect) : Type 0 where
-  other : NodeId
-  is : effect ≡ effects.Left other
-  own : other.0 ≡ node
-  newest : found ≡ epoch
+pub record IsLeave (node epoch found : ℕ) (effect : Effect) : Type 0 where
+  pub other : NodeId
+  pub is : effect ≡ effects.Left other
+  pub own : other.0 ≡ node
+  pub newest : found ≡ epoch
 
 is_leave : (node epoch found : ℕ) (effect : Effect) → leave_epoch_of node epoch effect ≡ Some found → IsLeave node epoch found effect
 is_leave node epoch found effects.Nothing is = absurd (cc (is))
@@ -107,7 +107,7 @@ module _ (log : List Entry) (entry : Entry) where
   does = (outcome (log_effects log) entry).effect
 
   -- a leave was there, or the entry is it
-  leave_either : (node incarnation left : ℕ) → leave_of longer node incarnation ≡ Some left
+  pub leave_either : (node incarnation left : ℕ) → leave_of longer node incarnation ≡ Some left
       → (leave_of log node incarnation ≡ Some left) ⊎ IsLeave node (epoch_of longer) left does
   leave_either node incarnation left is =
       by_place (got_either (leaves_of log node)

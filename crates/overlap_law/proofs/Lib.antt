@@ -526,3 +526,5 @@ pub mod DoneReads
 pub mod CreatedEntries
 pub mod NewInodes
 pub mod FewLosses
+pub mod EarlyAttempts
+pub mod GrantsAfterLeaves

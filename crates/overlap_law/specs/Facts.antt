@@ -1,15 +1,16 @@
 -- The other facts on which the overlap of epochs rests: holders and lists, lost gateways, and entries; and all six together.
-use Rattle.std.specs.Prelude.{◌≡◌, ℕ, ◌+◌, ◌*◌, ◌==◌, ◌<◌, ◌≤◌, max, Bool, true, false, ◌&&◌, List, [], ◌++◌, All, Some, Ok}
+use Rattle.std.specs.Prelude.{◌≡◌, ℕ, ◌+◌, ◌*◌, ◌==◌, ◌<◌, ◌≤◌, max, Bool, true, false, ◌&&◌, List, [], ◌∷◌, ◌++◌, All, Some, Ok}
 use Rattle.std.specs.List.{find, list_any}
 use Rattle.std.specs.Option.{option_map_or}
 use Rattle.std.specs.FinMap as tree
 use Rattle.object_id.specs.declared.limits.TheConstants.{OBJECTS_MAX}
 use Rattle.object_id.specs.declared.node.NodeId.{NodeId}
 use Rattle.object_id.specs.declared.entry.Entry.{Entry}
+use Rattle.object_id.specs.declared.entry.Entry.TheVariants.{Leave}
 use Rattle.object_id.specs.Fields.{u32_at}
 use Rattle.object_id.specs.Oid.{IsVid, kind_of, vid_of, inode_number, object_number}
 use Rattle.disk_lock.specs.declared.holder.Holder.{Holder}
-use Rattle.epoch_log.specs.Epochs.{settled_of}
+use Rattle.epoch_log.specs.Epochs.{epoch_of, settled_of}
 use Rattle.vdi_directory.specs.Decisions.{log_effects}
 use Rattle.inode.specs.declared.layout.TheConstants.{INODE_HEADER_BYTES}
 use Rattle.peer_proto.specs.declared.ask.PeerReq.{PeerReq}
@@ -71,14 +72,24 @@ pub record IsUnderGrant (log : List Entry) (vid : ℕ) (holder : Holder) (attemp
   pub session : attempt.session ≡ holder.session
   pub since : granted_in log vid ≤ attempt.epoch
 
--- Lost gateways are fenced. The messages of a lost gateway are of epochs below that of its `Leave`; where one of them is still
--- on its way, the disk is granted next after that entry, and every attempt under that grant is of a later epoch
+-- an id that a session of a node might write as the node left is a session's again only by a grant of the leave's epoch or a later one
+abbrev pub HeldAtTheLeave : List Entry → Type 0
+HeldAtTheLeave log = (front rest : List Entry) (node : NodeId) (vid : ℕ) (holder writer : Holder)
+    → log ≡ (front ++ Leave node ∷ []) ++ rest → writer_of (log_effects front) vid ≡ Some holder → holder.node.0 ≡ node.0
+    → writer_of (log_effects log) vid ≡ Some writer → epoch_of (front ++ Leave node ∷ []) ≤ granted_in log vid
+
+-- Lost gateways are fenced. The attempts of a lost gateway, and its messages, are of epochs below that of its `Leave`; where one of the
+-- messages is still on its way, the disk is granted next after that entry, and every attempt under that grant is of a later epoch. And so is each disk
+-- that a session of it might write as it left
 pub record LostGatewaysAreFenced (log : List Entry) (hosts : Hosts) (wire : tree.FinMap name_cmp Packet) (attempts : List AttemptRecord) :
     Type 0 where
   pub messages : EachHost hosts (λ n host. (epoch : ℕ) (name : MessageName) (to : NodeId) (bytes : List ℕ) (request : PeerReq)
       → host.is_lost ≡ true → leave_of log n host.incarnation ≡ Some epoch → name.sender.0 ≡ n → tree.get wire name
       ≡ Some (Request to bytes)
       → ask_in bytes ≡ Ok request → request.epoch.0 < epoch)
+  pub early : EachAttempt attempts (λ j attempt. (epoch : ℕ) → leave_of log attempt.gateway.0 attempt.incarnation ≡ Some epoch
+      → attempt.epoch < epoch)
+  pub held : HeldAtTheLeave log
   pub grants : EachAttempt attempts (λ j attempt. (epoch : ℕ) (holder : Holder) → flies attempt ≡ true
       → leave_of log attempt.gateway.0 attempt.incarnation ≡ Some epoch → writer_of (log_effects log) (vid_of (object_of attempt))
       ≡ Some holder

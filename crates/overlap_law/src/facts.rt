@@ -40,8 +40,9 @@ pub fn lists_have_all_bases()
         → EachGood moment.world moment.past (CompleteLists moment.past.listed moment.world.hosts) }
 {}
 
-/// In every run in range lost gateways are fenced: a message of one that still flies is of an epoch before that of its `Leave`, and so is
-/// its attempt; and where the disk has a writer, the grant is of the leave's epoch or a later one.
+/// In every run in range lost gateways are fenced: each attempt of an incarnation that left, made or not, is of an epoch before that of its
+/// `Leave`, and so is each message that still flies; and where one does and the disk has a writer, the grant is of the leave's epoch or a
+/// later one. And so is the grant of who may write an id now that a session of the node might write as it left.
 pub fn lost_gateways_are_fenced()
     ensures { (script : List Statement) → RunsAreInRange script → (events : List Event) (moment : MomentWithPast)
         → run_with_past script events ≡ Some moment
