@@ -19,7 +19,6 @@ use Rattle.vdi_directory.specs.Decisions.{log_effects}
 use Rattle.peer_proto.specs.Work.{policy_of}
 use Rattle.sheep_node.specs.declared.event.Event.{Event}
 use Rattle.sheep_world.specs.World.{Host, World}
-use Rattle.sheep_world.specs.NodeCauses.{event_of_cause}
 use Rattle.sheep_world.specs.Step.{EventOutcome}
 use Rattle.sheep_world.specs.Incarnations.{EndedIncarnation, incarnation_in, is_incarnation_kept}
 use Rattle.overlap_law.specs.Attempts.{AttemptRecord, object_of, attempts_on}
@@ -31,9 +30,8 @@ use Rattle.overlap_law.specs.NodeEpochs.{TheUpAreMembers}
 use Rattle.overlap_law.specs.ShapedAttempts.{AreShaped}
 use Rattle.overlap_law.specs.Rows.{common}
 use Rattle.overlap_law.specs.HeldLevels.{NewestHasTargets, NoneIsBeforeBirth}
-use Rattle.overlap_law.specs.StepMoments.{outcome_in_step, first_in_step, last_in_step}
-use Rattle.overlap_law.specs.MomentChanges as moments
 use Rattle.overlap_law.specs.MomentChanges.{MomentChange, MomentTrail, RunsAreInRange}
+use Rattle.overlap_law.proofs.EventsOfChanges.{behind_change}
 use Rattle.overlap_law.proofs.FinishedInMoments.{TermsHold, kept_terms}
 use Rattle.overlap_law.proofs.OverlapLemmas.{filter-passed}
 use Rattle.overlap_law.proofs.NoRecoveredDue.{began-with_past}
@@ -241,20 +239,7 @@ after_event script event start made oid is =
     (counts (moment_after script event start made).past.ended made.world) start.past.unavailable oid is
 
 pub available_now : (script : List Statement) {start before after : MomentWithPast} → MomentChange script start before after → IsAvailableNow after
-available_now script {start} (moments.StepBegins stepping is by) =
-    after_event script (event_of_cause stepping.n stepping.cause) start (outcome_in_step script stepping start.world (first_in_step stepping))
-available_now script {start} (moments.StepGoesOn stepping so_far next is by within) =
-    after_event script (event_of_cause stepping.n stepping.cause) start (outcome_in_step script stepping start.world next)
-available_now script {start} (moments.StepIsMade stepping is by) =
-    after_event script (event_of_cause stepping.n stepping.cause) start (outcome_in_step script stepping start.world (last_in_step stepping))
-available_now script {start} (moments.LossIsUntold event made happened h) = after_event script event start made
-available_now script {start} (moments.DeliveryIsUnread event made happened h) = after_event script event start made
-available_now script {start} (moments.NodeIsLost event made happened h) = after_event script event start made
-available_now script {start} (moments.NodeLeaves event made happened h) = after_event script event start made
-available_now script {start} (moments.NodeIsReweighted event made happened h) = after_event script event start made
-available_now script {start} (moments.NodeJoins event made happened h) = after_event script event start made
-available_now script {start} (moments.NodeComesBack event made happened h) = after_event script event start made
-available_now script {start} (moments.PhaseEnds event made happened h) = after_event script event start made
+available_now script {start} change = behind_change script start IsAvailableNow (λ event made. after_event script event start made) change
 
 module _ (script : List Statement) (range : RunsAreInRange script) (events : List Event) (start before after : MomentWithPast)
     (is : run_with_past script events ≡ Some start) (trail : MomentTrail script start before) (change : MomentChange script start before after) where

@@ -1,14 +1,12 @@
 -- The rows and recoveries of good objects over events: what each change keeps of them together, by the test for good objects of the moment at
 -- which the event ends, so that they hold in every run in range in which a made create comes before each write of its object.
-use Rattle.std.proofs.Common.{◌≡◌, ℕ, Bool, true, false, not, List, [], ◌∷◌, ◌++◌, Some, option_map, refl, sym, ap, ◌∙◌, append-nil, append_assoc}
+use Rattle.std.proofs.Common.{◌≡◌, ℕ, Bool, true, false, not, List, [], ◌++◌, Some, sym, ap, ◌∙◌, append-nil, append_assoc}
 use Rattle.std.proofs.lemmas.Bool.{and_parts}
 use Rattle.object_id.specs.declared.entry.Entry.{Entry}
 use Rattle.object_id.specs.Oid.{vid_of}
 use Rattle.vdi_directory.specs.Decisions.{log_effects}
 use Rattle.cluster_script.specs.declared.statement.Statement.{Statement}
 use Rattle.sheep_node.specs.declared.event.Event.{Event}
-use Rattle.sheep_world.specs.Began.{Began}
-use Rattle.sheep_world.specs.Step.{EventOutcome, step}
 use Rattle.overlap_law.specs.BornObjects.{IsBorn}
 use Rattle.overlap_law.specs.Fates.{CreatesComeFirst}
 use Rattle.overlap_law.specs.Groups.{RowsAreKept, SearchesAreKept}
@@ -16,7 +14,7 @@ use Rattle.overlap_law.specs.Holders.{is_object_among, targets_by, is_live_objec
 use Rattle.overlap_law.specs.KeptSoFar.{IsKeptSoFar}
 use Rattle.overlap_law.specs.Lists.{ListsAreComplete, WhatIsNotPendingIsThere}
 use Rattle.overlap_law.specs.MomentChanges.{MomentTrail, TrailLeft, IsOnTheWay, RunsAreInRange, Still, Then, AtEnd, Next}
-use Rattle.overlap_law.specs.Past.{MomentWithPast, first_moment, moment_after, next_moment, run_on, run_with_past}
+use Rattle.overlap_law.specs.Past.{MomentWithPast, first_moment, next_moment, run_with_past}
 use Rattle.overlap_law.specs.Rows.{RecoveredRowsAreKept, AttemptsAreCarried}
 use Rattle.overlap_law.specs.Searches.{ToldRowsAreSince, TheMadeIsNotMissing}
 use Rattle.overlap_law.specs.Since.{RowsAreSince}
@@ -25,6 +23,7 @@ use Rattle.overlap_law.proofs.EndTargets.{carried_to_the_end}
 use Rattle.overlap_law.proofs.EndTests.{speaks, lived, was_good}
 use Rattle.overlap_law.proofs.FewerObjects.{rows_of_fewer, searches_of_fewer}
 use Rattle.overlap_law.proofs.HeldLevels.{has_made}
+use Rattle.overlap_law.proofs.KeptInRuns.{kept_at_events}
 use Rattle.overlap_law.proofs.KeptSoFar.{kept_so_far}
 use Rattle.overlap_law.proofs.KeptTogether.{complete_after, nothing_missing, there_after, kept_rows_after}
 use Rattle.overlap_law.proofs.LevelsAskedInRuns.{levels_asked-on_the_way}
@@ -32,8 +31,6 @@ use Rattle.overlap_law.proofs.LogsInMoments.{log_grows}
 use Rattle.overlap_law.proofs.MomentTrails.{event_trail}
 use Rattle.overlap_law.proofs.OpeningOverlap.{overlap_opens}
 use Rattle.overlap_law.proofs.PassedInRuns.{passed-on_the_way}
-use Rattle.overlap_law.proofs.RunsByEvents.{run-kept_by_events}
-use Rattle.overlap_law.proofs.RunsWithOneMore.{run_with_one_more}
 use Rattle.overlap_law.proofs.SinceKept.{since_kept}
 use Rattle.overlap_law.proofs.StayingRows.{alive_before, not_dead}
 use Rattle.overlap_law.proofs.ToldSinceInRuns.{told_since-on_the_way}
@@ -50,7 +47,7 @@ pub record CarriesRows (good : ℕ → Bool) (moment : MomentWithPast) : Type 0 
   pub row_told_since : ToldRowsAreSince (log_effects moment.world.log) good moment.world.hosts moment.world.wire moment.past.attempts
   pub not_missing : TheMadeIsNotMissing good moment.world.hosts moment.past.attempts
 
-abbrev good_at : MomentWithPast → ℕ → Bool
+abbrev pub good_at : MomentWithPast → ℕ → Bool
 good_at moment = is_good moment.world.log moment.past.attempts moment.past.unavailable
 
 abbrev live_at : MomentWithPast → ℕ → Bool
@@ -58,7 +55,7 @@ live_at moment = is_live_object moment.world.log moment.past.attempts
 
 module _ (script : List Statement) where
   -- the log of a moment on the way goes on to that of the end
-  log_left : {start moment end : MomentWithPast} → TrailLeft script start moment end
+  pub log_left : {start moment end : MomentWithPast} → TrailLeft script start moment end
       → (rest : List Entry) × (end.world.log ≡ moment.world.log ++ rest)
   log_left {start} {moment} AtEnd = ([], sym (append-nil moment.world.log))
   log_left {start} {moment} (Next change left) =
@@ -199,39 +196,33 @@ module _ (script : List Statement) (range : RunsAreInRange script) where
 
     -- ---- in every run
 
-    abbrev HoldsInRun : MomentWithPast → Type 0
-    HoldsInRun moment = (events : List Event) × (run_with_past script events ≡ Some moment) × CarriesRows (good_at moment) moment
-
-    opens : HoldsInRun (first_moment script)
-    unfolding run_with_past run_on
+    opens : CarriesRows (good_at (first_moment script)) (first_moment script)
     opens =
-        let at_first = (overlap_opens script range).overlap in (
-          [],
-          refl,
-          record {
-            since = at_first.rows.since;
-            kept = at_first.rows.kept;
-            carried = at_first.rows.carried;
-            complete = at_first.searches.complete;
-            has = at_first.searches.has;
-            row_told_since = at_first.searches.row_told_since;
-            not_missing = at_first.searches.not_missing;
-          },
-        )
-
-    keeps : (event : Event) (before : MomentWithPast) (made : EventOutcome) → Began script before.world
-        → step script event before.world ≡ Some made → HoldsInRun before → HoldsInRun (moment_after script event before made)
-    keeps event before made began is holds =
-        let after : MomentWithPast = moment_after script event before made in
-        let next : next_moment script event before ≡ Some after = ap (option_map (moment_after script event before)) is in (
-          holds.0 ++ event ∷ [],
-          run_with_one_more script event made holds.0 before is holds.1,
-          event_keeps holds.0 event before after holds.1 next holds.2,
-        )
+        let at_first = (overlap_opens script range).overlap in
+        record {
+          since = at_first.rows.since;
+          kept = at_first.rows.kept;
+          carried = at_first.rows.carried;
+          complete = at_first.searches.complete;
+          has = at_first.searches.has;
+          row_told_since = at_first.searches.row_told_since;
+          not_missing = at_first.searches.not_missing;
+        }
 
     carried-in_run : (events : List Event) (moment : MomentWithPast) → run_with_past script events ≡ Some moment
         → CarriesRows (good_at moment) moment
-    carried-in_run events moment is = (run-kept_by_events script HoldsInRun opens keeps events moment is).2
+    carried-in_run =
+        kept_at_events script (λ (moment : MomentWithPast). CarriesRows (good_at moment) moment) opens
+        (λ events event start end run then happens carries. event_keeps events event start end run happens carries)
+
+    -- on the way of an event rows have what they owe, by the test of the end
+    pub since-on_the_way : (events : List Event) (event : Event) (start end : MomentWithPast) → run_with_past script events ≡ Some start
+        → next_moment script event start ≡ Some end → {moment : MomentWithPast} → MomentTrail script start moment
+        → TrailLeft script start moment end
+        → RowsAreSince (log_effects moment.world.log) (good_at end) moment.world.hosts moment.past.attempts
+    since-on_the_way events event start end run happens trail left =
+        (along events event start end run happens trail left
+        (begins events event start end run happens (carried-in_run events start run))).since
 
     pub rows-in_run : (events : List Event) (moment : MomentWithPast) → run_with_past script events ≡ Some moment
         → RowsAreKept (targets_by moment.world.log) moment.world.log (log_effects moment.world.log) (live_at moment) (good_at moment)

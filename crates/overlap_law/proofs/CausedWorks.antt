@@ -1,5 +1,5 @@
 -- As far as a step of a node has come, its works are those that its requests wait for, each with what its session may have open for it.
-use Rattle.std.proofs.Common.{◌≡◌, ℕ, true, List, All, Some, refl, subst, ap, ◌∙◌}
+use Rattle.std.proofs.Common.{◌≡◌, ◌≢◌, ℕ, true, List, All, Some, refl, subst, ap, ◌∙◌}
 use Rattle.std.specs.FinMap as tree
 use Rattle.std.proofs.lemmas.Bool.{and_parts}
 use Rattle.std.specs.Prelude.{nat_le}
@@ -129,6 +129,16 @@ by_changes (EntryIsPut entry) by = tt
 by_changes RecoveryTicks by = tt
 by_changes WorkIsRetried by = tt
 
+pub not_served : (cause : NodeCause) → IsNotServed cause → (request : PeerReq) → input_of_cause cause ≢ inputs.Request request
+not_served (GuestAsks session req ask) not request = λ same. absurd (cc (same))
+not_served (RequestComes name to served) not request = absurd not
+not_served (ReplyComes name from rsp) not request = λ same. absurd (cc (same))
+not_served (LossIsTold name packet) not request = λ same. absurd (cc (same))
+not_served (EntryIsRead entry) not request = λ same. absurd (cc (same))
+not_served (EntryIsPut entry) not request = λ same. absurd (cc (same))
+not_served RecoveryTicks not request = λ same. absurd (cc (same))
+not_served WorkIsRetried not request = λ same. absurd (cc (same))
+
 -- what checks have left is of the disks that are known
 pub few_from : (input : Input) (node : Node) → All IsReservable (read_after input node.peer.entries) → IsKnownInput (effects_after input node) input
     → AreOnKnown (effects_of node.peer) node → ChecksAreFew input node
@@ -166,7 +176,7 @@ module _ (script : List Statement) (range : RunsAreInRange script) where
       abbrev input : Input
       input = input_of_cause cause
 
-      known_then : (so_far : StepState) → Leads (input_of_cause cause) host.node (input_received (input_of_cause cause) (at_first host.node)) so_far
+      pub known_then : (so_far : StepState) → Leads (input_of_cause cause) host.node (input_received (input_of_cause cause) (at_first host.node)) so_far
           → AreOnKnown (effects_after (input_of_cause cause) host.node) so_far.node
       known_then so_far leads =
           (step_known input host.node (read_reservable script range world n host cause ended)
@@ -182,7 +192,7 @@ module _ (script : List Statement) (range : RunsAreInRange script) where
           → Leads (input_of_cause cause) host.node (input_received (input_of_cause cause) (at_first host.node)) so_far
           → AreOwnMakings so_far.node.gateway.works so_far.node.requests so_far.node.sessions
       own_then placed so_far leads =
-          (own_in_chain input host.node (sound_step script world n host cause so ready) few placed.1 so_far leads).1.1
+          own_in_chain input host.node (sound_step script world n host cause so ready) few placed.1 so_far leads
 
       allowed_then : IsPlaced host.node → IsNotServed cause → (so_far : StepState)
           → Leads (input_of_cause cause) host.node (input_received (input_of_cause cause) (at_first host.node)) so_far

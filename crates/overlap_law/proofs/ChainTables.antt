@@ -169,7 +169,7 @@ module _ (known : List Effect) where
 
     -- the entries of a disk are above an id that takes its place, and so none is that id
     module _ (old vid : ℕ) (parent : Vid) (from : parent_of known vid ≡ Some parent) (same : parent.0 ≡ old) where
-      above_then : (entry : ℕ) → IsInChain known old entry → is_above known entry vid ≡ true
+      pub above_then : (entry : ℕ) → IsInChain known old entry → is_above known entry vid ≡ true
       above_then entry of =
           above-line known chains.line entry vid ∙ ap (is_parent_or_above (is_above known) entry) from ∙ by_case of
         where
@@ -190,7 +190,7 @@ module _ (known : List Effect) where
           absurd (omega (arith, less, equal))
 
     -- which is of the disk's spec
-    spec_same : (vid : ℕ) (header : Header) (parent : Vid) (old : Content) → header_of known vid ≡ Some header
+    pub spec_same : (vid : ℕ) (header : Header) (parent : Vid) (old : Content) → header_of known vid ≡ Some header
         → parent_of known vid ≡ Some parent → parent.0 ≡ old.vid → IsKnownInode known old → old.spec ≡ header.spec
     spec_same vid header parent old there from same is =
         let own = chains.with_parent vid header parent there (ap header_parent (sym there) ∙ from) in

@@ -55,12 +55,13 @@ use Rattle.overlap_law.proofs.ClaimsInRuns.{claims-in_run}
 use Rattle.overlap_law.proofs.DriverEntries.{names_none}
 use Rattle.overlap_law.proofs.FrozenSnapshots.{working_lives}
 use Rattle.overlap_law.proofs.KnownDisks.{IsKnownInode, known_validity}
-use Rattle.overlap_law.proofs.KnownDiskSteps.{IsKnownSoFar, effects_after}
+use Rattle.overlap_law.proofs.KnownDiskSteps.{effects_after}
 use Rattle.overlap_law.proofs.OpeningReads.{knows_well}
 use Rattle.overlap_law.proofs.OtherWorks.{IsOfTask, HasNone, tag_none, read_none, begins_with_entry, IsOfDecision, ReadsIt, CreatesIt, TagsIt}
 use Rattle.overlap_law.proofs.OtherWorks.{decided_work}
 use Rattle.overlap_law.proofs.OtherWorks.{done_work, check_begins_none, check_goes_none}
 use Rattle.overlap_law.proofs.WrittenBack.{written_back_names}
+use Rattle.overlap_law.proofs.KnownDrivers.{on_known}
 
 pub command_act : (act : OpAct) (work : ObjWork) → outcome_of_command act ≡ ToWork work → act ≡ op_acts.Work work
 command_act (op_acts.Append entry) work is = absurd (cc (is))
@@ -113,16 +114,6 @@ module _ (script : List Statement) (range : RunsAreInRange script) (events : Lis
   no_entry : (work : ObjWork) → HasNone work → Names work
   no_entry work none = names_none (log_effects here.world.log) good_id here.past.attempts so_far.node.peer.epoch work none
 
-  on_known : IsKnownSoFar known (length so_far.outputs.sends) so_far
-  on_known = (
-    (knows_well script range events start ran on is by so_far leads trail).on_known,
-    record {
-      few = omega arith;
-      sent = λ k d within. tt;
-      to_put = λ k d within. tt;
-    },
-  )
-
   -- a disk that is being opened is held, so it isn't dead
   held_lives : (session req : ℕ) (op : Op) (vid : Vid) (ids : List ℕ) (header : Header)
       → tree.get so_far.node.requests req ≡ Some (record { session = session; course = Commanding op })
@@ -157,7 +148,7 @@ module _ (script : List Statement) (range : RunsAreInRange script) (events : Lis
     decided op there next moved steps to apart (TagsIt inode from number name tag opened at same) =
         let known_inode : IsKnownInode known inode
         = subst (λ (o : Option Content). IfSome o (IsKnownInode known)) opened
-        (inode_valid (known_validity known) AnySent session so_far on_known) in
+        (inode_valid (known_validity known) AnySent session so_far (on_known script range events start ran on is by so_far leads trail)) in
         let sound = subst IsSoundStage at ((knows_well script range events start ran on is by so_far leads trail).sound.courses req
         (record { session = session; course = Commanding op }) there) in
         let short = (field_text tag sound).0 in
@@ -200,7 +191,8 @@ module _ (script : List Statement) (range : RunsAreInRange script) (events : Lis
     other_named next moved (CheckBegins inode arrival at) to apart =
         no_entry work (check_begins_none inode work (check_act (begin_check inode).act work to))
     other_named next moved (CheckGoesOn number done attempt status bytes check step ends goes) to apart =
-        let of_known = course_valid (known_validity known) AnySent session req (Checking check) so_far ends.ends.request on_known in
+        let of_known = course_valid (known_validity known) AnySent session req (Checking check) so_far ends.ends.request
+        (on_known script range events start ran on is by so_far leads trail) in
         no_entry work (check_goes_none bytes check step work goes (check_act step.act work to) of_known.disk.id of_known.within)
     other_named next moved (ObjectBegins one arrival) to apart =
         absurd (no_object script start.world on.n on.host on.cause is.caused req session one arrival.from)

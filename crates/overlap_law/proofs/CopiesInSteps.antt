@@ -46,7 +46,8 @@ use Rattle.overlap_law.specs.RowsInRange.{CreatesAsRowsAre}
 use Rattle.overlap_law.specs.Since.{IsOfAttempts, IsCopyOfAttempts}
 use Rattle.overlap_law.specs.Traffic.{asks_making}
 use Rattle.overlap_law.specs.Units.{unit_end, covers_unit, row_bytes_at, bytes_by, unit_part_by}
-use Rattle.overlap_law.proofs.CopyUnits.{whole_part, key_asked, GoesByUnits, HasUnitOf, made-of, written-of, filter-there}
+use Rattle.overlap_law.proofs.CopyUnits.{whole_part, key_asked, GoesByUnits, HasUnitOf, made-of, written-of}
+use Rattle.overlap_law.proofs.FilteredOrder.{filter-there}
 use Rattle.overlap_law.proofs.RowKeeping.{TellsOf, KeepsEachRow}
 use Rattle.overlap_law.proofs.FoundCopies.{found-rows, part-of_copy}
 use Rattle.overlap_law.proofs.OverlapLemmas.{filter-passed}

@@ -1,8 +1,7 @@
 -- The units of a copy are of attempts: of a row that a create makes, or that a write goes over, and of one that a recovery finds.
-use Rattle.std.proofs.Common.{◌≡◌, ◌⊎◌, inl, inr, ⊎_elim, arith, ℕ, zero, suc, ◌+◌, ◌-◌, ◌≤◌, nat_le, Bool, true, false, cond, List, [], ◌∷◌, ◌&&◌, length, filter, take, drop, slice_get, Some, refl, sym, ap, subst, ◌∙◌}
+use Rattle.std.proofs.Common.{◌≡◌, ◌⊎◌, inl, inr, ⊎_elim, arith, ℕ, ◌+◌, ◌-◌, ◌≤◌, nat_le, Bool, true, false, List, [], ◌&&◌, length, take, drop, refl, sym, ap, subst, ◌∙◌}
 use Rattle.std.proofs.lemmas.Bool.{le-leb}
 use Rattle.std.proofs.lemmas.List.{length-replicate}
-use Rattle.std.proofs.lemmas.Option.{same_Some}
 use Rattle.object_id.specs.declared.oid.Kind.{Kind}
 use Rattle.object_id.specs.declared.oid.Kind.TheVariants.{Block, Inode}
 use Rattle.object_id.specs.declared.policy.Policy.{Policy}
@@ -19,7 +18,6 @@ use Rattle.peer_proto.specs.declared.work.ObjWork.{ObjWork}
 use Rattle.peer_proto.specs.declared.work.ObjWork.TheVariants as works
 use Rattle.peer_proto.specs.Work.{oid_of, policy_of}
 use Rattle.gateway.specs.Work.{ask_for}
-use Rattle.overlap_law.specs.Attempts.{AttemptRecord}
 use Rattle.overlap_law.specs.Units.{unit_start, unit_size, unit_end, row_bytes_at, covers_by, unit_part_by}
 use Rattle.overlap_law.proofs.UnitPieces.{piece-inside, piece-beside, unit-among}
 
@@ -201,20 +199,3 @@ written-of (works.Write oid policy offset piece) index whole units key o b asked
     })
 written-of (works.Read oid policy offset size) index whole units key o b asked = absurd (cc (asked))
 written-of (works.ReadAll oid policy size) index whole units key o b asked = absurd (cc (asked))
-
--- ---- attempts on an object
-
--- what a test lets through stands among what it lets through
-pub filter-there : (passes : AttemptRecord → Bool) (attempts : List AttemptRecord) (j : ℕ) (found : AttemptRecord)
-    → slice_get attempts j ≡ Some found → passes found ≡ true → (k : ℕ) × (slice_get (filter passes attempts) k ≡ Some found)
-filter-there passes [] j found got passed = absurd (cc (got))
-filter-there passes (attempt ∷ attempts) zero found got passed =
-    let first : passes attempt ≡ true = ap passes (same_Some attempt found got) ∙ passed in
-    (0, ap (λ (b : Bool). slice_get (cond b (attempt ∷ filter passes attempts) (filter passes attempts)) 0) first ∙ got)
-filter-there passes (attempt ∷ attempts) (suc j) found got passed =
-    by_test (passes attempt) refl (filter-there passes attempts j found got passed)
-  where
-    by_test : (b : Bool) → passes attempt ≡ b → ((k : ℕ) × (slice_get (filter passes attempts) k ≡ Some found))
-        → (k : ℕ) × (slice_get (cond b (attempt ∷ filter passes attempts) (filter passes attempts)) k ≡ Some found)
-    by_test true is (k, there) = (suc k, there)
-    by_test false is (k, there) = (k, there)

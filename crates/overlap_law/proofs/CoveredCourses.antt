@@ -165,7 +165,7 @@ ended_covered number req reply so_far all q = ⊎_elim
     after = record (session_in number so_far) { queue = queue_without req (session_in number so_far).queue; command = None }
 
 -- where a request is
-course_covered : (number req : ℕ) (course : Course) (so_far : StepState) → HasRequest number req course so_far → CoveredSoFar so_far
+pub course_covered : (number req : ℕ) (course : Course) (so_far : StepState) → HasRequest number req course so_far → CoveredSoFar so_far
     → IsCovered req (size_and_queue (session_in number so_far)) course
 course_covered number req course so_far there all = subst (IsSeen size_and_queue (IsCovered req) so_far.node.sessions) there (all req)
 

@@ -1,11 +1,11 @@
 -- The inode of an id that a command publishes, or is to publish, was created by the epoch of its node: in each run in range, at each
 -- moment on the way of an event. For the command waits for the publication once its node has learned that the inode is made.
-use Rattle.std.proofs.Common.{◌≡◌, ◌≢◌, inl, ⊎_elim, ℕ, ◌≤◌, Bool, true, false, List, [], ◌∷◌}
-use Rattle.std.proofs.Common.{◌++◌, Option, Some, None, option_map, length, refl, sym, ap, subst, ◌∙◌}
+use Rattle.std.proofs.Common.{◌≡◌, inl, inr, ⊎_elim, ℕ, Bool, true, false, List, []}
+use Rattle.std.proofs.Common.{Option, Some, None, length, refl, sym, ap, subst, ◌∙◌}
 use Rattle.std.specs.Ordering.{nat_cmp}
 use Rattle.std.specs.FinMap as tree
 use Rattle.std.proofs.lemmas.Option.{same_Some}
-use Rattle.proof_tools.proofs.FiniteMaps.{get-insert_same, get-insert_other, get-insert_cases}
+use Rattle.proof_tools.proofs.FiniteMaps.{get-insert_same}
 use Rattle.object_id.specs.declared.entry.Entry.{Entry}
 use Rattle.object_id.specs.declared.entry.Entry.TheVariants as entries
 use Rattle.object_id.specs.declared.node.NodeId.{NodeId}
@@ -24,39 +24,32 @@ use Rattle.sheep_node.specs.declared.event.Event.{Event}
 use Rattle.sheep_node.specs.Changes.{Leads}
 use Rattle.sheep_node.specs.StepState.{StepState}
 use Rattle.sheep_node.specs.SessionQueues.{session_among}
+use Rattle.sheep_node.proofs.OneWorkParts.{Requests, Sessions}
 use Rattle.sheep_world.specs.Began.{Began}
-use Rattle.sheep_world.specs.NodeCauses.{NodeCause, GuestAsks, RequestComes, ReplyComes, LossIsTold, EntryIsRead, EntryIsPut, RecoveryTicks}
-use Rattle.sheep_world.specs.NodeCauses.{WorkIsRetried, input_of_cause, host_with_node}
-use Rattle.sheep_world.specs.World.{Host}
+use Rattle.sheep_world.specs.NodeCauses.{input_of_cause, host_with_node}
 use Rattle.overlap_law.specs.CommandDisks.{opened_in}
 use Rattle.overlap_law.specs.Courses.{IsOfStage, IsCreatedNow}
 use Rattle.overlap_law.specs.Drafts.{published_by}
 use Rattle.overlap_law.specs.Each.{EachUp}
 use Rattle.overlap_law.specs.Fates.{IsCreated}
 use Rattle.overlap_law.specs.Holders.{is_create_work}
-use Rattle.overlap_law.specs.MomentChanges.{MomentChange, MomentTrail, RunsAreInRange}
-use Rattle.overlap_law.specs.MomentChanges as moments
-use Rattle.overlap_law.specs.Past.{MomentWithPast, moment_after, first_moment, run_on, run_with_past}
-use Rattle.overlap_law.specs.StepMoments.{SteppingNode, IsStepping, StepsByChanges, IsWithinStep, first_in_step, moment_in_step}
+use Rattle.overlap_law.specs.MomentChanges.{MomentTrail, RunsAreInRange}
+use Rattle.overlap_law.specs.Past.{MomentWithPast, first_moment, run_with_past}
+use Rattle.overlap_law.specs.StepMoments.{SteppingNode, IsStepping, StepsByChanges, first_in_step, moment_in_step}
 use Rattle.overlap_law.specs.TiedAttempts.{IsTied}
 use Rattle.overlap_law.specs.WriterClaims.{IsStageKept, IsMakingKept}
 use Rattle.overlap_law.proofs.AnswersInMoments.{not_lost}
-use Rattle.overlap_law.proofs.CausedWorks.{IsNotServed}
+use Rattle.overlap_law.proofs.CausedWorks.{by_changes}
 use Rattle.overlap_law.proofs.ClaimsInRuns.{claims-in_run}
-use Rattle.overlap_law.proofs.CreatedStays.{created_stays, created-by}
 use Rattle.overlap_law.proofs.DoneMade.{done_made}
-use Rattle.overlap_law.proofs.EpochsRise.{epochs_rise}
-use Rattle.overlap_law.proofs.GuestsInMoments.{GuestsChange, GuestsStay, GuestsAreNone, IsGoingOn, IsBetween, between}
+use Rattle.overlap_law.proofs.InodesOfGuests.{TheirInodesAreCreated, HaveCreatedNext, inodes-on_the_way}
 use Rattle.overlap_law.proofs.LastReads.{past-in_run}
 use Rattle.overlap_law.proofs.LatestInRuns.{latest-in_run}
-use Rattle.overlap_law.proofs.MomentTrails.{event_trail}
 use Rattle.overlap_law.proofs.NoRecoveredDue.{began-with_past}
 use Rattle.overlap_law.proofs.OpeningOverlap.{no_request}
 use Rattle.overlap_law.proofs.PublishingStages.{published_in_course, HadPublication, IsMadeNow, publication_from}
 use Rattle.overlap_law.proofs.ReadInMoments.{HostsAreSound, kept_sound}
 use Rattle.overlap_law.proofs.RunsByChanges.{on_the_way}
-use Rattle.overlap_law.proofs.RunsByEvents.{KeptByEvents, run-kept_by_events}
-use Rattle.overlap_law.proofs.RunsWithOneMore.{run_with_one_more}
 use Rattle.overlap_law.proofs.TiedInRuns.{kept_tied}
 use Rattle.overlap_law.proofs.WaitedInRuns.{works_wait}
 use Rattle.overlap_law.proofs.WaitedSteps.{no_id, Waits}
@@ -87,16 +80,6 @@ made_for log outbox read from me session opened of vid (entries.Delete by number
 made_for log outbox read from me session opened of vid (entries.Lock by number name tag) made kept says = absurd kept
 made_for log outbox read from me session opened of vid (entries.Unlock by number id) made kept says = absurd kept
 
-not_served : (cause : NodeCause) → StepsByChanges cause → IsNotServed cause
-not_served (GuestAsks session req ask) by = tt
-not_served (RequestComes name to request) by = absurd by
-not_served (ReplyComes name from rsp) by = tt
-not_served (LossIsTold name packet) by = tt
-not_served (EntryIsRead entry) by = tt
-not_served (EntryIsPut entry) by = tt
-not_served RecoveryTicks by = tt
-not_served WorkIsRetried by = tt
-
 -- ---- in the middle of a step
 
 module _ (script : List Statement) (range : RunsAreInRange script) (events : List Event) (start : MomentWithPast)
@@ -123,8 +106,8 @@ module _ (script : List Statement) (range : RunsAreInRange script) (events : Lis
         subst (λ (stage : OpStage). IsOfStage [] no_id [] (session_among made.session so_far.node.sessions).disk stage made.work.work)
         made.making.at
         (subst (λ (o : Option Request). IsAt Waits so_far.node.sessions o made.work.work) made.ends.ends.request
-        (works_wait script range start.world began on.n on.host steps.there steps.up on.cause (not_served on.cause by) steps.caused so_far leads
-        q made.work.work (inl (made.work, made.ends.ends.learns.there, refl)))).0
+        (works_wait script range start.world began on.n on.host steps.there steps.up on.cause (by_changes on.cause by) steps.caused
+        so_far leads q made.work.work (inl (made.work, made.ends.ends.learns.there, refl)))).0
 
     of_vid : vid ≡ made.making.of
     of_vid =
@@ -165,113 +148,37 @@ module _ (script : List Statement) (range : RunsAreInRange script) (events : Lis
               last.there me;
         }
 
-  -- ---- each change
-
-  module _ (before after : MomentWithPast) (trail : MomentTrail script start before) (change : MomentChange script start before after)
-      (all : PublicationsAreCreated before) where
-    later : (n : ℕ) (was host : Host) → tree.get before.world.hosts n ≡ Some was → tree.get after.world.hosts n ≡ Some host → (vid : Vid)
-        → IsCreated before.past.attempts (inode_number vid.0) was.node.peer.epoch
-        → IsCreated after.past.attempts (inode_number vid.0) host.node.peer.epoch
-    later n was host there at vid created =
-        let (now, found, rises) = epochs_rise script range start began change n was there in
-        let same : now ≡ host = same_Some now host (sym found ∙ at) in
-        created-by after.past.attempts (inode_number vid.0) was.node.peer.epoch host.node.peer.epoch
-        (subst (λ (h : Host). was.node.peer.epoch ≤ h.node.peer.epoch) same rises)
-        (created_stays script range start before after began change (inode_number vid.0) was.node.peer.epoch created)
-
-    still : (n : ℕ) (host : Host) → tree.get after.world.hosts n ≡ Some host → host.is_lost ≡ false → GuestsChange before n host → (q : ℕ)
-        (request : Request) (vid : Vid) → tree.get host.node.requests q ≡ Some request → published_in_course request.course ≡ Some vid
-        → IsCreated after.past.attempts (inode_number vid.0) host.node.peer.epoch
-    still n host at up (GuestsStay was there was_up gateway sessions requests) q request vid got says =
-        later n was host there at vid
-        (all n was there (was_up up) q request vid (ap (λ (r : tree.FinMap nat_cmp Request). tree.get r q) (sym requests) ∙ got) says)
-    still n host at up (GuestsAreNone sessions none) q request vid got says =
-        let empty : tree.get host.node.requests q ≡ None
-        = ap (λ (r : tree.FinMap nat_cmp Request). tree.get r q) none ∙ tree.get-empty {X = Request} nat_cmp q in
-        absurd (cc (empty, got))
-
-  -- a node goes on in its step
-  module _ (on : SteppingNode) (so_far next : StepState) (steps : IsStepping script start.world on) (by : StepsByChanges on.cause)
-      (within : IsWithinStep on so_far next) (trail : MomentTrail script start (moment_in_step script on start so_far))
-      (all : PublicationsAreCreated (moment_in_step script on start so_far)) where
-    abbrev before_it : MomentWithPast
-    before_it = moment_in_step script on start so_far
-
-    abbrev after_it : MomentWithPast
-    after_it = moment_in_step script on start next
-
-    change_so : MomentChange script start (moment_in_step script on start so_far) (moment_in_step script on start next)
-    change_so = moments.StepGoesOn on so_far next steps by within
-
-    was_there : tree.get (moment_in_step script on start so_far).world.hosts on.n ≡ Some (host_with_node on.host so_far.node)
-    was_there = get-insert_same start.world.hosts on.n (host_with_node on.host so_far.node)
-
-    own : (host : Host) → tree.get after_it.world.hosts on.n ≡ Some host → host_with_node on.host next.node ≡ host
-        → (q : ℕ) (request : Request)
-        (vid : Vid) → tree.get host.node.requests q ≡ Some request → published_in_course request.course ≡ Some vid
-        → IsCreated after_it.past.attempts (inode_number vid.0) host.node.peer.epoch
-    own host at same q request vid got says =
-        later before_it after_it trail change_so all on.n (host_with_node on.host so_far.node) host was_there at vid
-        (⊎_elim
-        (λ (had : HadPublication q vid so_far).
-        all on.n (host_with_node on.host so_far.node) was_there (not_lost on.host steps.up) q had.request vid had.there had.says)
-        (λ (made : IsMadeNow (input_of_cause on.cause) on.host.node q vid so_far).
-        created_now on steps by so_far within.leads trail q vid made)
-        (publication_from q vid (input_of_cause on.cause) on.host.node so_far next within.change request
-        (ap (λ (h : Host). tree.get h.node.requests q) same ∙ got) says))
-
-    going_on : PublicationsAreCreated (moment_in_step script on start next)
-    going_on n host at up q request vid got says = ⊎_elim
-        (λ (mine : (n ≡ on.n) × (host_with_node on.host next.node ≡ host)).
-        own host (ap (tree.get after_it.world.hosts) (sym mine.0) ∙ at) mine.1 q request vid got says)
-        (λ (other : (n ≢ on.n) × (tree.get start.world.hosts n ≡ Some host)).
-        still before_it after_it trail change_so all n host at up
-        (GuestsStay host (get-insert_other start.world.hosts on.n (host_with_node on.host so_far.node) n other.0 ∙ other.1) (λ up. up)
-        refl refl refl)
-        q request vid got says)
-        (get-insert_cases start.world.hosts on.n (host_with_node on.host next.node) n host at)
-
-  pub publications_after : {before after : MomentWithPast} → MomentTrail script start before → MomentChange script start before after
-      → PublicationsAreCreated before → PublicationsAreCreated after
-  publications_after {before} {after} trail change all = ⊎_elim
-      (λ (g : IsGoingOn script start before after).
-      subst PublicationsAreCreated (sym g.after_so)
-      (going_on g.stepping g.so_far g.next g.is g.by g.within (subst (MomentTrail script start) g.before_so trail)
-      (subst PublicationsAreCreated g.before_so all)))
-      (λ (b : IsBetween before after).
-      λ n host at up q request vid got says. still before after trail change all n host at up (b.0 n host at) q request vid got says)
-      (between script start change)
-
-  pub along : {moment : MomentWithPast} → MomentTrail script start moment → PublicationsAreCreated start → PublicationsAreCreated moment
-  along moments.Still all = all
-  along (moments.Then trail change) all = publications_after trail change (along trail all)
-
 -- ---- every run
 
+-- a request has an id to publish
+record HasPublication (requests : Requests) (q vid : ℕ) : Type 0 where
+  request : Request
+  there : tree.get requests q ≡ Some request
+  says : published_in_course request.course ≡ Some (record { 0 = vid })
+
+abbrev PublishedBy : Requests → Sessions → ℕ → ℕ → Type 0
+PublishedBy requests sessions q vid = HasPublication requests q vid
+
 module _ (script : List Statement) (range : RunsAreInRange script) where
-  -- a run ends in this moment, and what commands publish was created
-  record IsCreatedAt (moment : MomentWithPast) : Type 0 where
-    pub events : List Event
-    pub run : run_with_past script events ≡ Some moment
-    pub created : PublicationsAreCreated moment
+  none_published : (q vid : ℕ) → PublishedBy tree.empty tree.empty q vid → ⊥
+  none_published q vid is =
+      let empty : tree.get (tree.empty {X = Request} {R = nat_cmp}) q ≡ None = tree.get-empty {X = Request} nat_cmp q in
+      let there = is.there in
+      absurd (cc (empty, there))
 
-  opens_so : PublicationsAreCreated (first_moment script)
-  opens_so n host there up q request vid got says = no_request script n host there q request got
+  opens_so : TheirInodesAreCreated PublishedBy (first_moment script)
+  opens_so n host there up q vid is = no_request script n host there q is.request is.there
 
-  opening : IsCreatedAt (first_moment script)
-  unfolding run_with_past run_on
-  opening = record { events = []; run = refl; created = opens_so }
-
-  events_keep : KeptByEvents script IsCreatedAt
-  events_keep event before made begun is holds = record {
-    events = holds.events ++ event ∷ [];
-    run = run_with_one_more script event made holds.events before is holds.run;
-    created = along script range holds.events before holds.run
-        (event_trail script event before (moment_after script event before made) (ap (option_map (moment_after script event before)) is))
-        holds.created;
-  }
+  comes_so : HaveCreatedNext PublishedBy script
+  comes_so events start ran on so_far next steps by within trail q vid is = ⊎_elim
+      (λ (had : HadPublication q (record { 0 = vid }) so_far).
+      inl (record { request = had.request; there = had.there; says = had.says }))
+      (λ (made : IsMadeNow (input_of_cause on.cause) on.host.node q (record { 0 = vid }) so_far).
+      inr (created_now script range events start ran on steps by so_far within.leads trail q (record { 0 = vid }) made))
+      (publication_from q (record { 0 = vid }) (input_of_cause on.cause) on.host.node so_far next within.change is.request is.there is.says)
 
   pub publications-on_the_way : (events : List Event) (start moment : MomentWithPast) → run_with_past script events ≡ Some start
       → MomentTrail script start moment → PublicationsAreCreated moment
-  publications-on_the_way events start moment is trail =
-      along script range events start is trail (run-kept_by_events script IsCreatedAt opening events_keep events start is).created
+  publications-on_the_way events start moment ran trail n host there up q request vid got says =
+      inodes-on_the_way PublishedBy script range none_published opens_so comes_so events start moment ran trail n host there up q vid.0
+      (record { request = request; there = got; says = says })

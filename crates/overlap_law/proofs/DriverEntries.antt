@@ -138,13 +138,32 @@ goes_fresh inode bytes Answered step next = absurd (cc (next))
 -- ---- what its works name
 
 -- the work that an act begins
-abbrev work_in : DriverAct → ObjWork → ObjWork
+abbrev pub work_in : DriverAct → ObjWork → ObjWork
 work_in (acts.Work work) none = work
 work_in (acts.Reply reply) none = none
 
 -- an object of a disk is no inode
 pub no_inode : {P : Type 0} (vid index other : ℕ) → IsVid vid → index < OBJECTS_MAX → object_number vid index ≡ inode_number other → P
 no_inode vid index other id few same = let most = id.1 in absurd (omega (arith, most, few, same))
+
+-- the write of an entry has that entry alone
+pub entry_at : (inode : Content) (piece : Piece) → IsVid inode.vid → (vid index : ℕ) → HasEntry (write_entry inode piece) vid index
+    → (vid ≡ inode.vid) × (index ≡ piece.index)
+entry_at inode piece id vid index has =
+    let object = has.object in
+    let from : ℕ = INODE_HEADER_BYTES + 4 * piece.index in
+    let unit : ℕ = entry_unit index in
+    let start = entry_start index in
+    let size = entry_size index in
+    let four : length (u32_bytes inode.vid) ≡ 4 = refl in
+    let covered : nat_le from (unit_start Inode unit) && nat_le (unit_end Inode unit) (from + length (u32_bytes inode.vid)) ≡ true
+    = sym (ap (λ (k : Kind). nat_le from (unit_start k unit) && nat_le (unit_end k unit) (from + length (u32_bytes inode.vid)))
+    (kind-of_inode inode.vid id)) ∙ has.covered in
+    let both = and_parts (nat_le from (unit_start Inode unit)) (nat_le (unit_end Inode unit) (from + length (u32_bytes inode.vid)))
+    covered in
+    let low = leb-true from (unit_start Inode unit) both.0 in
+    let high = leb-true (unit_end Inode unit) (from + length (u32_bytes inode.vid)) both.1 in
+    (omega (arith, object), omega (arith, start, size, four, low, high))
 
 module _ (effects : List Effect) (good_id : ℕ → Bool) (attempts : List AttemptRecord) (epoch : ℕ) where
   abbrev Names : ObjWork → Type 0
@@ -162,7 +181,7 @@ module _ (effects : List Effect) (good_id : ℕ → Bool) (attempts : List Attem
       → Names (write_entry inode piece)
   names_entry inode piece id created = record {
     each = λ vid index has good some.
-        let here = at vid index has in
+        let here = entry_at inode piece id vid index has in
         let entry : entry_made index (write_entry inode piece) ≡ inode.vid
         = ap (λ (k : ℕ). entry_made k (write_entry inode piece)) here.1 ∙ entry_own inode piece id in
         record {
@@ -170,26 +189,9 @@ module _ (effects : List Effect) (good_id : ℕ → Bool) (attempts : List Attem
           created = subst (λ (o : ℕ). IsCreated attempts o epoch) (λ i. object_number (sym entry i) (sym here.1 i)) created;
         };
     own = λ vid index has is_vid own.
-        let here = at vid index has in
+        let here = entry_at inode piece id vid index has in
         subst (λ (o : ℕ). IsCreated attempts o epoch) (λ i. object_number (sym here.0 i) (sym here.1 i)) created;
   }
-    where
-      at : (vid index : ℕ) → HasEntry (write_entry inode piece) vid index → (vid ≡ inode.vid) × (index ≡ piece.index)
-      at vid index has =
-          let object = has.object in
-          let from : ℕ = INODE_HEADER_BYTES + 4 * piece.index in
-          let unit : ℕ = entry_unit index in
-          let start = entry_start index in
-          let size = entry_size index in
-          let four : length (u32_bytes inode.vid) ≡ 4 = refl in
-          let covered : nat_le from (unit_start Inode unit) && nat_le (unit_end Inode unit) (from + length (u32_bytes inode.vid)) ≡ true
-          = sym (ap (λ (k : Kind). nat_le from (unit_start k unit) && nat_le (unit_end k unit) (from + length (u32_bytes inode.vid)))
-          (kind-of_inode inode.vid id)) ∙ has.covered in
-          let both = and_parts (nat_le from (unit_start Inode unit)) (nat_le (unit_end Inode unit) (from + length (u32_bytes inode.vid)))
-          covered in
-          let low = leb-true from (unit_start Inode unit) both.0 in
-          let high = leb-true (unit_end Inode unit) (from + length (u32_bytes inode.vid)) both.1 in
-          (omega (arith, object), omega (arith, start, size, four, low, high))
 
   -- what a driver enters was created
   abbrev pub EntersMade : Content → Driver → Type 0

@@ -1,12 +1,10 @@
 -- In the middle of a step of a run in range the works that requests ask for next name what is made, if those of commands and checks do.
-use Rattle.std.proofs.Common.{◌≡◌, ◌≢◌, ⊎_elim, arith, ℕ, Bool, Option, Some, List, length, IfSome, refl, sym, ap, subst, ◌∙◌}
-use Rattle.std.specs.Prelude.{IsTrue}
+use Rattle.std.proofs.Common.{◌≡◌, ◌≢◌, ⊎_elim, ℕ, Bool, Option, Some, List, refl, sym, ap, subst, ◌∙◌}
 use Rattle.std.specs.FinMap as tree
 use Rattle.std.proofs.lemmas.Option.{same_Some}
 use Rattle.proof_tools.proofs.FiniteMaps.{get-insert_same}
 use Rattle.object_id.specs.Oid.{object_number}
 use Rattle.cluster_script.specs.declared.statement.Statement.{Statement}
-use Rattle.vdi_directory.specs.declared.effect.Effect.{Effect}
 use Rattle.vdi_directory.specs.Decisions.{log_effects}
 use Rattle.peer_proto.specs.declared.guest.DiskAsk.{DiskAsk}
 use Rattle.peer_proto.specs.declared.work.ObjWork.{ObjWork}
@@ -18,7 +16,6 @@ use Rattle.guest_driver.specs.declared.act.DriverAct.TheVariants as acts
 use Rattle.guest_driver.specs.declared.disk.Disk.{Disk}
 use Rattle.guest_driver.specs.Driver.{Driver, DriverStep, begin_driver, driver_on_done}
 use Rattle.disk_check.specs.Check.{begin_check}
-use Rattle.guest_driver.specs.Pieces.{is_ask}
 use Rattle.sheep_node.specs.declared.course.Course.{Course}
 use Rattle.sheep_node.specs.declared.course.Course.TheVariants.{Waiting, Driving, Commanding, Checking, DoingWork}
 use Rattle.sheep_node.specs.declared.course.Request.{Request}
@@ -28,29 +25,26 @@ use Rattle.sheep_node.specs.Changes.{EndsWork, without_ended_work, Outcome, ToWo
 use Rattle.sheep_node.specs.Changes.{DiskBegins, DiskGoesOn, CommandBegins, CommandGoesOn, CommandDecided, CheckBegins, CheckGoesOn}
 use Rattle.sheep_node.specs.Changes.{ObjectBegins, ObjectIsDone, EntryBegins, EntryDecided}
 use Rattle.sheep_node.specs.Courses.{inode_open}
-use Rattle.sheep_node.specs.DrivenDisks.{IsCourseOn}
 use Rattle.sheep_node.specs.SessionQueues.{session_among}
 use Rattle.sheep_node.specs.SoundWorks.{IsSoundWork}
 use Rattle.sheep_node.specs.State.{Node}
 use Rattle.sheep_node.specs.StepState.{StepState, session_in}
 use Rattle.sheep_node.specs.WantedWorks.{IsWorkOfDriver, IsWorkWanted}
-use Rattle.sheep_node.proofs.ValidityChanges.{AnySent, disk_valid, course_valid}
-use Rattle.sheep_node.proofs.WantedSteps.{IsDriverActWanted, driver_begins-wanted, driver_goes_on-wanted}
+use Rattle.sheep_node.proofs.WantedSteps.{driver_goes_on-wanted}
 use Rattle.sheep_world.specs.NodeCauses.{input_of_cause}
 use Rattle.overlap_law.specs.Fates.{IsCreated}
 use Rattle.overlap_law.specs.MomentChanges.{MomentTrail, RunsAreInRange}
 use Rattle.overlap_law.specs.NamedWorks.{NamesWhatIsMade, AskedWorksNameWhatIsMade, OtherWorksNameWhatIsMade}
 use Rattle.overlap_law.specs.Past.{MomentWithPast, run_with_past}
 use Rattle.overlap_law.specs.StepMoments.{SteppingNode, IsStepping, StepsByChanges, LeadsInStep, first_in_step, moment_in_step}
-use Rattle.overlap_law.proofs.DoneWorks.{wanted, same_disk}
+use Rattle.overlap_law.proofs.DoneWorks.{wanted}
 use Rattle.overlap_law.proofs.DriverEntries.{IsFresh, EntersNow, begins_fresh, goes_fresh, EntersMade, fresh_made, driver_names}
 use Rattle.overlap_law.proofs.DriverEntries.{object_created}
-use Rattle.overlap_law.proofs.KnownDisks.{known_validity, driver_begins-known, driver_goes_on-known}
-use Rattle.overlap_law.proofs.KnownDiskSteps.{IsKnownSoFar, effects_after}
 use Rattle.overlap_law.proofs.OpeningReads.{step_known, knows_well}
+use Rattle.overlap_law.proofs.KnownDrivers.{driver_begins-of_step, driver_goes_on-of_step, disk_before_end}
 
 -- the work that a driver's act begins
-act_of : (act : DriverAct) (work : ObjWork) → outcome_of_driver act ≡ ToWork work → act ≡ acts.Work work
+pub act_of : (act : DriverAct) (work : ObjWork) → outcome_of_driver act ≡ ToWork work → act ≡ acts.Work work
 act_of (acts.Work one) work is = ap (λ (outcome : Outcome). acts.Work (work_of outcome)) is
   where
     work_of : Outcome → ObjWork
@@ -73,9 +67,6 @@ module _ (script : List Statement) (range : RunsAreInRange script) (events : Lis
   abbrev node : Node
   node = on.host.node
 
-  abbrev known : List Effect
-  known = effects_after (input_of_cause on.cause) on.host.node
-
   abbrev Names : ObjWork → Type 0
   Names =
       NamesWhatIsMade (log_effects (moment_in_step script on start so_far).world.log) good_id
@@ -84,16 +75,6 @@ module _ (script : List Statement) (range : RunsAreInRange script) (events : Lis
   abbrev Made : ℕ → Type 0
   Made oid = IsCreated (moment_in_step script on start so_far).past.attempts oid so_far.node.peer.epoch
 
-  on_known : IsKnownSoFar known (length so_far.outputs.sends) so_far
-  on_known = (
-    (knows_well script range events start ran on is by so_far leads trail).on_known,
-    record {
-      few = omega arith;
-      sent = λ k d within. tt;
-      to_put = λ k d within. tt;
-    },
-  )
-
   module _ (session req : ℕ) (work : ObjWork) where
     -- a read or write begins
     begins : (ask : DiskAsk) (disk : Disk)
@@ -101,16 +82,10 @@ module _ (script : List Statement) (range : RunsAreInRange script) (events : Lis
         → (session_in session so_far).disk ≡ Some disk → (begin_driver disk ask).act ≡ acts.Work work → Names work
     begins ask disk there at act =
         let step : DriverStep = begin_driver disk ask in
-        let whole : IsTrue (is_ask ask)
-        = subst (λ (o : Option Request). IfSome o (λ (request : Request). IsCourseOn
-        (inode_open (session_among request.session so_far.node.sessions).disk) request.course)) there
-        ((knows_well script range events start ran on is by so_far leads trail).waits.1 req) in
-        let so = driver_begins-known known disk ask (disk_valid (known_validity known) AnySent session so_far disk at on_known) whole in
-        driver_names (log_effects here.world.log) good_id here.past.attempts so_far.node.peer.epoch step.inode step.driver work
-        so.inode.disk.id so.few
+        let so = driver_begins-of_step script range events start ran on is by so_far leads trail session req work ask disk there at act in
+        driver_names (log_effects here.world.log) good_id here.past.attempts so_far.node.peer.epoch step.inode step.driver work so.id so.few
         (fresh_made (log_effects here.world.log) good_id here.past.attempts so_far.node.peer.epoch step.inode step.driver
-        (begins_fresh disk ask))
-        (subst (IsDriverActWanted step.inode step.driver) act (driver_begins-wanted disk ask).act)
+        (begins_fresh disk ask)) so.wanted
 
     -- or goes on
     goes_on : (number : ℕ) (done : Work) (attempt : gateways.Attempt) (status : Status) (bytes : List ℕ) (driver : Driver) (disk : Disk)
@@ -122,16 +97,16 @@ module _ (script : List Statement) (range : RunsAreInRange script) (events : Lis
         let sound = (step_known script range events start ran on is by so_far leads trail).sound in
         let one : IsSoundWork done = well.sound.open_works req done ends.ends.learns.there in
         let open_here : (session_among session so_far.node.sessions).disk ≡ Some disk
-        = sym (same_disk sound so_far session req number done attempt status (Driving driver) bytes ends well.waits one) ∙ at in
+        = disk_before_end script range events start ran on is by so_far leads trail session req work number done attempt status bytes driver
+        disk ends at in
         let wants : IsWorkOfDriver disk.inode driver done.work
         = subst (λ (o : Option Disk). IsWorkWanted (inode_open o) (Driving driver) done.work) open_here
         (wanted sound so_far session req number done attempt status (Driving driver) bytes ends well.waits one) in
-        let disk_known = disk_valid (known_validity known) AnySent session so_far disk open_here on_known in
-        let few = course_valid (known_validity known) AnySent session req (Driving driver) so_far ends.ends.request on_known in
-        let so = driver_goes_on-known known disk.inode bytes driver step next disk_known few in
+        let so = driver_goes_on-of_step script range events start ran on is by so_far leads trail session req work number done attempt status
+        bytes driver disk step ends at next act in
         let wanted_step = driver_goes_on-wanted disk.inode bytes driver step next in
         driver_names (log_effects here.world.log) good_id here.past.attempts so_far.node.peer.epoch step.inode step.driver work
-        so.inode.disk.id so.few
+        so.id so.few
         (⊎_elim
         (λ (fresh : IsFresh step.driver).
         fresh_made (log_effects here.world.log) good_id here.past.attempts so_far.node.peer.epoch step.inode step.driver fresh)
@@ -142,8 +117,7 @@ module _ (script : List Statement) (range : RunsAreInRange script) (events : Lis
         enters.piece enters.rest bytes
         (subst (λ (d : Driver). EndsWork input node so_far session req number done attempt status (Driving d) bytes) enters.created ends)
         disk.inode (subst (λ (d : Driver). IsWorkOfDriver disk.inode d done.work) enters.created wants))))
-        (goes_fresh disk.inode bytes driver step next))
-        (subst (IsDriverActWanted step.inode step.driver) act wanted_step.act)
+        (goes_fresh disk.inode bytes driver step next)) so.wanted
 
     -- another one has its own course then
     other_course : (moved : StepState) (course : Course)

@@ -48,7 +48,7 @@ module _ (req : ℕ) where
   ended_none other (answers.Granted id) apart = λ i. apart i || false
   ended_none other (answers.Checked found) apart = λ i. apart i || false
 
-  read_none : (disk offset : ℕ) (rsp : GuestRsp) → HasNone test (blocks_read disk offset rsp)
+  pub read_none : (disk offset : ℕ) (rsp : GuestRsp) → HasNone test (blocks_read disk offset rsp)
   read_none disk offset answers.Done = refl
   read_none disk offset (answers.Piece bytes) =
       map_none test (λ (place : ℕ). Read disk (offset / BLOCK_BYTES + place) (block_in bytes place)) (λ place. refl)
@@ -65,7 +65,7 @@ module _ (req : ℕ) where
   adds_none false other rsp disk (lines.Check number) apart = refl
   adds_none written other rsp disk s apart = refl
 
-  added_none : (written : Bool) (other : ℕ) (rsp : GuestRsp) (disk : Option ℕ) (s : Option Statement) → (other == req) ≡ false
+  pub added_none : (written : Bool) (other : ℕ) (rsp : GuestRsp) (disk : Option ℕ) (s : Option Statement) → (other == req) ≡ false
       → HasNone test (added_by written other rsp disk s)
   added_none written other rsp None s apart = refl
   added_none written other rsp (Some disk) None apart = refl
@@ -81,7 +81,7 @@ module _ (req : ℕ) where
       (λ place. refl) (range_with_len 0 (length (payload_of pattern size) / BLOCK_BYTES))
   writes_none other disk s = refl
 
-  asks_none : (other : ℕ) (disk : Option Disk) (s : Option Statement) → HasNone test (option_map_or (begins_on other disk) s [])
+  pub asks_none : (other : ℕ) (disk : Option Disk) (s : Option Statement) → HasNone test (option_map_or (begins_on other disk) s [])
   asks_none other disk None = refl
   asks_none other disk (Some s) = writes_none other disk s
 
@@ -102,7 +102,7 @@ module _ (req : ℕ) where
       by_header (Some header) = by_parent header.parent
   granted_none log id entry = refl
 
-  entry_none : (log : List Entry) (entry : Entry) → HasNone test (entry_adds log entry)
+  pub entry_none : (log : List Entry) (entry : Entry) → HasNone test (entry_adds log entry)
   unfolding entry_adds
   entry_none log entry = by_decision (decision_after log entry)
     where
@@ -112,7 +112,7 @@ module _ (req : ℕ) where
       by_decision (decisions.Refused cause) = refl
 
   module _ (script : List Statement) where
-    checks_none : (write : Option CheckWrite) → HasNone test (option_map_or (check_write_grown script) write [])
+    pub checks_none : (write : Option CheckWrite) → HasNone test (option_map_or (check_write_grown script) write [])
     checks_none None = refl
     checks_none (Some write) = by_check (option_map_or is_check (request_at script write.req) false)
       where
@@ -157,9 +157,9 @@ module _ (req : ℕ) where
       step_ends_none RecoveryTicks = told_none world None
       step_ends_none WorkIsRetried = told_none world None
 
-    -- ---- nor does a lost node end one of another
+    -- ---- nor does a lost node end one of another, or of another incarnation
 
-    numbered_at : (first : ℕ) (list : List Statement) (k : ℕ) (s : Statement) → Contains (enumerate_from first list) (k, s)
+    pub numbered_at : (first : ℕ) (list : List Statement) (k : ℕ) (s : Statement) → Contains (enumerate_from first list) (k, s)
         → (place : ℕ) × (k ≡ first + place) × (slice_get list place ≡ Some s)
     numbered_at first [] k s there = absurd (Contains-nil (k, s) there)
     numbered_at first (line ∷ later) k s there = ⊎_elim
@@ -171,17 +171,17 @@ module _ (req : ℕ) where
         (suc place, omega (arith, is), got))
         (Contains-cons_cases (first, line) (enumerate_from (first + 1) later) (k, s) there)
 
-    stands_at : (k : ℕ) (s : Statement) → Contains (numbered_requests script) (k, s) → request_at script k ≡ Some s
+    pub stands_at : (k : ℕ) (s : Statement) → Contains (numbered_requests script) (k, s) → request_at script k ≡ Some s
     stands_at k s there =
         let (place, is, got) = numbered_at 1 (requests_of script) k s there in
         let number : k ≡ suc place = omega (arith, is) in
         ap (request_at script) number ∙ got
 
-    pub loss_ends_none : (world : World) (lost : ℕ) (host : Host) (n incarnation session : ℕ) → n ≢ lost
-        → IsAskedIn script n incarnation req session
+    pub loss_ends_none_of : (world : World) (lost : ℕ) (host : Host) (n incarnation session : ℕ)
+        → (n ≡ lost → incarnation ≡ host.incarnation → ⊥) → IsAskedIn script n incarnation req session
         → HasNone test (map (λ (request : ℕ × Statement). WriterLost request.0)
         (filter (is_lost_write script world lost host) (numbered_requests script)))
-    loss_ends_none world lost host n incarnation session apart asked =
+    loss_ends_none_of world lost host n incarnation session apart asked =
         map_none_in test (λ (request : ℕ × Statement). WriterLost request.0)
         (filter (is_lost_write script world lost host) (numbered_requests script))
         (λ request among. ne_eqb request.0 req (λ (same : request.0 ≡ req). others request among same))
@@ -201,5 +201,13 @@ module _ (req : ℕ) where
             = sym (ap (λ (o : Option ScriptSession).
             option_map_or (λ (of : ScriptSession). of.node == lost && of.incarnation == host.incarnation) o false) asked.declared)
             ∙ sym (ap (λ (o : Option ℕ). option_map_or (is_of_incarnation script lost host.incarnation) o false) asks) ∙ lives in
-            apart (sym asked.of_node
-            ∙ eqb-true asked.of.node lost (and_parts (asked.of.node == lost) (asked.of.incarnation == host.incarnation) is).0)
+            let both = and_parts (asked.of.node == lost) (asked.of.incarnation == host.incarnation) is in
+            apart (sym asked.of_node ∙ eqb-true asked.of.node lost both.0)
+            (sym asked.of_incarnation ∙ eqb-true asked.of.incarnation host.incarnation both.1)
+
+    pub loss_ends_none : (world : World) (lost : ℕ) (host : Host) (n incarnation session : ℕ) → n ≢ lost
+        → IsAskedIn script n incarnation req session
+        → HasNone test (map (λ (request : ℕ × Statement). WriterLost request.0)
+        (filter (is_lost_write script world lost host) (numbered_requests script)))
+    loss_ends_none world lost host n incarnation session apart asked =
+        loss_ends_none_of world lost host n incarnation session (λ same lived. apart same) asked

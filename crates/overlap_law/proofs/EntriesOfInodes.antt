@@ -47,14 +47,14 @@ use Rattle.overlap_law.proofs.KnownDisks.{kind-of_inode}
 use Rattle.overlap_law.proofs.OverlapLemmas.{filter-passed}
 
 -- inodes are kept in whole copies
-inodes_whole : (policy : Policy) → is_in_strips policy Inode ≡ false
+pub inodes_whole : (policy : Policy) → is_in_strips policy Inode ≡ false
 inodes_whole (Copies copies) = refl
 inodes_whole (Coded d p) = refl
 
 -- ---- own entries
 
 -- the entry in a copy is that of its unit
-entry_of_unit : (policy : Policy) (index : ℕ) (bytes : List ℕ)
+pub entry_of_unit : (policy : Policy) (index : ℕ) (bytes : List ℕ)
     → u32_at 0 (row_bytes_at policy Inode (entry_unit index) bytes) ≡ entry_in index bytes
 entry_of_unit policy index bytes =
     let at : ℕ = INODE_HEADER_BYTES + 4 * index in

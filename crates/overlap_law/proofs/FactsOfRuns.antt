@@ -26,6 +26,7 @@ use Rattle.overlap_law.proofs.HolderLemmas.{holders, good-live, counted-there, g
 use Rattle.overlap_law.proofs.KeptSoFar.{kept_so_far}
 use Rattle.overlap_law.proofs.NoRecoveredDue.{began-with_past}
 use Rattle.overlap_law.proofs.OverlapLemmas.{complete_lists, gives-complete}
+use Rattle.overlap_law.proofs.TablesOfRuns.{copies-in_run}
 use Rattle.overlap_law.proofs.StandingAttempts.{stand, gives-stand}
 
 -- what is live was born
@@ -80,6 +81,7 @@ module _ (script : List Statement) (range : RunsAreInRange script) (events : Lis
           entries = entries_named (good-live moment.world.log moment.past.attempts moment.past.unavailable)
               (live-born moment.world.log moment.past.attempts) so_far.tied.fates so_far.shaped.shape rows.ends rows.row_shape rows.placed
               rows.of_attempts rows.since own;
+          tables = copies-in_run script range events moment is;
         }
 
 -- and by the invariant
@@ -95,6 +97,7 @@ facts-by_overlap script range events moment is o = record {
     entries = entries_named (good-live moment.world.log moment.past.attempts moment.past.unavailable)
         (live-born moment.world.log moment.past.attempts) o.attempts.fates o.attempts.shape o.rows.ends o.rows.row_shape o.rows.placed
         o.rows.of_attempts o.rows.since o.tables.own;
+    tables = copies-in_run script range events moment is;
   };
   legal = o.legal;
 }

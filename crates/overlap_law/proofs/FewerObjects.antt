@@ -290,7 +290,16 @@ module _ {good_id few_ids : ℕ → Bool} (ids : CallsFewer few_ids good_id) whe
             waited_for_of_fewer host.node waiting.req waiting.work (all.waited_for.lined n host at up number place session waiting of there);
       };
       granted = all.granted;
-      drawn = record { each = λ j attempt there vid index object is. all.drawn.each j attempt there vid index object (ids vid is) };
+      drawn = record {
+        each = λ vid index entry is candidate. all.drawn.each vid index entry (record {
+          reservation = is.reservation;
+          stands = is.stands;
+          good = ids vid is.good;
+          spec = is.spec;
+          made_with = is.made_with;
+          within = is.within;
+        }) candidate;
+      };
       created = record {
         created = all.created.created;
         table = λ n host at up req index request op entry inode there on publishing is.

@@ -27,7 +27,7 @@ use Rattle.peer_proto.specs.Work.{IsWork, oid_of, policy_of}
 use Rattle.recovery.specs.Level.{rows_in_order, rows_taken, are_enough, part_from_rows}
 use Rattle.recovery.proofs.TakenParts.{Each, each-ordered, each-taken, points-taken}
 use Rattle.overlap_law.specs.Attempts.{AttemptRecord}
-use Rattle.overlap_law.specs.Since.{reading_by, IsStripOf, AreMuteAfter}
+use Rattle.overlap_law.specs.Since.{reading_by, IsStripOf, AddNothingAfter}
 use Rattle.overlap_law.specs.Units.{unit_start, unit_size, unit_end, covers_by, bytes_by, row_bytes_at, unit_part_by, covers_unit}
 use Rattle.overlap_law.proofs.CopyUnits.{whole_part}
 use Rattle.overlap_law.proofs.FoundCopies.{part-of_copy}
@@ -126,7 +126,7 @@ module _ (attempts : List AttemptRecord) (policy : Policy) (kind : Kind)
 -- a row of strips is of the same bytes as the others
 strips_same : (d p unit j : ℕ) (attempts : List AttemptRecord) (attempt : AttemptRecord) → slice_get attempts j ≡ Some attempt
     → policy_of attempt.work ≡ Coded d p → kind_of (oid_of attempt.work) ≡ Block → length (bytes_by unit attempt.work) ≡ 512
-    → AreMuteAfter attempts unit j → (rows : List RowCopy)
+    → AddNothingAfter attempts unit j attempt → (rows : List RowCopy)
     → Each (λ (one : RowCopy). IsStripOf attempts unit j one.index (row_bytes_at (Coded d p) Block unit (row_bytes one))) rows
     → HaveStrips d p unit (bytes_by unit attempt.work) rows
 strips_same d p unit j attempts attempt there policy kind long mute [] all = tt

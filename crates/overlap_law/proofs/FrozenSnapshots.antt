@@ -71,7 +71,7 @@ use Rattle.overlap_law.proofs.ToComeStays.{to_come_before}
 
 -- ---- states
 
-snapshot_so : (state : VdiState) → is_snapshot_effect state ≡ true → IsLiveSnapshot state
+pub snapshot_so : (state : VdiState) → is_snapshot_effect state ≡ true → IsLiveSnapshot state
 snapshot_so states.Unused is = absurd (cc (is))
 snapshot_so (states.Reserved by) is = absurd (cc (is))
 snapshot_so states.Working is = absurd (cc (is))
@@ -79,7 +79,7 @@ snapshot_so (states.Snapshot tag) is = (tag, refl)
 snapshot_so states.Deleted is = absurd (cc (is))
 snapshot_so states.Freed is = absurd (cc (is))
 
-so_snapshot : (state : VdiState) → IsLiveSnapshot state → is_snapshot_effect state ≡ true
+pub so_snapshot : (state : VdiState) → IsLiveSnapshot state → is_snapshot_effect state ≡ true
 so_snapshot state (tag, same) = ap is_snapshot_effect same
 
 pub working_lives : (effects : List Effect) (vid : ℕ) → state_of effects vid ≡ states.Working → is_dead effects vid ≡ false
@@ -201,7 +201,7 @@ module _ (script : List Statement) (range : RunsAreInRange script) (events : Lis
           → spec_in (log_effects before.world.log) vid ≡ Some spec → Agree before
       were_frozen snapshot made_with i j one other = frozen.each vid index spec snapshot good made_with within i j one other
 
-      taken_now : (entry : Entry) → snaps vid (outcome (log_effects before.world.log) entry).effect ≡ true
+      pub taken_now : (entry : Entry) → snaps vid (outcome (log_effects before.world.log) entry).effect ≡ true
           → spec_in (log_effects before.world.log) vid ≡ Some spec
           → IsOfMembers entry ⊎ ((before ≡ start) × IsPutNow before.world.hosts entry) → Agree before
       taken_now entry now made_with whose = by_whose (snapshot_entry (log_effects before.world.log) vid entry now) whose

@@ -31,21 +31,21 @@ found_among passes oid (first ∷ later) among is = ⊎_elim
     or_right (passes first) (list_any passes later) (found_among passes oid later there is))
     (or_cases (first == oid) (is_object_among oid later) among)
 
-module _ (log : List Entry) (vid oid : ℕ) (stands : is_gone (state_of (log_effects log) vid) ≡ false) where
-  -- its disk isn't dead
-  below_alive : IsBelow log vid oid → is_dead_by_log log oid ≡ false
-  below_alive (inl own) = ap (is_dead (log_effects log)) own ∙ stands_alive (log_effects log) vid stands
-  below_alive (inr above) = by_test (is_dead (log_effects log) (vid_of oid)) refl
-    where
-      by_test : (b : Bool) → is_dead (log_effects log) (vid_of oid) ≡ b → b ≡ false
-      by_test true dead =
-          let gone = (test-finds-dead log (vid_of oid)).0 dead in
-          let never = gone.heirs vid above in
-          absurd (cc (never, stands))
-      by_test false alive = refl
+-- what is above an id that stands isn't dead
+pub above_lives : (log : List Entry) (elder vid : ℕ) → is_gone (state_of (log_effects log) vid) ≡ false
+    → is_above (log_effects log) elder vid ≡ true → is_dead (log_effects log) elder ≡ false
+above_lives log elder vid stands above = by_test (is_dead (log_effects log) elder) refl
+  where
+    by_test : (b : Bool) → is_dead (log_effects log) elder ≡ b → b ≡ false
+    by_test true dead =
+        let gone = (test-finds-dead log elder).0 dead in
+        let never = gone.heirs vid above in
+        absurd (cc (never, stands))
+    by_test false alive = refl
 
+module _ (log : List Entry) (vid oid : ℕ) where
   -- it was never lacking
-  never_lacked : (unavailable : List ℕ) → is_available_disk log unavailable vid ≡ true → IsBelow log vid oid
+  pub never_lacked : (unavailable : List ℕ) → is_available_disk log unavailable vid ≡ true → IsBelow log vid oid
       → not (is_object_among oid unavailable) ≡ true
   unfolding is_available_disk
   never_lacked unavailable available below = by_test (is_object_among oid unavailable) refl
@@ -60,13 +60,19 @@ module _ (log : List Entry) (vid oid : ℕ) (stands : is_gone (state_of (log_eff
           absurd (cc (lacking, available))
       by_test false none = refl
 
+module _ (log : List Entry) (vid oid : ℕ) (stands : is_gone (state_of (log_effects log) vid) ≡ false) where
+  -- its disk isn't dead
+  below_alive : IsBelow log vid oid → is_dead_by_log log oid ≡ false
+  below_alive (inl own) = ap (is_dead (log_effects log)) own ∙ stands_alive (log_effects log) vid stands
+  below_alive (inr above) = above_lives log (vid_of oid) vid stands above
+
   pub good_below : (attempts : List AttemptRecord) (unavailable : List ℕ) → is_available_disk log unavailable vid ≡ true
       → IsBelow log vid oid
       → IsBorn attempts oid → is_good log attempts unavailable oid ≡ true
   good_below attempts unavailable available below born =
       and_from (is_live_object log attempts oid) (not (is_object_among oid unavailable))
       (and_from (is_object_among oid (born_objects attempts)) (not (is_dead_by_log log oid)) born (ap not (below_alive below)))
-      (never_lacked unavailable available below)
+      (never_lacked log vid oid unavailable available below)
 
 -- ---- as the log grows
 

@@ -79,7 +79,7 @@ reserved_push log entry vid =
     ap (fold (later_if (grants vid)) 0) (dated_push log entry)
     ∙ fold-append (later_if (grants vid)) 0 (dated_effects log) ((epoch_of (log ++ entry ∷ []), effect_of log entry) ∷ [])
 
-used_push : (log : List Entry) (entry : Entry) (vid : ℕ) → is_used (log_effects (log ++ entry ∷ [])) vid ≡ (is_used (log_effects log) vid || grants vid (effect_of log entry))
+pub used_push : (log : List Entry) (entry : Entry) (vid : ℕ) → is_used (log_effects (log ++ entry ∷ [])) vid ≡ (is_used (log_effects log) vid || grants vid (effect_of log entry))
 used_push log entry vid =
     ap (λ (known : List Effect). is_used known vid) (log_effects-push log entry) ∙ is_used-push (log_effects log) (effect_of log entry) vid
 

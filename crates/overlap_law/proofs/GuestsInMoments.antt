@@ -41,101 +41,62 @@ use Rattle.overlap_law.proofs.OpenInMoments.{received_gateway, made_gateway}
 
 -- ---- what leaves the sessions and the requests as they are
 
-received_sessions : (cause : NodeCause) (node : Node) → StepsByChanges cause
-    → (input_received (input_of_cause cause) (at_first node)).node.sessions ≡ node.sessions
+-- a node's sessions and requests are another's
+abbrev HaveGuestsOf : Node → Node → Type 0
+HaveGuestsOf node now = (now.sessions ≡ node.sessions) × (now.requests ≡ node.requests)
+
+abbrev LeavesGuests : Node → StepState → Type 0
+LeavesGuests node so_far = HaveGuestsOf node so_far.node
+
+received_guests : (cause : NodeCause) (node : Node) → StepsByChanges cause
+    → LeavesGuests node (input_received (input_of_cause cause) (at_first node))
 unfolding entry_read
-received_sessions (GuestAsks session req ask) node by = refl
-received_sessions (RequestComes name to request) node by = absurd by
-received_sessions (ReplyComes name from rsp) node by =
-    cond_either (λ (start : StepState). start.node.sessions ≡ node.sessions) (gateway_states.gateway_awaits rsp.number node.gateway)
-    (at_first node)
-    (recovery_stepped (recovery_steps.recovery_on_reply rsp (recovery_state_of node)) (at_first node)) refl refl
-received_sessions (LossIsTold name packet) node by =
-    cond_either (λ (start : StepState). start.node.sessions ≡ node.sessions) (gateway_states.gateway_awaits name.number node.gateway)
-    (at_first node)
-    (recovery_stepped (recovery_steps.recovery_on_loss name.number (recovery_state_of node)) (at_first node)) refl refl
-received_sessions (EntryIsRead entry) node by = refl
-received_sessions (EntryIsPut entry) node by = absurd by
-received_sessions RecoveryTicks node by = absurd by
-received_sessions WorkIsRetried node by = refl
+received_guests (GuestAsks session req ask) node by = (refl, refl)
+received_guests (RequestComes name to request) node by = absurd by
+received_guests (ReplyComes name from rsp) node by =
+    cond_either (LeavesGuests node) (gateway_states.gateway_awaits rsp.number node.gateway) (at_first node)
+    (recovery_stepped (recovery_steps.recovery_on_reply rsp (recovery_state_of node)) (at_first node)) (refl, refl) (refl, refl)
+received_guests (LossIsTold name packet) node by =
+    cond_either (LeavesGuests node) (gateway_states.gateway_awaits name.number node.gateway) (at_first node)
+    (recovery_stepped (recovery_steps.recovery_on_loss name.number (recovery_state_of node)) (at_first node)) (refl, refl) (refl, refl)
+received_guests (EntryIsRead entry) node by = (refl, refl)
+received_guests (EntryIsPut entry) node by = absurd by
+received_guests RecoveryTicks node by = absurd by
+received_guests WorkIsRetried node by = (refl, refl)
 
-due_sessions : (so_far : StepState) → (recovered_put so_far).node.sessions ≡ so_far.node.sessions
+due_guests : (node : Node) (so_far : StepState) → LeavesGuests node so_far → LeavesGuests node (recovered_put so_far)
 unfolding recovered_put
-due_sessions so_far =
-    cond_either (λ (now : StepState). now.node.sessions ≡ so_far.node.sessions) (is_due so_far.node) (with_recovered so_far) so_far refl
-    refl
+due_guests node so_far is = cond_either (LeavesGuests node) (is_due so_far.node) (with_recovered so_far) so_far is is
 
-received_requests : (cause : NodeCause) (node : Node) → StepsByChanges cause
-    → (input_received (input_of_cause cause) (at_first node)).node.requests ≡ node.requests
-unfolding entry_read
-received_requests (GuestAsks session req ask) node by = refl
-received_requests (RequestComes name to request) node by = absurd by
-received_requests (ReplyComes name from rsp) node by =
-    cond_either (λ (start : StepState). start.node.requests ≡ node.requests) (gateway_states.gateway_awaits rsp.number node.gateway)
-    (at_first node)
-    (recovery_stepped (recovery_steps.recovery_on_reply rsp (recovery_state_of node)) (at_first node)) refl refl
-received_requests (LossIsTold name packet) node by =
-    cond_either (λ (start : StepState). start.node.requests ≡ node.requests) (gateway_states.gateway_awaits name.number node.gateway)
-    (at_first node)
-    (recovery_stepped (recovery_steps.recovery_on_loss name.number (recovery_state_of node)) (at_first node)) refl refl
-received_requests (EntryIsRead entry) node by = refl
-received_requests (EntryIsPut entry) node by = absurd by
-received_requests RecoveryTicks node by = absurd by
-received_requests WorkIsRetried node by = refl
+put_guests : (outbox : List Entry) (node : Node) → LeavesGuests node (on_put outbox (at_first node))
+put_guests [] node = (refl, refl)
+put_guests (entry ∷ later) node = (refl, refl)
 
-due_requests : (so_far : StepState) → (recovered_put so_far).node.requests ≡ so_far.node.requests
-unfolding recovered_put
-due_requests so_far =
-    cond_either (λ (now : StepState). now.node.requests ≡ so_far.node.requests) (is_due so_far.node) (with_recovered so_far) so_far refl
-    refl
-
-put_requests : (outbox : List Entry) (node : Node) → (on_put outbox (at_first node)).node.requests ≡ node.requests
-put_requests [] node = refl
-put_requests (entry ∷ later) node = refl
-
-made_requests : (cause : NodeCause) (node : Node) → StepsAtOnce cause
-    → (node_step (input_of_cause cause) node).node.requests ≡ node.requests
+made_guests : (cause : NodeCause) (node : Node) → StepsAtOnce cause → LeavesGuests node (node_step (input_of_cause cause) node)
 unfolding node_step on_input on_request on_recover_tick
-made_requests (GuestAsks session req ask) node by = absurd by
-made_requests (RequestComes name to request) node by = due_requests (on_request request (at_first node))
-made_requests (ReplyComes name from rsp) node by = absurd by
-made_requests (LossIsTold name packet) node by = absurd by
-made_requests (EntryIsRead entry) node by = absurd by
-made_requests (EntryIsPut entry) node by = due_requests (on_put node.outbox (at_first node)) ∙ put_requests node.outbox node
-made_requests RecoveryTicks node by = due_requests (on_recover_tick (at_first node))
-made_requests WorkIsRetried node by = absurd by
+made_guests (GuestAsks session req ask) node by = absurd by
+made_guests (RequestComes name to request) node by = due_guests node (on_request request (at_first node)) (refl, refl)
+made_guests (ReplyComes name from rsp) node by = absurd by
+made_guests (LossIsTold name packet) node by = absurd by
+made_guests (EntryIsRead entry) node by = absurd by
+made_guests (EntryIsPut entry) node by = due_guests node (on_put node.outbox (at_first node)) (put_guests node.outbox node)
+made_guests RecoveryTicks node by = due_guests node (on_recover_tick (at_first node)) (refl, refl)
+made_guests WorkIsRetried node by = absurd by
 
-put_sessions : (outbox : List Entry) (node : Node) → (on_put outbox (at_first node)).node.sessions ≡ node.sessions
-put_sessions [] node = refl
-put_sessions (entry ∷ later) node = refl
-
-made_sessions : (cause : NodeCause) (node : Node) → StepsAtOnce cause
-    → (node_step (input_of_cause cause) node).node.sessions ≡ node.sessions
-unfolding node_step on_input on_request on_recover_tick
-made_sessions (GuestAsks session req ask) node by = absurd by
-made_sessions (RequestComes name to request) node by = due_sessions (on_request request (at_first node))
-made_sessions (ReplyComes name from rsp) node by = absurd by
-made_sessions (LossIsTold name packet) node by = absurd by
-made_sessions (EntryIsRead entry) node by = absurd by
-made_sessions (EntryIsPut entry) node by = due_sessions (on_put node.outbox (at_first node)) ∙ put_sessions node.outbox node
-made_sessions RecoveryTicks node by = due_sessions (on_recover_tick (at_first node))
-made_sessions WorkIsRetried node by = absurd by
-
-back_none : (entries : List Entry) (node : Node) → (on_back entries node).sessions ≡ tree.empty
+-- a node that comes back has none
+back_none : (entries : List Entry) (node : Node)
+    → ((on_back entries node).sessions ≡ tree.empty) × ((on_back entries node).requests ≡ tree.empty)
 unfolding on_back
-back_none entries node = refl
+back_none entries node = (refl, refl)
 
-back_requests : (entries : List Entry) (node : Node) → (on_back entries node).requests ≡ tree.empty
-unfolding on_back
-back_requests entries node = refl
-
-returned_requests : (entries : List Entry) (node : Node) → (node_step (inputs.Back entries) node).node.requests ≡ tree.empty
+returned_none : (entries : List Entry) (node : Node) → ((node_step (inputs.Back entries) node).node.sessions ≡ tree.empty)
+    × ((node_step (inputs.Back entries) node).node.requests ≡ tree.empty)
 unfolding node_step on_input
-returned_requests entries node = due_requests (with_node (on_back entries node) (at_first node)) ∙ back_requests entries node
-
-returned_none : (entries : List Entry) (node : Node) → (node_step (inputs.Back entries) node).node.sessions ≡ tree.empty
-unfolding node_step on_input
-returned_none entries node = due_sessions (with_node (on_back entries node) (at_first node)) ∙ back_none entries node
+returned_none entries node =
+    let back : StepState = with_node (on_back entries node) (at_first node) in
+    let none = back_none entries node in
+    let same = due_guests back.node back (refl, refl) in
+    (same.0 ∙ none.0, same.1 ∙ none.1)
 
 -- ---- the sessions of a host after a change
 
@@ -210,7 +171,7 @@ module _ (script : List Statement) (start : MomentWithPast) where
       inr (
         one_guests start after stepping.n (host_with_node stepping.host (first_in_step stepping).node) refl
             (GuestsStay stepping.host is.there (λ up. up) (received_gateway stepping.cause stepping.host.node by)
-            (received_sessions stepping.cause stepping.host.node by) (received_requests stepping.cause stepping.host.node by)),
+            (received_guests stepping.cause stepping.host.node by).0 (received_guests stepping.cause stepping.host.node by).1),
         marked_were start after (attempts_at_cause stepping.host.node stepping.cause start.past.attempts)
             (attempts-at_first script start stepping is by) (caused_was stepping.host.node stepping.cause start.past.attempts),
       )
@@ -229,7 +190,7 @@ module _ (script : List Statement) (start : MomentWithPast) where
       inr (
         one_guests start after stepping.n (host_with_node stepping.host (last_in_step stepping).node) refl
             (GuestsStay stepping.host is.there (λ up. up) (made_gateway stepping.cause stepping.host.node by)
-            (made_sessions stepping.cause stepping.host.node by) (made_requests stepping.cause stepping.host.node by)),
+            (made_guests stepping.cause stepping.host.node by).0 (made_guests stepping.cause stepping.host.node by).1),
         marked_were start after (attempts_at_cause stepping.host.node stepping.cause start.past.attempts)
             (attempts-at_end script start stepping is by) (caused_was stepping.host.node stepping.cause start.past.attempts),
       )
@@ -265,7 +226,7 @@ module _ (script : List Statement) (start : MomentWithPast) where
       let log = log_after_return script h.n start.world in
       inr (
         one_guests before after h.n (host_after_return log h.host) (ap (λ (m : EventOutcome). m.world.hosts) (sym h.made_so))
-            (GuestsAreNone (returned_none log h.host.node) (returned_requests log h.host.node)),
+            (GuestsAreNone (returned_none log h.host.node).0 (returned_none log h.host.node).1),
         still event made (attempts-of_return script event start.world made start.past.attempts h),
       )
   between {before} {after} (moments.PhaseEnds event made happened h) = inr (

@@ -62,7 +62,7 @@ adds_none req true other rsp disk (lines.Check session) = ended_none req other r
 adds_none req false other rsp disk (lines.Check session) = refl
 adds_none req written other rsp disk s = refl
 
-added_none : (req : ℕ) (written : Bool) (other : ℕ) (rsp : GuestRsp) (disk : Option ℕ) (s : Option Statement)
+pub added_none : (req : ℕ) (written : Bool) (other : ℕ) (rsp : GuestRsp) (disk : Option ℕ) (s : Option Statement)
     → BeginNone req (added_by written other rsp disk s)
 added_none req written other rsp None s = refl
 added_none req written other rsp (Some disk) None = refl

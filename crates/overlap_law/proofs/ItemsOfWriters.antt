@@ -15,6 +15,8 @@ use Rattle.sheep_node.specs.declared.course.Request.{Request}
 use Rattle.sheep_node.specs.declared.input.Input.TheVariants as inputs
 use Rattle.sheep_node.specs.CheckWrites.{has_check_written, has_course_written}
 use Rattle.sheep_node.specs.State.{Node}
+use Rattle.sheep_node.specs.StepState.{StepState, at_first}
+use Rattle.sheep_node.specs.Changes.{Leads, input_received}
 use Rattle.sheep_node.specs.Step.{node_step}
 use Rattle.sheep_node.proofs.StepChain.{kept_by_chain, step_chain}
 use Rattle.sheep_world.specs.World.{Host, World, node_at}
@@ -64,24 +66,26 @@ module _ (script : List Statement) (range : RunsAreInRange script) (req : ℕ) w
     -- ---- to whom a step replies
 
     -- one who had no reply, whom the node had, or who is the guest's that begins
-    abbrev IsHere : NodeCause → ℕ → Type 0
+    abbrev pub IsHere : NodeCause → ℕ → Type 0
     IsHere cause q = ((request : Request) × (tree.get host.node.requests q ≡ Some request))
         ⊎ ((session : ℕ) × (ask : Ask) × (input_of_cause cause ≡ inputs.Guest q session ask))
 
-    abbrev IsOpenAt : NodeCause → ℕ → ℕ → Bool → Type 0
+    abbrev pub IsOpenAt : NodeCause → ℕ → ℕ → Bool → Type 0
     IsOpenAt cause q session disk = IsUnanswered (progress_at_cause cause world) q session
         × IsAskedIn script n host.incarnation q session × IsHere cause q
 
-    replied_open : (cause : NodeCause) → IsCause script world n host cause → (reply : ℕ × GuestRsp) → Contains (replies cause) reply
-        → (session : ℕ) × (disk : Bool) × IsOpenAt cause reply.0 session disk
-    replied_open cause caused =
-        (kept_by_chain (KnownIn (IsOpenAt cause)) (change_known (IsOpenAt cause) (input_of_cause cause) host.node
+    -- so it is of each whom the node has so far, or replied to
+    pub open_so_far : (cause : NodeCause) → IsCause script world n host cause → {so_far : StepState}
+        → Leads (input_of_cause cause) host.node (input_received (input_of_cause cause) (at_first host.node)) so_far
+        → KnownIn (IsOpenAt cause) so_far
+    open_so_far cause caused leads =
+        kept_by_chain (KnownIn (IsOpenAt cause)) (change_known (IsOpenAt cause) (input_of_cause cause) host.node
         (λ q session ask from. (
           (brings_tied script world n host cause caused q session ask from).unanswered,
           brought script world n host cause caused q session ask from,
           inr (session, ask, from),
         )))
-        (step_chain (input_of_cause cause) host.node)
+        leads
         (received_none (IsOpenAt cause) (input_of_cause cause) host.node (received_replies (input_of_cause cause) host.node)
         (λ q request got.
         let was = (requests_tied script range world began n host there q request got).unanswered in (
@@ -92,7 +96,11 @@ module _ (script : List Statement) (range : RunsAreInRange script) (req : ℕ) w
           },
           are_asked script world began n host there q request got,
           inl (request, got),
-        )))).replied
+        )))
+
+    replied_open : (cause : NodeCause) → IsCause script world n host cause → (reply : ℕ × GuestRsp) → Contains (replies cause) reply
+        → (session : ℕ) × (disk : Bool) × IsOpenAt cause reply.0 session disk
+    replied_open cause caused = (open_so_far cause caused (step_chain (input_of_cause cause) host.node)).replied
 
     pub replies_open : (cause : NodeCause) → IsCause script world n host cause → (reply : ℕ × GuestRsp) → Contains (replies cause) reply
         → IsOpenRequest script (progress_at_cause cause world) reply.0

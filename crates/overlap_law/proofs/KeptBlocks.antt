@@ -16,7 +16,7 @@ use Rattle.disk_history.specs.Ledger.{Open, Acknowledged, Lost, Item, Disk, Ledg
 use Rattle.vdi_directory.specs.declared.effect.Effect.{Effect}
 use Rattle.vdi_directory.specs.States.{state_of, is_live_state}
 use Rattle.overlap_law.specs.Attempts.{AttemptRecord}
-use Rattle.overlap_law.specs.StayingBlocks.{WasServed, MayStay, IsHomeToCome, ItemsAreOpen, IsMadeBlank, IsMadeLike, IsAloneWhereWritten, ComesToNothing, KeepsBlocks, AllKeepBlocks}
+use Rattle.overlap_law.specs.StayingBlocks.{WasServed, MayStay, IsHomeToCome, ItemsAreOpen, IsMadeBlank, IsMadeLike, HasEntryOf, IsAloneWhereWritten, ComesToNothing, KeepsBlocks, AllKeepBlocks}
 use Rattle.overlap_law.specs.Tables.{entry_by}
 use Rattle.overlap_law.specs.ToCome.{comes_to_nothing, IsToCome, IsEntryToCome}
 use Rattle.overlap_law.specs.Words.{Hosts, is_mute, bytes_by}
@@ -143,7 +143,7 @@ module _ (effects : List Effect) (good_id : ℕ → Bool) (hosts : Hosts) (attem
 
   -- ---- what an event makes
 
-  made_holds : (ledger : Ledger) (vid blocks : ℕ) → IsMadeBlank hosts attempts vid → AreWritten ledger
+  made_holds : (ledger : Ledger) (vid blocks : ℕ) → IsMadeBlank effects good_id hosts attempts vid → AreWritten ledger
       → AreWritten (ledger_after ledger (Create vid blocks))
   made_holds ledger vid blocks blank =
       one_changes ledger (ledger_after ledger (Create vid blocks)) vid
@@ -160,14 +160,21 @@ module _ (effects : List Effect) (good_id : ℕ → Bool) (hosts : Hosts) (attem
           same = same_bytes (zeros BLOCK_BYTES);
           stays = inl refl;
         };
-        each = λ whole home to_come some j attempt comes below. absurd (nothing index unit home to_come some j attempt comes);
+        each = λ whole home to_come some j attempt comes below.
+            absurd (nothing index unit home (entry_of block) to_come some j attempt comes);
       }))
     where
-      nothing : (index unit home : ℕ) → IsHomeToCome hosts attempts vid index home → home ≢ 0 → (j : ℕ) (attempt : AttemptRecord)
-          → IsToCome hosts attempts (object_number home index) unit j attempt → ⊥
-      nothing index unit home (inl (i, entry, comes, is)) some j attempt there = some (sym is ∙ blank.entry index i entry comes)
-      nothing index unit home (inr is) some j attempt there =
-          blank.own index unit j attempt (subst (λ (v : ℕ). IsToCome hosts attempts (object_number v index) unit j attempt) is there)
+      entry_of : {disk : Disk} {spec : VdiSpec} {index unit : ℕ}
+          → IsBlock (ledger_after ledger (Create vid blocks)) vid disk spec index unit
+          → HasEntryOf effects good_id vid index
+      entry_of {disk} {spec} block =
+          record { live = block.live; good = block.good; spec = spec; made_with = block.made_with; object = block.object }
+
+      nothing : (index unit home : ℕ) → HasEntryOf effects good_id vid index → IsHomeToCome hosts attempts vid index home → home ≢ 0
+          → (j : ℕ) (attempt : AttemptRecord) → IsToCome hosts attempts (object_number home index) unit j attempt → ⊥
+      nothing index unit home has (inl (i, entry, comes, is)) some j attempt there = some (sym is ∙ blank.entry index i entry has comes)
+      nothing index unit home has (inr is) some j attempt there =
+          blank.own index unit j attempt has (subst (λ (v : ℕ). IsToCome hosts attempts (object_number v index) unit j attempt) is there)
 
   copied_holds : (ledger : Ledger) (old new : ℕ) → IsMadeLike effects good_id hosts attempts ledger old new → AreWritten ledger
       → AreWritten (ledger_after ledger (Copy old new))
@@ -184,24 +191,26 @@ module _ (effects : List Effect) (good_id : ℕ → Bool) (hosts : Hosts) (attem
           = same_Some (record was { deleted = false }) disk
           (sym (ap (option_map (λ (disk : Disk). record disk { deleted = false })) before.there) ∙ there) in
           subst (HoldsAt new index unit spec) (ap (λ (d : Disk). items_at d spec index unit) same)
-          (of_old index unit spec (items_at was spec index unit) (all old was spec index unit before))
+          (of_old index unit spec (items_at was spec index unit)
+          (record { live = block.live; good = block.good; spec = spec; made_with = block.made_with; object = block.object })
+          (all old was spec index unit before))
         where
-          of_old : (index unit : ℕ) (spec : VdiSpec) (items : List Item) → HoldsAt old index unit spec items
-              → HoldsAt new index unit spec items
-          of_old index unit spec items holds = record {
+          of_old : (index unit : ℕ) (spec : VdiSpec) (items : List Item) → HasEntryOf effects good_id new index
+              → HoldsAt old index unit spec items → HoldsAt new index unit spec items
+          of_old index unit spec items has holds = record {
             holes = λ j entry comes hole.
-                let (i, other, there, same) = like.entry index j entry comes in holds.holes i other there (same ∙ hole);
+                let (i, other, there, same) = like.entry index j entry has comes in holds.holes i other there (same ∙ hole);
             each = λ whole home to_come some j attempt comes below.
-                holds.each whole home (home_of_old index unit home j attempt comes to_come) some j attempt comes below;
+                holds.each whole home (home_of_old home j attempt comes to_come) some j attempt comes below;
           }
             where
-              home_of_old : (index unit home j : ℕ) (attempt : AttemptRecord)
+              home_of_old : (home j : ℕ) (attempt : AttemptRecord)
                   → IsToCome hosts attempts (object_number home index) unit j attempt
                   → IsHomeToCome hosts attempts new index home → IsHomeToCome hosts attempts old index home
-              home_of_old index unit home j attempt comes (inl (i, entry, there, is)) =
-                  let (k, other, found, same) = like.entry index i entry there in inl (k, other, found, same ∙ is)
-              home_of_old index unit home j attempt comes (inr is) =
-                  absurd (like.own index unit j attempt
+              home_of_old home j attempt comes (inl (i, entry, there, is)) =
+                  let (k, other, found, same) = like.entry index i entry has there in inl (k, other, found, same ∙ is)
+              home_of_old home j attempt comes (inr is) =
+                  absurd (like.own index unit j attempt has
                   (subst (λ (v : ℕ). IsToCome hosts attempts (object_number v index) unit j attempt) is comes))
 
   deleted_holds : (ledger : Ledger) (vid : ℕ) → AreWritten ledger → AreWritten (ledger_after ledger (Delete vid))

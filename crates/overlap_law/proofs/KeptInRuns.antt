@@ -11,6 +11,30 @@ use Rattle.overlap_law.proofs.MomentTrails.{event_trail}
 use Rattle.overlap_law.proofs.RunsByEvents.{run-kept_by_events}
 use Rattle.overlap_law.proofs.RunsWithOneMore.{run_with_one_more}
 
+-- each event in a run keeps it
+abbrev pub KeptAtEvents : List Statement → (MomentWithPast → Type 0) → Type 0
+KeptAtEvents script P = (events : List Event) (event : Event) (start end : MomentWithPast) → run_with_past script events ≡ Some start
+    → run_with_past script (events ++ event ∷ []) ≡ Some end → next_moment script event start ≡ Some end → P start → P end
+
+module _ (script : List Statement) (P : MomentWithPast → Type 0) (opens : P (first_moment script)) (keeps : KeptAtEvents script P) where
+  abbrev HoldsInRun : MomentWithPast → Type 0
+  HoldsInRun moment = (events : List Event) × (run_with_past script events ≡ Some moment) × P moment
+
+  opens_in_run : HoldsInRun (first_moment script)
+  unfolding run_with_past run_on
+  opens_in_run = ([], refl, opens)
+
+  keeps_in_run : (event : Event) (before : MomentWithPast) (made : EventOutcome) → Began script before.world
+      → step script event before.world ≡ Some made → HoldsInRun before → HoldsInRun (moment_after script event before made)
+  keeps_in_run event before made began is holds =
+      let after : MomentWithPast = moment_after script event before made in
+      let next : next_moment script event before ≡ Some after = ap (option_map (moment_after script event before)) is in
+      let run = run_with_one_more script event made holds.0 before is holds.1 in
+      (holds.0 ++ event ∷ [], run, keeps holds.0 event before after holds.1 run next holds.2)
+
+  pub kept_at_events : (events : List Event) (moment : MomentWithPast) → run_with_past script events ≡ Some moment → P moment
+  kept_at_events events moment run = (run-kept_by_events script HoldsInRun opens_in_run keeps_in_run events moment run).2
+
 -- each change on the way of an event in a run keeps it
 abbrev pub KeptOnTheWay : List Statement → (MomentWithPast → Type 0) → Type 0
 KeptOnTheWay script P = (events : List Event) (start before after : MomentWithPast) → run_with_past script events ≡ Some start
@@ -23,24 +47,10 @@ module _ (script : List Statement) (P : MomentWithPast → Type 0) (opens : P (f
   along events start run (Then {moment} {next} trail change) holds =
       keeps events start moment next run trail change (along events start run trail holds)
 
-  abbrev HoldsInRun : MomentWithPast → Type 0
-  HoldsInRun moment = (events : List Event) × (run_with_past script events ≡ Some moment) × P moment
-
-  opens_in_run : HoldsInRun (first_moment script)
-  unfolding run_with_past run_on
-  opens_in_run = ([], refl, opens)
-
-  keeps_in_run : (event : Event) (before : MomentWithPast) (made : EventOutcome) → Began script before.world
-      → step script event before.world ≡ Some made → HoldsInRun before → HoldsInRun (moment_after script event before made)
-  keeps_in_run event before made began is holds =
-      let after : MomentWithPast = moment_after script event before made in
-      let next : next_moment script event before ≡ Some after = ap (option_map (moment_after script event before)) is in (
-        holds.0 ++ event ∷ [],
-        run_with_one_more script event made holds.0 before is holds.1,
-        along holds.0 before holds.1 (event_trail script event before after next) holds.2,
-      )
+  event_keeps : KeptAtEvents script P
+  event_keeps events event start end run then happens holds =
+      along events start run (event_trail script event start end happens) holds
 
   pub kept_on_the_way : (events : List Event) (start moment : MomentWithPast) → run_with_past script events ≡ Some start
       → MomentTrail script start moment → P moment
-  kept_on_the_way events start moment run trail =
-      along events start run trail (run-kept_by_events script HoldsInRun opens_in_run keeps_in_run events start run).2
+  kept_on_the_way events start moment run trail = along events start run trail (kept_at_events script P opens event_keeps events start run)

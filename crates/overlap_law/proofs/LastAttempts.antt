@@ -76,6 +76,35 @@ module _ (passes : AttemptRecord → Bool) where
       (λ (last : IsLast attempts found). last)
       (last_from attempts found None e)
 
+module _ (passes : AttemptRecord → Bool) where
+  abbrev NonePasses : List AttemptRecord → Type 0
+  NonePasses attempts = (k : ℕ) (attempt : AttemptRecord) → slice_get attempts k ≡ Some attempt → passes attempt ≡ false
+
+  abbrev LastOrNone : List AttemptRecord → Type 0
+  LastOrNone attempts = ((found : AttemptRecord) × IsLast passes attempts found) ⊎ NonePasses attempts
+
+  -- one of some attempts is the last that passes, or none does
+  last_or_none : (attempts : List AttemptRecord) → LastOrNone attempts
+  last_or_none [] = inr (λ k attempt at. absurd (cc (at)))
+  last_or_none (attempt ∷ attempts) = ⊎_elim
+      (λ (last : (found : AttemptRecord) × IsLast passes attempts found).
+      inl (last.0, one_more passes attempt attempts last.0 last.1))
+      (λ (none : NonePasses attempts). by_first none (passes attempt) refl)
+      (last_or_none attempts)
+    where
+      by_first : NonePasses attempts → (b : Bool) → passes attempt ≡ b → LastOrNone (attempt ∷ attempts)
+      by_first none true is =
+          inl (attempt, record { place = 0; there = refl; passed = is; none = behind_first passes attempt attempts none })
+      by_first none false is = inr (none_more passes attempt attempts is none)
+
+  -- where one passes there is a last
+  pub last_there : (attempts : List AttemptRecord) (k : ℕ) (attempt : AttemptRecord) → slice_get attempts k ≡ Some attempt
+      → passes attempt ≡ true → (found : AttemptRecord) × IsLast passes attempts found
+  last_there attempts k attempt at is = ⊎_elim
+      (λ (last : (found : AttemptRecord) × IsLast passes attempts found). last)
+      (λ (none : NonePasses attempts). let fails = none k attempt at in absurd (cc (is, fails)))
+      (last_or_none attempts)
+
 -- the last of those that pass two tests, one after the other
 pub last_of_both : (one other : AttemptRecord → Bool) (attempts : List AttemptRecord) (found : AttemptRecord)
     → last_of (filter other (filter one attempts)) ≡ Some found → IsLast (λ (a : AttemptRecord). one a && other a) attempts found

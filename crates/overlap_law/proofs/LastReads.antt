@@ -52,6 +52,7 @@ use Rattle.overlap_law.proofs.EpochsOfAttempts.{change_begun}
 use Rattle.overlap_law.proofs.GatewayEpochs.{keeps_past}
 use Rattle.overlap_law.proofs.MakersApart.{sessions_apart-after}
 use Rattle.overlap_law.proofs.NewAttempts.{WasAttempt, IsOpened, come_from}
+use Rattle.overlap_law.proofs.NoRecoveredDue.{began-with_past}
 use Rattle.overlap_law.proofs.OpenInSteps.{WasOpenAt, each_was_open}
 use Rattle.overlap_law.proofs.ReadInMoments.{HostsAreSound, hosts_after_sound}
 use Rattle.overlap_law.proofs.ReadsInMoments.{known_after}
@@ -236,7 +237,7 @@ module _ (script : List Statement) (range : RunsAreInRange script) (start : Mome
         }
 
     -- and none begins on its object
-    none_begins : IsOpened script start after attempt → ⊥
+    pub none_begins : IsOpened script start after attempt → ⊥
     none_begins o = ⊎_elim own_id snapshot (known.each n host there up req work got reads own)
       where
         under : IsUnderTheGrant after.world.log attempt (vid_of (object_of attempt))
@@ -363,3 +364,24 @@ module _ (script : List Statement) (range : RunsAreInRange script) where
         flying = λ n host there up req work current got reads own stage j attempt at same place target packet.
             (last n host there up req work current got reads stage j attempt at same).flying place target packet;
       }
+
+  -- also what a client reads
+  pub open_reads-in_run : (events : List Event) (start moment : MomentWithPast) → run_with_past script events ≡ Some start
+      → MomentTrail script start moment → OpenReadsAreLast moment.world.hosts moment.world.wire moment.past.attempts
+  open_reads-in_run events start moment is trail = (on_the_way script HasAll kept_last events start moment is trail).1
+
+  -- no attempt begins on the object of an open read
+  pub none_begins_beside : (events : List Event) (start before after : MomentWithPast) → run_with_past script events ≡ Some start
+      → MomentTrail script start before → MomentChange script start before after → (n : ℕ) (host : Host)
+      → tree.get after.world.hosts n ≡ Some host → host.is_lost ≡ false → (req : ℕ) (work : Work) (current : gateways.Attempt)
+      → tree.get host.node.gateway.works req ≡ Some work → is_making work.work ≡ false → work.stage ≡ Open current
+      → (j : ℕ) (attempt : AttemptRecord) → slice_get after.past.attempts j ≡ Some attempt → object_of attempt ≡ oid_of work.work
+      → IsOpened script start after attempt → ⊥
+  none_begins_beside events start before after is trail change n host there up req work current got reads stage j attempt at same opened =
+      let began : Began script start.world = began-with_past script events start is in
+      let has = on_the_way script HasAll kept_last events start before is trail in
+      let rest = keeps_rest start before after began change has.0 in
+      none_begins script range start began change has.0.tied rest.one rest.closed rest.awaited rest.past
+      (apart start before after began change)
+      (known start before after began change) (well_after script range start began change) has.1 n host there up req work current got reads
+      stage j attempt at same opened

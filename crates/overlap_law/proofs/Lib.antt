@@ -268,8 +268,6 @@ pub mod StepsOfAsks
 pub mod CoursesOfAsks
 pub mod CoursesAtChanges
 pub mod CoursesOfScript
-pub mod QueuedPieces
-pub mod QueuedChanges
 pub mod QueuedInSteps
 pub mod WorksAtCourses
 pub mod WaitedSteps
@@ -461,11 +459,7 @@ pub mod BlocksInMoments
 pub mod OutcomesToCome
 pub mod ReadableBlocks
 pub mod ItemsStayOpen
-pub mod OwnTables
-pub mod OwnTableSteps
 pub mod EntryWrites
-pub mod OwnTablesInMoments
-mod OwnTablesSaid
 pub mod NotedRows
 pub mod RecoveryMoves
 pub mod KeptLists
@@ -488,7 +482,6 @@ pub mod RepliesOfTwo
 pub mod DiskShapes
 pub mod DisksByTheLog
 pub mod ItemsOfChecks
-pub mod TablesMadeStay
 pub mod RefusedToNothing
 pub mod WritesThatBegin
 pub mod LegalGrowth
@@ -497,8 +490,13 @@ pub mod ToldBlocks
 pub mod PiecesRead
 pub mod ReadsStay
 pub mod KeptInRuns
+pub mod TableWalk
+pub mod TableSteps
+pub mod TablesInMoments
+pub mod OwnTables
 pub mod MakingInRuns
 pub mod OpeningReads
+pub mod KnownDrivers
 pub mod ToDoSteps
 pub mod NamedWorks
 pub mod DriverEntries
@@ -528,3 +526,96 @@ pub mod NewInodes
 pub mod FewLosses
 pub mod EarlyAttempts
 pub mod GrantsAfterLeaves
+pub mod WritesTold
+pub mod FollowingEvents
+pub mod StandingWriters
+pub mod BeginningWrites
+pub mod EndingWrites
+pub mod RepliesOnce
+pub mod LostWrites
+pub mod LegalEvents
+pub mod LegalRuns
+pub mod LedReads
+pub mod CoursesOfReads
+pub mod ReadsLater
+pub mod ReadsInSteps
+pub mod ToldReplies
+pub mod OpenDisksOfHistory
+pub mod StandingInMoments
+pub mod ReadsGoing
+pub mod KeptReads
+pub mod DisksAfter
+pub mod WorksGoOn
+pub mod ShortTags
+pub mod EntryWorks
+pub mod EnteredNow
+pub mod DoneAlone
+pub mod TablesInSteps
+pub mod TablesGoOn
+pub mod StagesFrom
+pub mod MakingStages
+pub mod PublishedStay
+pub mod PublishedKept
+pub mod PublishedTables
+pub mod BackSteps
+pub mod BackTables
+pub mod OpenedWorks
+pub mod WholeIds
+pub mod OpeningIds
+pub mod SnappedFrozen
+pub mod KeptFacts
+pub mod AboveIds
+pub mod GoodAbove
+pub mod NewEntries
+pub mod NamesKept
+pub mod MadeTables
+pub mod CarriedTables
+pub mod SentByTheLog
+pub mod ReservedSources
+pub mod InodesOfGuests
+pub mod EventsOfChanges
+mod ServedOrFlew
+mod TellersOfPieces
+mod ToldPiecesStay
+mod ToldPiecesSince
+mod FilteredOrder
+mod HeardPieces
+mod PiecesToCome
+mod HeardUnits
+mod ReadUnits
+mod EntriesToCome
+mod ReadsToCome
+mod ToldPiecesInRuns
+mod ReadInodesCreated
+mod ReadsToComeInRuns
+mod PiecesReadToCome
+pub mod TablesOfCopies
+pub mod LegalReplies
+pub mod AskedOnDisks
+pub mod UnendedRequests
+pub mod EndsKeepBlocks
+pub mod WorksOnTheWay
+pub mod EntersToCome
+pub mod DisksOnTheWay
+pub mod WorksToStay
+pub mod DoneReplies
+pub mod TagsApart
+pub mod DraftsOfLogs
+pub mod DrawnWorks
+pub mod DraftsStay
+pub mod DrawnCandidates
+pub mod DrawnInodes
+pub mod DataOfDisks
+pub mod CoursesCome
+pub mod BasesOfCopies
+pub mod ClonesDrawn
+pub mod MadeDisks
+pub mod NewDisks
+pub mod WorksKnown
+pub mod DraftsOfMoments
+pub mod AddedDisks
+pub mod CarriedInodes
+pub mod SnapshotInodes
+pub mod EntriesReadKept
+pub mod TablesOfRuns
+pub mod TablesKept

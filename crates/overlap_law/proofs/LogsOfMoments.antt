@@ -68,3 +68,18 @@ log_since script {start} (moments.NodeIsReweighted event made happened h) = log_
 log_since script {start} (moments.NodeJoins event made happened h) = log_of_change script {start = start} (moments.NodeJoins event made happened h)
 log_since script {start} (moments.NodeComesBack event made happened h) = log_of_change script {start = start} (moments.NodeComesBack event made happened h)
 log_since script {start} (moments.PhaseEnds event made happened h) = log_of_change script {start = start} (moments.PhaseEnds event made happened h)
+
+-- the log is as it was, or the event has just begun
+pub log_or_start : (script : List Statement) {start before after : MomentWithPast} → MomentChange script start before after
+    → (after.world.log ≡ before.world.log) ⊎ (before ≡ start)
+log_or_start script (moments.StepBegins stepping is by) = inr refl
+log_or_start script (moments.StepGoesOn stepping so_far next is by within) = inl refl
+log_or_start script (moments.StepIsMade stepping is by) = inr refl
+log_or_start script (moments.LossIsUntold event made happened h) = inr refl
+log_or_start script (moments.DeliveryIsUnread event made happened h) = inr refl
+log_or_start script (moments.NodeIsLost event made happened h) = inr refl
+log_or_start script (moments.NodeLeaves event made happened h) = inr refl
+log_or_start script (moments.NodeIsReweighted event made happened h) = inr refl
+log_or_start script (moments.NodeJoins event made happened h) = inr refl
+log_or_start script (moments.NodeComesBack event made happened h) = inr refl
+log_or_start script (moments.PhaseEnds event made happened h) = inr refl

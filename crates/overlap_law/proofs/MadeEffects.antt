@@ -1,5 +1,5 @@
 -- What an effect has of the entry that made it, whatever the log: what a reserved id is made of, and what an id was reserved for that is published.
-use Rattle.std.proofs.Common.{◌≡◌, ◌⊎◌, inl, inr, ℕ, ◌==◌, ◌&&◌, Bool, true, false, cond, List, Option, Some, None, Result, Ok, Err, is_some, refl, ap, subst, ◌∙◌}
+use Rattle.std.proofs.Common.{◌≡◌, ◌⊎◌, inl, inr, ℕ, ◌==◌, ◌&&◌, Bool, true, false, cond, List, Option, Some, None, Result, Ok, Err, is_some, option_map, refl, ap, subst, ◌∙◌}
 use Rattle.std.proofs.lemmas.Bool.{and_parts, eqb-true}
 use Rattle.std.proofs.lemmas.Option.{same_Some}
 use Rattle.proof_tools.proofs.Booleans.{cond_either}
@@ -28,15 +28,33 @@ use Rattle.vdi_directory.specs.Sources.{is_for, tag_for}
 use Rattle.vdi_directory.specs.States.{state_of}
 use Rattle.vdi_directory.specs.Vids.{free_id}
 use Rattle.vdi_directory.proofs.LawfulEntries.{in-find, snapshot_with_tag-is}
+use Rattle.overlap_law.specs.Each.{spec_in}
 
 -- ---- what an effect has of the entry that made it
+
+-- a new disk is made from none, one that is to take the place of another from that, and a clone from some
+abbrev pub IsSourceParent : Source → Option Vid → Type 0
+IsSourceParent sources.Fresh parent = parent ≡ None
+IsSourceParent (sources.Snapshot old tag) parent = parent ≡ Some old
+IsSourceParent sources.Clone parent = is_some parent ≡ true
+
+-- and what is to take the place of another is of its spec
+abbrev pub IsSourceSpec : List Effect → Source → VdiSpec → Type 0
+IsSourceSpec before sources.Fresh spec = Unit {0}
+IsSourceSpec before (sources.Snapshot old tag) spec = spec_in before old.0 ≡ Some spec
+IsSourceSpec before sources.Clone spec = Unit {0}
+
+abbrev pub IsOfSource : List Effect → Source → Option Vid → VdiSpec → Type 0
+IsOfSource before source parent spec = IsSourceParent source parent × IsSourceSpec before source spec
 
 -- what a reserved id is made of is the disk whose place it is to take, or a snapshot; what is published was reserved for a new disk; and an id
 -- that takes a disk's place was reserved for that
 abbrev pub IsMadeSo : List Effect → Effect → Type 0
 IsMadeSo before effects.Nothing = Unit {0}
-IsMadeSo before (effects.Reserved grant) = (p : Vid) → grant.header.parent ≡ Some p
-    → ((tag : List ℕ) × (grant.reservation.source ≡ sources.Snapshot p tag)) ⊎ IsLiveSnapshot (state_of before p.0)
+IsMadeSo before (effects.Reserved grant) =
+    ((p : Vid) → grant.header.parent ≡ Some p
+    → ((tag : List ℕ) × (grant.reservation.source ≡ sources.Snapshot p tag)) ⊎ IsLiveSnapshot (state_of before p.0))
+    × IsOfSource before grant.reservation.source grant.header.parent grant.header.spec
 IsMadeSo before (effects.Published of name) =
     (r : Reservation) × (reservation_on of (reservations_of before) ≡ Some r) × (clones : Bool) × (is_for clones r.source ≡ true)
 IsMadeSo before (effects.Snapped snap) =
@@ -55,13 +73,15 @@ module _ (before : List Effect) (sound : IsSound before) where
   IsBase source parent = (p : Vid) → parent ≡ Some p → ((tag : List ℕ) × (source ≡ sources.Snapshot p tag)) ⊎ IsLiveSnapshot (state_of before p.0)
 
   module _ (by : NodeId) (session : ℕ) (name : List ℕ) (source : Source) (parent : Option Vid) (base : IsBase source parent) where
-    free_so : (spec : VdiSpec) (free : Option ℕ) → So (or_full free (grant_of before by session name source parent spec))
-    free_so spec None = tt
-    free_so spec (Some id) = base
+    free_so : (spec : VdiSpec) (free : Option ℕ) → IsOfSource before source parent spec
+        → So (or_full free (grant_of before by session name source parent spec))
+    free_so spec None is = tt
+    free_so spec (Some id) is = (base, is)
 
-    spec_so : (header : Option Header) → So (with_spec header (reservation_outcome before by session name source parent))
-    spec_so None = tt
-    spec_so (Some header) = free_so header.spec (free_id name (is_used before))
+    spec_so : (header : Option Header) → ((found : Header) → header ≡ Some found → IsOfSource before source parent found.spec)
+        → So (with_spec header (reservation_outcome before by session name source parent))
+    spec_so None is = tt
+    spec_so (Some header) is = free_so header.spec (free_id name (is_used before)) (is header refl)
 
   snapshot_so : (by : NodeId) (session : ℕ) (name tag : List ℕ) (old : Option Vid) → So (reserved_snapshot before by session name tag old)
   snapshot_so by session name tag None = tt
@@ -69,7 +89,8 @@ module _ (before : List Effect) (sound : IsSound before) where
       cond_either So (is_some (snapshot_with_tag tag (name_of before name))) (refusal_outcome causes.VdiExist)
       (with_spec (header_of before old.0) (reservation_outcome before by session name (sources.Snapshot old tag) (Some old))) tt
       (spec_so by session name (sources.Snapshot old tag) (Some old)
-      (λ p is. inl (tag, ap (λ (v : Vid). sources.Snapshot v tag) (same_Some old p is))) (header_of before old.0))
+      (λ p is. inl (tag, ap (λ (v : Vid). sources.Snapshot v tag) (same_Some old p is))) (header_of before old.0)
+      (λ found is. (refl, ap (option_map (λ (h : Header). h.spec)) is)))
 
   clone_so : (by : NodeId) (session : ℕ) (name base tag : List ℕ) (from : Option Vid) → snapshot_with_tag tag (name_of before base) ≡ from
       → So (reserved_clone before by session name from)
@@ -81,12 +102,12 @@ module _ (before : List Effect) (sound : IsSound before) where
       (λ p same.
       let found = snapshot_with_tag-is tag (name_of before base) from is in
       inr (subst (λ (v : Vid). IsLiveSnapshot (state_of before v.0)) (found.2 ∙ same_Some from p same) (sound.live_snapshots base found.0 found.1).state))
-      (header_of before from.0))
+      (header_of before from.0) (λ found is. (refl, tt)))
 
   reserve_so : (by : NodeId) (session : ℕ) (name : List ℕ) (origin : Origin) → So (reserve_outcome before by session name origin)
   reserve_so by session name (Fresh spec) =
       cond_either So (is_taken before name) (refusal_outcome causes.VdiExist) (reservation_outcome before by session name sources.Fresh None spec) tt
-      (free_so by session name sources.Fresh None (λ p is. absurd (cc (is))) spec (free_id name (is_used before)))
+      (free_so by session name sources.Fresh None (λ p is. absurd (cc (is))) spec (free_id name (is_used before)) (refl, tt))
   reserve_so by session name (SnapshotOf tag) = snapshot_so by session name tag (held_disk before by session (name_of before name).working)
   reserve_so by session name (CloneOf base tag) =
       cond_either So (is_live_name (name_of before base)) (reserved_clone before by session name (snapshot_with_tag tag (name_of before base)))

@@ -1,9 +1,8 @@
 -- Over each change of a moment in a run in range works name what is made, if the works that requests ask for next in the middle of a step
 -- do.
-use Rattle.std.proofs.Common.{◌≡◌, ◌≢◌, inl, inr, ⊎_elim, arith, ℕ, ◌≤◌, Bool, false, List, [], ◌∷◌, Contains, Some, refl, sym, ap, subst}
+use Rattle.std.proofs.Common.{◌≡◌, ◌≢◌, ⊎_elim, arith, ℕ, ◌≤◌, Bool, false, List, [], ◌∷◌, Some, refl, sym, ap, subst}
 use Rattle.std.proofs.Common.{◌∙◌}
 use Rattle.std.specs.FinMap as tree
-use Rattle.std.proofs.lemmas.List.Elements.{All-contains, All-contains_itself, All-weaker}
 use Rattle.proof_tools.proofs.Booleans.{cond_either}
 use Rattle.proof_tools.proofs.FiniteMaps.{get-insert_same, get-insert_cases, insert-insert}
 use Rattle.object_id.specs.declared.entry.Entry.{Entry}
@@ -12,7 +11,6 @@ use Rattle.cluster_script.specs.declared.statement.Statement.{Statement}
 use Rattle.vdi_directory.specs.Decisions.{log_effects}
 use Rattle.peer_proto.specs.declared.work.ObjWork.{ObjWork}
 use Rattle.peer_service.specs.State.{Peer}
-use Rattle.guest_driver.specs.InodeQueue as lines
 use Rattle.sheep_node.specs.declared.input.Input.TheVariants as inputs
 use Rattle.sheep_node.specs.LogReading.{on_back}
 use Rattle.sheep_node.specs.State.{Node}
@@ -20,7 +18,6 @@ use Rattle.sheep_node.specs.Step.{on_request, on_put, on_recover_tick, is_due, w
 use Rattle.sheep_node.specs.StepState.{StepState, at_first, with_node}
 use Rattle.sheep_node.specs.Changes as changes
 use Rattle.sheep_node.proofs.AwaitedWorks.{Works}
-use Rattle.sheep_node.proofs.NumberChanges.{both_in_chain}
 use Rattle.sheep_node.proofs.OneWorkParts.{Sessions}
 use Rattle.sheep_node.proofs.ReceivedInputs.{received_keeps}
 use Rattle.sheep_world.specs.World.{Host}
@@ -40,27 +37,20 @@ use Rattle.overlap_law.specs.Reached.{Hosts}
 use Rattle.overlap_law.specs.StepMoments.{SteppingNode, IsStepping, StepsByChanges, StepsAtOnce, IsWithinStep, first_in_step}
 use Rattle.overlap_law.specs.StepMoments.{last_in_step, moment_in_step}
 use Rattle.overlap_law.specs.ToDo.{entry_made, IsToDo, IsEntryToDo, WorksNameWhatIsMade}
-use Rattle.overlap_law.proofs.AttemptLists.{place_of}
-use Rattle.overlap_law.proofs.AttemptMessages.{contains_at}
 use Rattle.overlap_law.proofs.ChainsStay.{above-stays}
 use Rattle.overlap_law.proofs.ClaimsInRuns.{up_not_lost}
 use Rattle.overlap_law.proofs.CreatedStays.{created-by, created_stays}
 use Rattle.overlap_law.proofs.EpochsRise.{same_so_far, first_rises, step_rises}
-use Rattle.overlap_law.proofs.KnownSteps.{known_step}
 use Rattle.overlap_law.proofs.LogsOfMoments.{log_of_change}
 use Rattle.overlap_law.proofs.NamedEntries.{stands-later}
-use Rattle.overlap_law.proofs.ToDoSteps.{AreToDo, none_to_do, change_to_do}
+use Rattle.overlap_law.proofs.ToDoSteps.{AreToDo, request_of, to_do_of, none_to_do}
+use Rattle.overlap_law.proofs.WorksCome.{change_all}
 
 -- ---- what is weaker
 
 module _ (P Q : ObjWork → Type 0) (weaker : (work : ObjWork) → P work → Q work) where
   to_do_weaker : (works : Works) (sessions : Sessions) → AreToDo P works sessions → AreToDo Q works sessions
-  to_do_weaker works sessions all = record {
-    opened = λ req work got. weaker work.work (all.opened req work got);
-    lined = λ number session got.
-        All-weaker (λ (waiting : lines.Waiting). P waiting.work) (λ (waiting : lines.Waiting). Q waiting.work)
-        (λ (waiting : lines.Waiting). weaker waiting.work) session.inode_queue.waiting (all.lined number session got);
-  }
+  to_do_weaker works sessions all req work has = weaker work (all req work has)
 
 -- ---- as the invariant says it
 
@@ -87,34 +77,13 @@ module _ (good_id : ℕ → Bool) (moment : MomentWithPast) where
     }
 
     host_names : HostNames host
-    host_names = record {
-      opened = λ req work got. names_so work.work (inl (record { req = req; open_work = work; there = got; same = refl }));
-      lined = λ number session got.
-          let waits : List lines.Waiting = session.inode_queue.waiting in
-          All-weaker (Contains waits) (λ (waiting : lines.Waiting). Names host waiting.work)
-          (λ (waiting : lines.Waiting) (among : Contains waits waiting).
-          let (place, at) = place_of waits waiting among in
-          names_so waiting.work (inr (record {
-            number = number;
-            session = session;
-            place = place;
-            waiting = waiting;
-            there = got;
-            among = at;
-            same = refl;
-          }))) waits (All-contains_itself waits);
-    }
+    host_names req work has = names_so work (to_do_of host.node req work has)
 
   names_of : AllName → (n : ℕ) (host : Host) → tree.get moment.world.hosts n ≡ Some host → host.is_lost ≡ false → (work : ObjWork)
       → IsToDo host.node work → Names host work
-  names_of all n host there up work (inl open_one) =
-      subst (Names host) open_one.same ((all n host there up).opened open_one.req open_one.open_work open_one.there)
-  names_of all n host there up work (inr in_line) =
-      let waits : List lines.Waiting = in_line.session.inode_queue.waiting in
-      subst (Names host) in_line.same
-      (All-contains (λ (waiting : lines.Waiting). Names host waiting.work) waits in_line.waiting
-      ((all n host there up).lined in_line.number in_line.session in_line.there)
-      (contains_at waits in_line.place in_line.waiting in_line.among))
+  names_of all n host there up work is =
+      let (req, has) = request_of host.node work is in
+      all n host there up req work has
 
   has_of : (node : Node) (work : ObjWork) (vid index : ℕ) → IsEntryToDo node work vid index → HasEntry work vid index
   has_of node work vid index is = record { object = is.object; inside = is.inside; covered = is.covered }
@@ -137,7 +106,7 @@ due_names P so_far is =
     (with_recovered so_far) so_far
     is is
 
-at_once_names : (P : ObjWork → Type 0) (node : Node) (cause : NodeCause) → StepsAtOnce cause → AreToDo P node.gateway.works node.sessions
+pub at_once_names : (P : ObjWork → Type 0) (node : Node) (cause : NodeCause) → StepsAtOnce cause → AreToDo P node.gateway.works node.sessions
     → AreToDo P (node_step (input_of_cause cause) node).node.gateway.works (node_step (input_of_cause cause) node).node.sessions
 unfolding node_step on_input on_request on_recover_tick
 at_once_names P node (GuestAsks session req ask) by is = absurd by
@@ -154,7 +123,7 @@ at_once_names P node (EntryIsPut entry) by is = due_names P (on_put node.outbox 
 at_once_names P node RecoveryTicks by is = due_names P (on_recover_tick (at_first node)) is
 at_once_names P node WorkIsRetried by is = absurd by
 
-back_names : (P : ObjWork → Type 0) (entries : List Entry) (node : Node)
+pub back_names : (P : ObjWork → Type 0) (entries : List Entry) (node : Node)
     → AreToDo P (node_step (inputs.Back entries) node).node.gateway.works (node_step (inputs.Back entries) node).node.sessions
 unfolding node_step on_input on_back
 back_names P entries node = due_names P (with_node (on_back entries node) (at_first node)) (none_to_do P)
@@ -254,13 +223,11 @@ module _ (script : List Statement) (range : RunsAreInRange script) (good_id : �
       let was : Host = host_with_node stepping.host so_far.node in
       let now : Host = host_with_node stepping.host next.node in
       let P : ObjWork → Type 0 = NamesWhatIsMade (log_effects here.world.log) good_id here.past.attempts so_far.node.peer.epoch in
-      let sound = (known_step script range start.world began stepping is).sound in
-      let good = (both_in_chain (input_of_cause stepping.cause) stepping.host.node sound so_far within.leads).0 in
       let before : AreToDo P so_far.node.gateway.works so_far.node.sessions
       = all stepping.n was (get-insert_same start.world.hosts stepping.n was) (up_not_lost script range stepping.host is.up) in
       let then : AreToDo P next.node.gateway.works next.node.sessions
-      = change_to_do P so_far next good within.change
-      (λ session req work moved steps. asked stepping so_far is by within.leads refl session req work moved steps) before in
+      = change_all (λ req work. P work) (input_of_cause stepping.cause) stepping.host.node so_far before
+      (λ session req work moved steps. asked stepping so_far is by within.leads refl session req work moved steps) next within.change in
       let same : so_far.node.peer.epoch ≡ next.node.peer.epoch
       = ap (λ (p : Peer). p.epoch) (same_so_far script range start began stepping so_far within.leads
       ∙ sym (same_so_far script range start began stepping next (changes.Then within.leads within.change))) in

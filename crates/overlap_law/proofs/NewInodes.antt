@@ -1,6 +1,8 @@
 -- In the middle of a step of a run in range, an inode that a command creates next names none of its disk's own objects: a new disk has
--- holes alone, one that takes the place of another has what that one had, and a clone has what it read of those above it.
-use Rattle.std.proofs.Common.{◌≡◌, ◌≢◌, ◌⊎◌, ⊎_elim, arith, ℕ, Bool, false, All, List, length, Some, None, refl, sym, ap, subst, ◌∙◌}
+-- holes alone, one that takes the place of another has what that one had, and a clone has what it read of those above it. So, of ids that a
+-- test calls good, it names what is made.
+use Rattle.std.proofs.Common.{◌≡◌, ◌≢◌, ◌⊎◌, ⊎_elim, arith, ℕ, Bool, true, false, All, List, length, slice_index, Some, None, refl, sym, ap}
+use Rattle.std.proofs.Common.{subst, ◌∙◌}
 use Rattle.std.specs.FinMap as tree
 use Rattle.std.proofs.lemmas.List.Elements.{All-replicate, All-weaker}
 use Rattle.proof_tools.proofs.FiniteMaps.{get-insert_same}
@@ -9,6 +11,9 @@ use Rattle.object_id.specs.Oid.{IsVid, inode_number}
 use Rattle.object_id.specs.Spec.{objects_of}
 use Rattle.inode.specs.Layout.{Content, IsEntry, header_bytes, unread_zeros}
 use Rattle.inode.specs.declared.layout.TheConstants.{INODE_HEADER_BYTES}
+use Rattle.gateway.specs.declared.message.Status.{Status}
+use Rattle.gateway.specs.Attempt as gateways
+use Rattle.gateway.specs.State.{Work}
 use Rattle.cluster_script.specs.declared.statement.Statement.{Statement}
 use Rattle.vdi_directory.specs.declared.effect.Effect.{Effect}
 use Rattle.vdi_directory.specs.declared.header.Header.{Header}
@@ -27,7 +32,7 @@ use Rattle.disk_check.specs.Check.{begin_check}
 use Rattle.sheep_node.specs.declared.course.Course.TheVariants.{Driving, Commanding, Checking}
 use Rattle.sheep_node.specs.declared.event.Event.{Event}
 use Rattle.sheep_node.specs.declared.input.Input.{Input}
-use Rattle.sheep_node.specs.Changes.{Outcome, ToWork, RequestSteps}
+use Rattle.sheep_node.specs.Changes.{EndsWork, Outcome, ToWork, RequestSteps}
 use Rattle.sheep_node.specs.Changes.{DiskBegins, DiskGoesOn, CommandBegins, CommandGoesOn, CommandDecided, CheckBegins, CheckGoesOn}
 use Rattle.sheep_node.specs.Changes.{ObjectBegins, ObjectIsDone, EntryBegins, EntryDecided}
 use Rattle.sheep_node.specs.Courses.{inode_open}
@@ -37,22 +42,27 @@ use Rattle.sheep_node.specs.StepState.{StepState, session_in}
 use Rattle.sheep_node.proofs.ValidityChanges.{AnySent, course_valid}
 use Rattle.sheep_world.specs.NodeCauses.{input_of_cause}
 use Rattle.overlap_law.specs.MomentChanges.{MomentTrail, RunsAreInRange}
-use Rattle.overlap_law.specs.NamedWorks.{NamesWhatIsMade, NewInodesNameWhatIsMade}
+use Rattle.overlap_law.specs.NamedWorks.{NamesWhatIsMade, NewInodesNameWhatIsMade, AboveIsGood}
+use Rattle.overlap_law.specs.OpenTables.{CallsLive}
 use Rattle.overlap_law.specs.Past.{MomentWithPast, run_with_past}
 use Rattle.overlap_law.specs.StepMoments.{SteppingNode, IsStepping, StepsByChanges, LeadsInStep, first_in_step, moment_in_step}
+use Rattle.overlap_law.specs.Tables.{StandsFor, EntriesAreMade, TablesAreMade}
+use Rattle.overlap_law.specs.ToDo.{entry_made}
 use Rattle.overlap_law.proofs.CausedWorks.{no_object}
-use Rattle.overlap_law.proofs.ChainTables.{IsOtherId}
+use Rattle.overlap_law.proofs.ChainTables.{IsOtherId, at_index}
 use Rattle.overlap_law.proofs.CommandWorks.{command_act, check_act}
-use Rattle.overlap_law.proofs.CreatedEntries.{created_entry}
+use Rattle.overlap_law.proofs.CreatedEntries.{created_at, created_entry}
 use Rattle.overlap_law.proofs.DriverEntries.{names_none}
 use Rattle.overlap_law.proofs.KnownDisks.{known_validity}
-use Rattle.overlap_law.proofs.KnownDiskSteps.{IsKnownSoFar, effects_after}
+use Rattle.overlap_law.proofs.KnownDiskSteps.{effects_after}
 use Rattle.overlap_law.proofs.KnownTables.{table_so}
+use Rattle.overlap_law.proofs.NewEntries.{EntriesStand, tagged_stand, copied_stand}
 use Rattle.overlap_law.proofs.OpeningReads.{knows_well, knows_tables, knows_read, knows_headers}
 use Rattle.overlap_law.proofs.OtherWorks.{HasNone, begins_with_entry, IsOfDecision, ReadsIt, CreatesIt, TagsIt, IsOfTask, Tagged, Copied}
 use Rattle.overlap_law.proofs.OtherWorks.{decided_work, done_work, check_begins_none, check_goes_none}
 use Rattle.overlap_law.proofs.ReadCommands.{IsTabledStage}
 use Rattle.overlap_law.proofs.WrittenBack.{header_long}
+use Rattle.overlap_law.proofs.KnownDrivers.{on_known}
 
 -- no id
 abbrev pub no_id : ℕ → Bool
@@ -64,6 +74,7 @@ IsNotOwn vid entry = IsEntry entry × (entry ≢ vid)
 
 -- an inode that names none of its disk's own objects, and fills its header
 record NamesNoOwn (inode : Content) : Type 0 where
+  id : IsVid inode.vid
   head : length (header_bytes inode (unread_zeros inode)) ≡ INODE_HEADER_BYTES
   entries : All (IsNotOwn inode.vid) inode.table
 
@@ -72,6 +83,7 @@ no_hole vid id = (omega arith, λ none. let some = id.0 in absurd (omega (arith,
 
 new_names : (header : Header) (vid : ℕ) → IsVid vid → IsInodeHeader header → NamesNoOwn (inode_by header vid (holes header.spec))
 new_names header vid id is = record {
+  id = id;
   head = header_long header vid (holes header.spec) is;
   entries = All-replicate (IsNotOwn vid) (objects_of header.spec) 0 (no_hole vid id);
 }
@@ -82,6 +94,7 @@ copy_names header vid ids bytes id is others =
     let kept = table_so (IsNotOwn vid) header.spec ids bytes
     (All-weaker (IsOtherId vid) (IsNotOwn vid) (λ other of. (of.0.1, of.1)) ids others) in
     record {
+      id = id;
       head = header_long header vid (table_in ids header.spec bytes) is;
       entries = All-weaker (λ (entry : ℕ). (entry ≡ 0) ⊎ IsNotOwn vid entry) (IsNotOwn vid) (λ entry. ⊎_elim
           (λ (none : entry ≡ 0). subst (IsNotOwn vid) (sym none) (no_hole vid id))
@@ -91,7 +104,13 @@ copy_names header vid ids bytes id is others =
 module _ (script : List Statement) (range : RunsAreInRange script) (events : List Event) (start : MomentWithPast)
     (ran : run_with_past script events ≡ Some start) (on : SteppingNode) (is : IsStepping script start.world on)
     (by : StepsByChanges on.cause) (so_far : StepState) (leads : LeadsInStep on (first_in_step on) so_far)
-    (trail : MomentTrail script start (moment_in_step script on start so_far)) where
+    (trail : MomentTrail script start (moment_in_step script on start so_far)) (live good_id : ℕ → Bool)
+    (calls : CallsLive live (moment_in_step script on start so_far).world.log (moment_in_step script on start so_far).past.attempts)
+    (above_good : AboveIsGood (log_effects (moment_in_step script on start so_far).world.log) good_id)
+    (entries_made : EntriesAreMade (log_effects (moment_in_step script on start so_far).world.log) live good_id
+    (moment_in_step script on start so_far).past.attempts)
+    (tables_made : TablesAreMade (log_effects (moment_in_step script on start so_far).world.log) good_id
+    (moment_in_step script on start so_far).world.hosts (moment_in_step script on start so_far).past.attempts) where
   abbrev here : MomentWithPast
   here = moment_in_step script on start so_far
 
@@ -106,25 +125,29 @@ module _ (script : List Statement) (range : RunsAreInRange script) (events : Lis
 
   abbrev Names : ObjWork → Type 0
   Names =
-      NamesWhatIsMade (log_effects (moment_in_step script on start so_far).world.log) no_id
+      NamesWhatIsMade (log_effects (moment_in_step script on start so_far).world.log) good_id
       (moment_in_step script on start so_far).past.attempts so_far.node.peer.epoch
 
-  on_known : IsKnownSoFar known (length so_far.outputs.sends) so_far
-  on_known = (
-    (knows_well script range events start ran on is by so_far leads trail).on_known,
-    record {
-      few = omega arith;
-      sent = λ k d within. tt;
-      to_put = λ k d within. tt;
-    },
-  )
+  abbrev Stand : Content → Type 0
+  Stand =
+      EntriesStand (log_effects (moment_in_step script on start so_far).world.log) good_id
+      (moment_in_step script on start so_far).past.attempts so_far.node.peer.epoch
 
   no_entry : (work : ObjWork) → HasNone work → Names work
-  no_entry work none = names_none (log_effects here.world.log) no_id here.past.attempts so_far.node.peer.epoch work none
+  no_entry work none = names_none (log_effects here.world.log) good_id here.past.attempts so_far.node.peer.epoch work none
 
-  names_inode : (inode : Content) → NamesNoOwn inode → Names (create_inode inode)
-  names_inode inode names = record {
-    each = λ vid index has good some. absurd (cc (good));
+  names_inode : (inode : Content) → NamesNoOwn inode → Stand inode → Names (create_inode inode)
+  names_inode inode names stand = record {
+    each = λ vid index has good some.
+        let object : inode_number inode.vid ≡ inode_number vid = has.object in
+        let same : inode.vid ≡ vid = omega (arith, object) in
+        let entry : entry_made index (create_inode inode) ≡ slice_index inode.table index
+        = created_at inode index names.id names.head
+        (All-weaker (IsNotOwn inode.vid) IsEntry (λ (entry : ℕ) (of : IsNotOwn inode.vid entry). of.0) inode.table names.entries) in
+        subst (λ (v : ℕ). StandsFor (log_effects here.world.log) here.past.attempts v index so_far.node.peer.epoch
+        (entry_made index (create_inode inode))) same
+        (subst (StandsFor (log_effects here.world.log) here.past.attempts inode.vid index so_far.node.peer.epoch) (sym entry)
+        (stand index (ap good_id same ∙ good) (λ none. some (entry ∙ none))));
     own = λ vid index has is_vid says.
         let object : inode_number inode.vid ≡ inode_number vid = has.object in
         let same : inode.vid ≡ vid = omega (arith, object) in
@@ -137,6 +160,11 @@ module _ (script : List Statement) (range : RunsAreInRange script) (events : Lis
     abbrev work : ObjWork
     work = create_inode inode
 
+    new_stands : (header : Header) (vid : ℕ) → Stand (inode_by header vid (holes header.spec))
+    new_stands header vid index good some =
+        absurd (some (at_index (λ (entry : ℕ). entry ≡ 0) refl (holes header.spec) index
+        (All-replicate (λ (entry : ℕ). entry ≡ 0) (objects_of header.spec) 0 refl)))
+
     of_task : (op : Op) (bytes : List ℕ) (made : Content)
         → tree.get so_far.node.requests req ≡ Some (record { session = session; course = Commanding op })
         → IsOfTask op bytes made → NamesNoOwn made
@@ -146,15 +174,26 @@ module _ (script : List Statement) (range : RunsAreInRange script) (events : Lis
         let taken = subst (IsTabledStage known) at ((knows_tables script range events start ran on is by so_far leads trail).courses req
         (record { session = session; course = Commanding op }) there) in
         record {
+          id = sound.0.ids.vid;
           head = header_length made (unread_zeros made) (blank_fills made sound.1 sound.2);
-          entries = λ k d within. (sound.0.ids.entries k d within, taken.1 k d within);
+          entries = λ k d within. (sound.0.ids.entries k d within, taken.0.1 k d within);
         }
     of_task op bytes made there (Copied vid ids header at same) =
         let sound = subst IsSoundStage at ((knows_well script range events start ran on is by so_far leads trail).sound.courses req
         (record { session = session; course = Commanding op }) there) in
         let others = subst (IsTabledStage known) at ((knows_tables script range events start ran on is by so_far leads trail).courses req
         (record { session = session; course = Commanding op }) there) in
-        subst NamesNoOwn (sym same) (copy_names header vid.0 ids bytes sound.0 sound.1 others)
+        subst NamesNoOwn (sym same) (copy_names header vid.0 ids bytes sound.0 sound.1 others.0)
+
+    task_stands : (number : ℕ) (done : Work) (attempt : gateways.Attempt) (status : Status) (op : Op) (bytes : List ℕ) (made : Content)
+        → EndsWork input node so_far session req number done attempt status (Commanding op) bytes → IsOfTask op bytes made → Stand made
+    task_stands number done attempt status op bytes made ends (Tagged vid old at) =
+        tagged_stand script range events start ran on is by so_far leads trail good_id above_good session req number done attempt status op
+        bytes ends vid old made at tables_made
+    task_stands number done attempt status op bytes made ends (Copied vid ids header at same) =
+        subst Stand (sym same)
+        (copied_stand script range events start ran on is by so_far leads trail good_id above_good session req number done attempt status op
+        bytes ends vid ids header at live calls entries_made)
 
     decided : (op : Op) → effects_of so_far.node.peer ≡ known
         → IsOfDecision (effects_of so_far.node.peer) (inode_open (session_in session so_far).disk) op work → Names work
@@ -162,7 +201,8 @@ module _ (script : List Statement) (range : RunsAreInRange script) (events : Lis
     decided op read (CreatesIt vid header there same) =
         let sound = knows_headers script range events start ran on is by so_far leads trail vid.0 header
         (ap (λ (effects : List Effect). header_of effects vid.0) (sym read) ∙ there) in
-        subst Names (sym same) (names_inode (inode_by header vid.0 (holes header.spec)) (new_names header vid.0 sound.id sound.of_inode))
+        subst Names (sym same) (names_inode (inode_by header vid.0 (holes header.spec)) (new_names header vid.0 sound.id sound.of_inode)
+        (new_stands header vid.0))
     decided op read (TagsIt old from number name tag opened at same) = absurd (cc (same))
 
     steps_name : (next : Outcome) (moved : StepState) → RequestSteps input node so_far session req next moved → next ≡ ToWork work
@@ -178,7 +218,8 @@ module _ (script : List Statement) (range : RunsAreInRange script) (events : Lis
         (command_act step.act work to))
     steps_name next moved (CommandGoesOn number done attempt status bytes op step ends goes) to apart = ⊎_elim
         (λ (creates : (made : Content) × (work ≡ create_inode made) × IsOfTask op bytes made).
-        subst Names (sym creates.1) (names_inode creates.0 (of_task op bytes creates.0 ends.ends.request creates.2)))
+        subst Names (sym creates.1) (names_inode creates.0 (of_task op bytes creates.0 ends.ends.request creates.2)
+        (task_stands number done attempt status op bytes creates.0 ends creates.2)))
         (λ (writes : (vid : Vid) × (ids : List ℕ) × (header : Header) × (op.stage ≡ Working vid (Opening false ids header))
         × (work ≡ write_back (inode_by header vid.0 (table_in ids header.spec bytes)) bytes)).
         let same = writes.4 in absurd (cc (same)))
@@ -190,7 +231,8 @@ module _ (script : List Statement) (range : RunsAreInRange script) (events : Lis
     steps_name next moved (CheckBegins opened arrival at) to apart =
         no_entry work (check_begins_none opened work (check_act (begin_check opened).act work to))
     steps_name next moved (CheckGoesOn number done attempt status bytes check step ends goes) to apart =
-        let of_known = course_valid (known_validity known) AnySent session req (Checking check) so_far ends.ends.request on_known in
+        let of_known = course_valid (known_validity known) AnySent session req (Checking check) so_far ends.ends.request
+        (on_known script range events start ran on is by so_far leads trail) in
         no_entry work (check_goes_none bytes check step work goes (check_act step.act work to) of_known.disk.id of_known.within)
     steps_name next moved (ObjectBegins one arrival) to apart =
         absurd (no_object script start.world on.n on.host on.cause is.caused req session one arrival.from)
@@ -201,10 +243,27 @@ module _ (script : List Statement) (range : RunsAreInRange script) (events : Lis
 -- ---- every moment in the middle of a step
 
 pub inodes_name : (script : List Statement) → RunsAreInRange script → (events : List Event) (start before : MomentWithPast)
-    → run_with_past script events ≡ Some start → MomentTrail script start before → NewInodesNameWhatIsMade script no_id start before
-inodes_name script range events start before ran trail =
+    → run_with_past script events ≡ Some start → MomentTrail script start before → (live good_id : ℕ → Bool)
+    → CallsLive live before.world.log before.past.attempts → AboveIsGood (log_effects before.world.log) good_id
+    → EntriesAreMade (log_effects before.world.log) live good_id before.past.attempts
+    → TablesAreMade (log_effects before.world.log) good_id before.world.hosts before.past.attempts
+    → NewInodesNameWhatIsMade script good_id start before
+inodes_name script range events start before ran trail live good_id calls above_good entries_made tables_made =
     λ on so_far is by leads same session req inode moved steps apart.
-    subst (λ (m : MomentWithPast). NamesWhatIsMade (log_effects m.world.log) no_id m.past.attempts so_far.node.peer.epoch
+    subst (λ (m : MomentWithPast). NamesWhatIsMade (log_effects m.world.log) good_id m.past.attempts so_far.node.peer.epoch
     (create_inode inode)) (sym same)
-    (steps_name script range events start ran on is by so_far leads (subst (MomentTrail script start) same trail) session req inode
-    (ToWork (create_inode inode)) moved steps refl apart)
+    (steps_name script range events start ran on is by so_far leads (subst (MomentTrail script start) same trail) live good_id
+    (subst (λ (m : MomentWithPast). CallsLive live m.world.log m.past.attempts) same calls)
+    (subst (λ (m : MomentWithPast). AboveIsGood (log_effects m.world.log) good_id) same above_good)
+    (subst (λ (m : MomentWithPast). EntriesAreMade (log_effects m.world.log) live good_id m.past.attempts) same entries_made)
+    (subst (λ (m : MomentWithPast). TablesAreMade (log_effects m.world.log) good_id m.world.hosts m.past.attempts) same tables_made)
+    session req inode (ToWork (create_inode inode)) moved steps refl apart)
+
+-- of no id nothing is asked before
+pub inodes_name_own : (script : List Statement) → RunsAreInRange script → (events : List Event) (start before : MomentWithPast)
+    → run_with_past script events ≡ Some start → MomentTrail script start before → NewInodesNameWhatIsMade script no_id start before
+inodes_name_own script range events start before ran trail =
+    inodes_name script range events start before ran trail (λ oid. true) no_id (λ oid some alive. refl)
+    (λ elder vid above good. absurd (cc (good)))
+    (record { each = λ j attempt there vid index object alive good. absurd (cc (good)) })
+    (record { each = λ n host at up number index session disk got opened good. absurd (cc (good)) })

@@ -19,11 +19,11 @@ use Rattle.sheep_world.specs.Step.{EventOutcome}
 use Rattle.sheep_world.specs.NodeCauses.{event_of_cause}
 use Rattle.sheep_world.specs.World.{Host, World, host_at}
 use Rattle.overlap_law.specs.Facts.{is_list_of, own_at}
-use Rattle.overlap_law.specs.MomentChanges as moments
 use Rattle.overlap_law.specs.MomentChanges.{MomentChange}
 use Rattle.overlap_law.specs.Past.{MomentWithPast, FinishedList, moment_after, past_after_event}
 use Rattle.overlap_law.specs.PastWords.{finishes, listed_in, listed_by}
-use Rattle.overlap_law.specs.StepMoments.{SteppingNode, outcome_in_step, first_in_step, last_in_step, moment_in_step}
+use Rattle.overlap_law.specs.StepMoments.{SteppingNode, outcome_in_step, moment_in_step}
+use Rattle.overlap_law.proofs.EventsOfChanges.{behind_change}
 
 -- what passes a test
 abbrev pub passed : (FinishedList → Bool) → Option FinishedList → Option FinishedList
@@ -187,20 +187,10 @@ after_notes script event start made = refl
 
 pub notes : (script : List Statement) {start before after : MomentWithPast} → MomentChange script start before after
     → after.past.listed ≡ start.past.listed ++ listed_by start.world after.world
-notes script {start} (moments.StepBegins stepping is by) =
-    after_notes script (event_of_cause stepping.n stepping.cause) start (outcome_in_step script stepping start.world (first_in_step stepping))
-notes script {start} (moments.StepGoesOn stepping so_far next is by within) =
-    after_notes script (event_of_cause stepping.n stepping.cause) start (outcome_in_step script stepping start.world next)
-notes script {start} (moments.StepIsMade stepping is by) =
-    after_notes script (event_of_cause stepping.n stepping.cause) start (outcome_in_step script stepping start.world (last_in_step stepping))
-notes script {start} (moments.LossIsUntold event made happened h) = after_notes script event start made
-notes script {start} (moments.DeliveryIsUnread event made happened h) = after_notes script event start made
-notes script {start} (moments.NodeIsLost event made happened h) = after_notes script event start made
-notes script {start} (moments.NodeLeaves event made happened h) = after_notes script event start made
-notes script {start} (moments.NodeIsReweighted event made happened h) = after_notes script event start made
-notes script {start} (moments.NodeJoins event made happened h) = after_notes script event start made
-notes script {start} (moments.NodeComesBack event made happened h) = after_notes script event start made
-notes script {start} (moments.PhaseEnds event made happened h) = after_notes script event start made
+notes script {start} change =
+    behind_change script start
+    (λ (moment : MomentWithPast). moment.past.listed ≡ start.past.listed ++ listed_by start.world moment.world)
+    (λ event made. after_notes script event start made) change
 
 pub notes_in_step : (script : List Statement) (start : MomentWithPast) (stepping : SteppingNode) (so_far : StepState)
     → (moment_in_step script stepping start so_far).past.listed

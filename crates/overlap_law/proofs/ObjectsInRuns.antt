@@ -1,8 +1,8 @@
 -- In each world of a run each object was set apart for a request, or is an inode object: so each node has rows of few objects.
-use Rattle.std.proofs.Common.{◌≡◌, ◌≢◌, inl, inr, ⊎_elim, arith, ℕ, ◌^◌, true, List, [], ◌∷◌, length, All, Contains, Some, refl, sym, ap, subst, ◌∙◌}
+use Rattle.std.proofs.Common.{◌≡◌, ◌≢◌, inl, inr, ⊎_elim, arith, ℕ, ◌^◌, true, List, [], length, All, Contains, Some, refl, sym, ap, subst, ◌∙◌}
 use Rattle.std.specs.FinMap as tree
 use Rattle.std.proofs.lemmas.Bool.{le-leb}
-use Rattle.std.proofs.lemmas.List.Elements.{All-nil, All-cons, All-head, All-tail, All-weaker}
+use Rattle.std.proofs.lemmas.List.Elements.{All-nil, All-weaker}
 use Rattle.proof_tools.proofs.FiniteMaps.{get-insert_cases}
 use Rattle.proof_tools.proofs.Lists.{Contains-nil}
 use Rattle.object_id.specs.declared.entry.Member.{Member}
@@ -14,7 +14,6 @@ use Rattle.cluster_script.specs.Statements.{requests_of}
 use Rattle.peer_proto.specs.declared.ask.PeerReq.{PeerReq}
 use Rattle.peer_proto.specs.declared.say.PeerRsp.{PeerRsp}
 use Rattle.peer_proto.specs.Ask.{ask_bytes, IsPeerReq}
-use Rattle.peer_proto.proofs.AskLemmas.{ask-again}
 use Rattle.peer_service.specs.Serve.{reply_to}
 use Rattle.vdi_directory.specs.Decisions.{log_effects}
 use Rattle.sheep_node.specs.declared.event.Event.{Event}
@@ -41,7 +40,6 @@ use Rattle.sheep_world.proofs.BegunRequestLaws.{Grows, guests_grow}
 use Rattle.sheep_world.proofs.BegunWorlds.{by_induction}
 use Rattle.sheep_world.proofs.EventInversion.{happens}
 use Rattle.sheep_world.proofs.LogAtOpening.{opens_log}
-use Rattle.sheep_world.proofs.RecoveryMessages.{same_asked}
 use Rattle.sheep_world.proofs.ReturningNodes.{stepped_renewed}
 use Rattle.sheep_world.proofs.ValidNodes.{first_may}
 use Rattle.sheep_world.proofs.WireAtOpening.{opening_found}
@@ -54,11 +52,12 @@ use Rattle.overlap_law.proofs.ObjectsCounted.{IsSetApart, IsCounted, keys_few, f
 use Rattle.overlap_law.proofs.ObjectsGrow.{ask_grows, said_grows, node_grows, requests_grow}
 use Rattle.overlap_law.proofs.ObjectsOfInputs.{back_requests}
 use Rattle.overlap_law.proofs.ObjectsOfRequests.{AreWithin, none_within}
-use Rattle.overlap_law.proofs.ObjectsOfRows.{AskWithin, SentWithin, SaidWithin, HasWithin, IsPeerWithin, reply_within}
+use Rattle.overlap_law.proofs.ObjectsOfRows.{AskWithin, SaidWithin, HasWithin, IsPeerWithin, reply_within}
 use Rattle.overlap_law.proofs.ObjectsOfSteps.{stepped_has, none_had}
 use Rattle.overlap_law.proofs.ObjectsOfWorks.{stay_within}
 use Rattle.overlap_law.proofs.RefusedInRuns.{still_begun}
 use Rattle.overlap_law.proofs.RowsInRuns.{EachHasRows, told_where_rows, both_open, both_after}
+use Rattle.overlap_law.proofs.SentByTheLog.{sent_in_wire}
 use Rattle.overlap_law.proofs.SoundWorlds.{IsSoundWorld}
 use Rattle.overlap_law.proofs.StartedAttempts.{IsStarted}
 
@@ -79,19 +78,6 @@ few_objects script is_script world apart = record {
         let number = number_of_request script req line at in
         inl (req, number.0, number.1, had)
     counted oid (inr (vid, most, same)) = inr (vid, omega (arith, most), same)
-
--- ---- what was sent so is so in the wire
-
-sent_in_wire : (K : ℕ → Type 0) (sends : List (NodeId × PeerReq)) → All (λ (send : NodeId × PeerReq). IsPeerReq send.1) sends
-    → All (SentWithin K) sends → All (λ (send : NodeId × PeerReq). PacketWithin K (Request send.0 (ask_bytes send.1))) sends
-sent_in_wire K [] spelled so = All-nil _
-sent_in_wire K (send ∷ sends) spelled so =
-    let Is : NodeId × PeerReq → Type 0 = λ (send : NodeId × PeerReq). IsPeerReq send.1 in
-    All-cons (λ (send : NodeId × PeerReq). PacketWithin K (Request send.0 (ask_bytes send.1))) send sends
-    (λ request read.
-    let same : send.1 ≡ request = same_asked send.1 request (sym (ask-again send.1 (All-head Is send sends spelled)) ∙ read) in
-    subst (λ (r : PeerReq). AskWithin K r.ask) same (All-head (SentWithin K) send sends so))
-    (sent_in_wire K sends (All-tail Is send sends spelled) (All-tail (SentWithin K) send sends so))
 
 packet_grows : (K L : ℕ → Type 0) → ((oid : ℕ) → K oid → L oid) → (packet : Packet) → PacketWithin K packet → PacketWithin L packet
 packet_grows K L more (Request to bytes) within = λ request read. ask_grows K L more request.ask (within request read)
@@ -207,7 +193,8 @@ module _ (script : List Statement) (is_script : IsScript script) (grows : (world
           hosts = subst (λ (m : EventOutcome). (q : ℕ) (now : Host) → tree.get m.world.hosts q ≡ Some now → IsHostWithin L now) h.made_so
               (stepped_hosts h.n h.host h.there h.up h.cause h.caused);
           wire = wire_so (PacketWithin L) script event world made (old_wire h.n h.host h.there h.up h.cause h.caused) (NodeStep h)
-              (sent_in_wire L (node_step (input_of_cause h.cause) h.host.node).outputs.sends spelled within.sends_so)
+              (sent_in_wire (λ to request. AskWithin L request.ask) (node_step (input_of_cause h.cause) h.host.node).outputs.sends
+              spelled within.sends_so)
               (replies_by h.n h.host h.there h.up h.cause h.caused);
         }
     apart_after (UntoldLoss h) =

@@ -43,7 +43,7 @@ use Rattle.overlap_law.proofs.WholeNodes.{AreWholeOn, whole_grows}
 use Rattle.overlap_law.proofs.WholeSteps.{tables_so_far}
 
 -- the works of each node are whole by the log
-abbrev AreWholeBy : List Entry → Hosts → Type 0
+abbrev pub AreWholeBy : List Entry → Hosts → Type 0
 AreWholeBy log hosts = (n : ℕ) (host : Host) → tree.get hosts n ≡ Some host → AreWholeOn (log_effects log) host.node
 
 -- they are so by a longer one
@@ -139,7 +139,7 @@ module _ (script : List Statement) (range : RunsAreInRange script) where
 
   module _ (events : List Event) (start moment : MomentWithPast) (ran : run_with_past script events ≡ Some start)
       (trail : MomentTrail script start moment) where
-    whole_there : AreWholeBy moment.world.log moment.world.hosts
+    pub whole_there : AreWholeBy moment.world.log moment.world.hosts
     whole_there = along_trail start (began-with_past script events start ran) trail
 
     pub entries_of_chain : EntriesAreOfTheChain (log_effects moment.world.log) moment.world.hosts

@@ -35,7 +35,7 @@ use Rattle.sheep_world.specs.Opening.{initial_world}
 use Rattle.cluster_script.specs.Settings.{opening_members}
 use Rattle.sheep_world.proofs.ValidNodes.{got_is}
 use Rattle.sheep_world.proofs.WireAtOpening.{opening_found, nobody_asks}
-use Rattle.overlap_law.specs.Tables.{is_snapshot_effect}
+use Rattle.overlap_law.specs.Tables.{candidates, is_snapshot_effect}
 use Rattle.overlap_law.specs.Drafts.{published_by}
 use Rattle.overlap_law.specs.Past.{MomentWithPast, first_moment, run_with_past, run_on}
 use Rattle.overlap_law.specs.KeptSoFar.{IsKeptSoFar}
@@ -93,6 +93,11 @@ module _ (me : NodeId) (tries : ℕ) (members : List Member) where
       (decision_told (decision_on (entries.Format members) node.peer) (asker_of (entries.Format members) node) so_far)
       (subst (λ (o : Option (ℕ × Request)). IsBare me tries (decision_told (decision_on (entries.Format members) node.peer) o so_far).node)
       (sym (nobody_asks (entries.Format members) me tries)) read_bare)
+
+-- without attempts nothing may be read of an inode
+no_candidate : (vid index : ℕ) (read : List ℕ) → candidates [] vid index ≡ Some read → ⊥
+unfolding candidates
+no_candidate vid index read is = cc (is)
 
 -- what a log of its opening alone has done to ids: nothing
 pub unused_at_opening : (members : List Member) (vid : ℕ) → state_of (log_effects (entries.Format members ∷ [])) vid ≡ Unused
@@ -296,7 +301,7 @@ module _ (script : List Statement) where
           lined = λ n host got up number place session waiting there. no_session n host got number session there;
         };
         granted = so_far.granted;
-        drawn = record { each = λ j attempt there. absurd (cc (there)) };
+        drawn = record { each = λ vid index entry draft candidate. absurd (no_candidate vid index candidate.entries candidate.there) };
         created = record {
           created = λ n host got up place entry vid there published.
               let (me, bare) = bare_at n host got in

@@ -142,7 +142,7 @@ module _ (script : List Statement) (range : RunsAreInRange script) (events : Lis
   pub step_known : IsKnownStep script start.world stepping
   step_known = known_step script range start.world began stepping is
 
-  here_up : stepping.host.is_lost ≡ false
+  pub here_up : stepping.host.is_lost ≡ false
   here_up = up_not_lost script range stepping.host is.up
 
   pub knows_well : IsWellKnown known input node so_far
@@ -199,7 +199,7 @@ module _ (script : List Statement) (range : RunsAreInRange script) (events : Lis
       (nodes_whole script range start.world began stepping.n stepping.host is.there)
 
   -- what the step is told of a message is a reply in the wire at its beginning
-  told_reply : (cause : NodeCause) → IsCause script start.world stepping.n stepping.host cause → (number : ℕ) (bytes : List ℕ)
+  pub told_reply : (cause : NodeCause) → IsCause script start.world stepping.n stepping.host cause → (number : ℕ) (bytes : List ℕ)
       → 1 ≤ length bytes → IsTold (input_of_cause cause) number (statuses.Succeeded bytes)
       → (from : NodeId) × (rsp : PeerRsp) × IsAnswering start.world.wire (message_name stepping.n number) from rsp
       × (rsp.say ≡ says.Piece bytes)

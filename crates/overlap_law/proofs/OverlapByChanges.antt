@@ -1,22 +1,19 @@
 -- What is carried over the changes of events, from the invariant and to it, gives the invariant in every run, and so the headline.
-use Rattle.std.proofs.Common.{◌≡◌, List, [], ◌∷◌, ◌++◌, map, Some, option_map, refl, ap, ◌∙◌}
+use Rattle.std.proofs.Common.{◌≡◌, List, [], ◌∷◌, ◌++◌, map, Some, ◌∙◌}
 use Rattle.cluster_script.specs.declared.statement.Statement.{Statement}
 use Rattle.sheep_node.specs.declared.event.Event.{Event}
-use Rattle.sheep_world.specs.Began.{Began}
 use Rattle.sheep_world.specs.RunsWithAsks.{Happens}
-use Rattle.sheep_world.specs.Step.{EventOutcome, step}
 use Rattle.overlap_law.specs.Headline.{Headline}
 use Rattle.overlap_law.specs.MomentChanges.{MomentTrail, TrailLeft, IsOnTheWay, RunsAreInRange, Still, Then, AtEnd, Next}
 use Rattle.overlap_law.specs.Overlap.{Overlap, OverlapByTests}
-use Rattle.overlap_law.specs.Past.{MomentWithPast, first_moment, moment_after, next_moment, run_on, run_with_past}
+use Rattle.overlap_law.specs.Past.{MomentWithPast, next_moment, run_with_past}
 use Rattle.overlap_law.proofs.AskedMoments.{asked-peers}
 use Rattle.overlap_law.proofs.AskedRuns.{with_asks-events}
 use Rattle.overlap_law.proofs.BornFirst.{of_the_born}
 use Rattle.overlap_law.proofs.EndTests.{holds_before}
+use Rattle.overlap_law.proofs.KeptInRuns.{kept_at_events}
 use Rattle.overlap_law.proofs.MomentTrails.{event_trail}
 use Rattle.overlap_law.proofs.OpeningOverlap.{overlap_opens}
-use Rattle.overlap_law.proofs.RunsByEvents.{run-kept_by_events}
-use Rattle.overlap_law.proofs.RunsWithOneMore.{run_with_one_more}
 
 -- a way to carry the invariant over events: what is carried, of the moment at which an event ends and of one on the way to it, is had where the
 -- event begins, by the tests of its end; each change on the way keeps it; and at the end it gives the invariant
@@ -49,26 +46,11 @@ module _ (script : List Statement) (range : RunsAreInRange script) (Carried : Mo
 
   -- ---- in every run
 
-  abbrev HoldsInRun : MomentWithPast → Type 0
-  HoldsInRun moment = (events : List Event) × (run_with_past script events ≡ Some moment) × Overlap moment
-
-  opens : HoldsInRun (first_moment script)
-  unfolding run_with_past run_on
-  opens = ([], refl, (overlap_opens script range).overlap)
-
-  keeps : (event : Event) (before : MomentWithPast) (made : EventOutcome) → Began script before.world → step script event before.world ≡ Some made
-      → HoldsInRun before → HoldsInRun (moment_after script event before made)
-  keeps event before made began is holds =
-      let after : MomentWithPast = moment_after script event before made in
-      let next : next_moment script event before ≡ Some after = ap (option_map (moment_after script event before)) is in
-      let run : run_with_past script (holds.0 ++ event ∷ []) ≡ Some after = run_with_one_more script event made holds.0 before is holds.1 in (
-        holds.0 ++ event ∷ [],
-        run,
-        carries.gives (holds.0 ++ event ∷ []) after run (event_keeps holds.0 event before after holds.1 next holds.2),
-      )
-
   pub overlap-in_run : (events : List Event) (moment : MomentWithPast) → run_with_past script events ≡ Some moment → Overlap moment
-  overlap-in_run events moment is = (run-kept_by_events script HoldsInRun opens keeps events moment is).2
+  overlap-in_run =
+      kept_at_events script Overlap (overlap_opens script range).overlap
+      (λ events event start end run then happens holds.
+      carries.gives (events ++ event ∷ []) end then (event_keeps events event start end run happens holds))
 
   pub headline-by_changes : Headline script
   headline-by_changes is_script events moment is =

@@ -1,11 +1,10 @@
 -- The inode that a command creates is that of the id which it was granted, and what a check writes is the disk's: every change keeps that of the
 -- works that are open, and of those that wait in a line.
-use Rattle.std.proofs.Common.{◌≡◌, ◌≢◌, inl, inr, ℕ, true, false, List, [], ◌∷◌, All, Option, Some, None, IfSome, option_map, option_and_then, refl, sym, ap, subst, ◌∙◌, ⊎_elim}
+use Rattle.std.proofs.Common.{◌≡◌, ℕ, true, false, List, [], ◌∷◌, All, Option, Some, None, IfSome, option_map, option_and_then, refl, sym, subst}
 use Rattle.std.specs.FinMap as tree
-use Rattle.std.proofs.lemmas.Bool.{cases_eq}
 use Rattle.std.proofs.lemmas.List.Elements.{All-head}
 use Rattle.std.proofs.lemmas.Option.{same_Some}
-use Rattle.proof_tools.proofs.FiniteMaps.{get-insert_same, get-insert_other, get-remove_other, get-remove_same}
+use Rattle.proof_tools.proofs.FiniteMaps.{get-insert_same}
 use Rattle.object_id.specs.declared.entry.Entry.{Entry}
 use Rattle.object_id.specs.declared.entry.Entry.TheVariants as entries
 use Rattle.object_id.specs.declared.entry.Origin.TheVariants.{Fresh, SnapshotOf, CloneOf}
@@ -13,19 +12,14 @@ use Rattle.object_id.specs.declared.node.NodeId.{NodeId}
 use Rattle.object_id.specs.declared.oid.Vid.{Vid}
 use Rattle.object_id.specs.Oid.{IsVid, vid_of, inode_number}
 use Rattle.inode.specs.Layout.{Content}
-use Rattle.peer_proto.specs.declared.guest.GuestRsp.{GuestRsp}
 use Rattle.peer_proto.specs.declared.guest.VdiAsk.{VdiAsk}
 use Rattle.peer_proto.specs.declared.work.ObjWork.{ObjWork}
 use Rattle.peer_proto.specs.Work.{oid_of}
-use Rattle.gateway.specs.declared.message.Status.{Status}
 use Rattle.gateway.specs.Work.{is_making}
-use Rattle.gateway.specs.State.{Work}
-use Rattle.gateway_queue.specs.Queue.{queue_without}
 use Rattle.guest_driver.specs.declared.act.DriverAct.{DriverAct}
 use Rattle.guest_driver.specs.declared.act.DriverAct.TheVariants as driver_acts
 use Rattle.guest_driver.specs.declared.disk.Disk.{Disk}
 use Rattle.guest_driver.specs.Driver.{DriverStep, begin_driver}
-use Rattle.guest_driver.specs.InodeQueue.{queue_after_end}
 use Rattle.disk_check.specs.declared.act.CheckAct.{CheckAct}
 use Rattle.disk_check.specs.declared.act.CheckAct.TheVariants as check_acts
 use Rattle.disk_check.specs.Check as checks
@@ -49,16 +43,15 @@ use Rattle.sheep_node.specs.declared.input.Input.{Input}
 use Rattle.sheep_node.specs.declared.session.Session.{Session}
 use Rattle.sheep_node.specs.declared.course.Course.TheVariants.{Waiting, Driving, Commanding, Checking, DoingWork, AwaitingDecision}
 use Rattle.sheep_node.specs.State.{Node}
-use Rattle.sheep_node.specs.StepState.{StepState, at_first, session_in, request_ended, with_sole_request}
+use Rattle.sheep_node.specs.StepState.{StepState, at_first, session_in, with_sole_request}
 use Rattle.sheep_node.specs.Courses.{after_driver_step, disk_after, after_command_step}
 use Rattle.sheep_node.specs.OneWork.{waiting_in, HasNoWork}
-use Rattle.sheep_node.specs.WantedWorks.{HasWork}
-use Rattle.sheep_node.specs.Changes.{Outcome, ToWork, ToEntry, ToReply, outcome_of_driver, outcome_of_command, outcome_of_check, without_ended_work, IsSoundStep, input_received, Leads, RequestSteps, DiskBegins, DiskGoesOn, CommandBegins, CommandGoesOn, CommandDecided, CheckBegins, CheckGoesOn, ObjectBegins, ObjectIsDone, EntryBegins, EntryDecided}
+use Rattle.sheep_node.specs.Changes.{outcome_of_driver, outcome_of_command, outcome_of_check, without_ended_work, IsSoundStep, input_received, Leads, DiskBegins, DiskGoesOn, CommandBegins, CommandGoesOn, CommandDecided, CheckBegins, CheckGoesOn, ObjectBegins, ObjectIsDone, EntryBegins, EntryDecided}
 use Rattle.sheep_node.proofs.AwaitedWorks.{Works}
 use Rattle.sheep_node.proofs.OneWorkParts.{Requests, Sessions}
 use Rattle.sheep_node.proofs.OneWorkChanges.{StepHasOneWork, HasNoWorkIn, steps_free}
-use Rattle.sheep_node.proofs.WantedParts.{gone_had, line_had}
 use Rattle.overlap_law.proofs.KnownDisks.{Few, vid-of_object}
+use Rattle.overlap_law.proofs.WorksAtCourses.{IsAt, HaveAt, AtSoFar, moved_at, freed_at, IsOutcomeAt, StepsKeepAt}
 
 -- of a work that creates the inode by which an id is published. Where a snapshot is taken the task itself says which inode that is
 abbrev pub IsOwnMaking : Vid → Option Content → ObjWork → Type 0
@@ -89,12 +82,16 @@ MakesOwn (AwaitingDecision entry) work = Unit {0}
 abbrev pub MakesOwnAt : Option Request → ObjWork → Type 0
 MakesOwnAt request work = IfSome request (λ (request : Request). MakesOwn request.course work)
 
+-- whichever disk is open
+abbrev pub MakesOwnOf : Option Disk → Course → ObjWork → Type 0
+MakesOwnOf disk course work = MakesOwn course work
+
 -- each work is so
 abbrev pub AreOwnMakings : Works → Requests → Sessions → Type 0
-AreOwnMakings works requests sessions = (req : ℕ) (work : ObjWork) → HasWork req work works sessions → MakesOwnAt (tree.get requests req) work
+AreOwnMakings works requests sessions = HaveAt MakesOwnOf works requests sessions
 
 abbrev pub MakeOwnSoFar : StepState → Type 0
-MakeOwnSoFar so_far = AreOwnMakings so_far.node.gateway.works so_far.node.requests so_far.node.sessions
+MakeOwnSoFar so_far = AtSoFar MakesOwnOf so_far
 
 -- ---- steps of a command
 
@@ -211,64 +208,28 @@ check_goes_on_own bytes check step next id few = by_stage check.stage next few
 
 -- ---- a step that a request takes
 
--- a work that it comes to is so
-abbrev pub IsOutcomeOwn : ℕ → Outcome → StepState → Type 0
-IsOutcomeOwn req (ToWork work) so_far = MakesOwnAt (tree.get so_far.node.requests req) work
-IsOutcomeOwn req (ToEntry entry) so_far = Unit {0}
-IsOutcomeOwn req (ToReply reply) so_far = Unit {0}
-
 put_own : (requests : Requests) (req : ℕ) (now : Request) (work : ObjWork) → MakesOwn now.course work → MakesOwnAt (tree.get (tree.insert requests req now) req) work
 put_own requests req now work is = subst (λ (o : Option Request). MakesOwnAt o work) (sym (get-insert_same requests req now)) is
 
 -- a request without a work is in another course
-pub moved_own : (req : ℕ) (now : Request) (number : ℕ) (session : Session) (so_far : StepState)
+moved_own : (req number : ℕ) (course : Course) (session : Session) (so_far : StepState)
     → HasNoWork req so_far.node.gateway.works (tree.insert so_far.node.sessions number session)
     → session.inode_queue.waiting ≡ waiting_in number so_far.node.sessions → MakeOwnSoFar so_far
-    → AreOwnMakings so_far.node.gateway.works (tree.insert so_far.node.requests req now) (tree.insert so_far.node.sessions number session)
-moved_own req now number session so_far free line all q work has = ⊎_elim
-    (λ (own : q ≡ req). absurd (none own has))
-    (λ (other : q ≢ req).
-    subst (λ (o : Option Request). MakesOwnAt o work) (sym (get-insert_other so_far.node.requests req now q other))
-    (all q work (line_had so_far.node.gateway.works so_far.node.sessions number session line q work has)))
-    (cases_eq q req)
+    → AreOwnMakings so_far.node.gateway.works (tree.insert so_far.node.requests req (record { session = number; course = course }))
+    (tree.insert so_far.node.sessions number session)
+moved_own req number course session so_far free line all =
+    moved_at MakesOwnOf req (record { session = number; course = course }) number session so_far free line
+    (λ q other work is. same_course (tree.get so_far.node.requests q) work is) all
   where
-    none : q ≡ req → HasWork q work so_far.node.gateway.works (tree.insert so_far.node.sessions number session) → ⊥
-    none own (inl (one, got, is)) =
-        let idle : tree.get so_far.node.gateway.works q ≡ None = ap (tree.get so_far.node.gateway.works) own ∙ free.idle in
-        absurd (cc (idle, got))
-    none own (inr (k, there)) = free.out k (record { req = q; work = work }) there own
-
-pub session_own : (works : Works) (requests : Requests) (sessions : Sessions) (number : ℕ) (session : Session)
-    → session.inode_queue.waiting ≡ waiting_in number sessions → AreOwnMakings works requests sessions
-    → AreOwnMakings works requests (tree.insert sessions number session)
-session_own works requests sessions number session line all q work has = all q work (line_had works sessions number session line q work has)
-
-pub freed_own : (number req : ℕ) (work : Work) (status : Status) (so_far : StepState) → MakeOwnSoFar so_far
-    → MakeOwnSoFar (without_ended_work number req work status so_far)
-freed_own number req work status so_far all =
-    session_own (tree.remove so_far.node.gateway.works req) so_far.node.requests so_far.node.sessions number
-    (record (session_in number so_far) { inode_queue = queue_after_end (session_in number so_far).inode_queue work.work }) refl
-    (λ q work has. all q work (gone_had so_far.node.gateway.works so_far.node.sessions req q work has))
-
-pub ended_own : (number req : ℕ) (reply : GuestRsp) (so_far : StepState) → MakeOwnSoFar so_far → MakeOwnSoFar (request_ended number req reply so_far)
-unfolding request_ended
-ended_own number req reply so_far all =
-    session_own so_far.node.gateway.works (tree.remove so_far.node.requests req) so_far.node.sessions number
-    (record (session_in number so_far) { queue = queue_without req (session_in number so_far).queue; command = None }) refl
-    (λ q work has. ⊎_elim
-    (λ (own : q ≡ req).
-    let none : tree.get (tree.remove so_far.node.requests req) q ≡ None
-    = ap (tree.get (tree.remove so_far.node.requests req)) own ∙ get-remove_same so_far.node.requests req in
-    subst (λ (o : Option Request). MakesOwnAt o work) (sym none) tt)
-    (λ (other : q ≢ req).
-    subst (λ (o : Option Request). MakesOwnAt o work) (sym (get-remove_other so_far.node.requests req q other)) (all q work has))
-    (cases_eq q req))
+    same_course : (request : Option Request) (work : ObjWork) → IsAt MakesOwnOf so_far.node.sessions request work
+        → IsAt MakesOwnOf (tree.insert so_far.node.sessions number session) request work
+    same_course request work is = is
 
 driven_own : (number req : ℕ) (disk : Disk) (step : DriverStep) (so_far : StepState) → HasNoWorkIn req (after_driver_step number req disk step so_far)
     → MakeOwnSoFar so_far
     → MakeOwnSoFar (after_driver_step number req disk step so_far)
-    × IsOutcomeOwn req (outcome_of_driver step.act) (after_driver_step number req disk step so_far)
-driven_own number req disk step so_far free all = (moved_own req now number after so_far free refl all, by_act step.act)
+    × IsOutcomeAt MakesOwnOf req (outcome_of_driver step.act) (after_driver_step number req disk step so_far)
+driven_own number req disk step so_far free all = (moved_own req number (Driving step.driver) after so_far free refl all, by_act step.act)
   where
     now : Request
     now = record { session = number; course = Driving step.driver }
@@ -276,15 +237,15 @@ driven_own number req disk step so_far free all = (moved_own req now number afte
     after : Session
     after = record (session_in number so_far) { disk = Some (record disk { inode = step.inode }) }
 
-    by_act : (act : DriverAct) → IsOutcomeOwn req (outcome_of_driver act) (after_driver_step number req disk step so_far)
+    by_act : (act : DriverAct) → IsOutcomeAt MakesOwnOf req (outcome_of_driver act) (after_driver_step number req disk step so_far)
     by_act (driver_acts.Work work) = put_own so_far.node.requests req now work tt
     by_act (driver_acts.Reply reply) = tt
 
 command_own : (number req : ℕ) (step : OpStep) (so_far : StepState) → IsOwnStep step → HasNoWorkIn req (after_command_step number req step so_far)
     → MakeOwnSoFar so_far
     → MakeOwnSoFar (after_command_step number req step so_far)
-    × IsOutcomeOwn req (outcome_of_command step.act) (after_command_step number req step so_far)
-command_own number req step so_far is free all = (moved_own req now number after so_far free refl all, by_act step.act is)
+    × IsOutcomeAt MakesOwnOf req (outcome_of_command step.act) (after_command_step number req step so_far)
+command_own number req step so_far is free all = (moved_own req number (Commanding step.op) after so_far free refl all, by_act step.act is)
   where
     now : Request
     now = record { session = number; course = Commanding step.op }
@@ -292,7 +253,8 @@ command_own number req step so_far is free all = (moved_own req now number after
     after : Session
     after = record (session_in number so_far) { disk = disk_after (disk_change step) (session_in number so_far).disk; command = Some req }
 
-    by_act : (act : OpAct) → IsOwnAct act step.op.stage → IsOutcomeOwn req (outcome_of_command act) (after_command_step number req step so_far)
+    by_act : (act : OpAct) → IsOwnAct act step.op.stage
+        → IsOutcomeAt MakesOwnOf req (outcome_of_command act) (after_command_step number req step so_far)
     by_act (op_acts.Append entry) is = tt
     by_act (op_acts.Work work) is = put_own so_far.node.requests req now work is
     by_act (op_acts.Reply reply) is = tt
@@ -300,10 +262,10 @@ command_own number req step so_far is free all = (moved_own req now number after
 sole_own : (number req : ℕ) (course : Course) (so_far : StepState) → HasNoWorkIn req (with_sole_request number req course so_far) → MakeOwnSoFar so_far
     → MakeOwnSoFar (with_sole_request number req course so_far)
 sole_own number req course so_far free all =
-    moved_own req (record { session = number; course = course }) number (record (session_in number so_far) { command = Some req }) so_far free refl all
+    moved_own req number course (record (session_in number so_far) { command = Some req }) so_far free refl all
 
 check_own : (number req : ℕ) (check : Check) (act : CheckAct) (so_far : StepState) → IsOwnCheckAct check act
-    → IsOutcomeOwn req (outcome_of_check act) (with_sole_request number req (Checking check) so_far)
+    → IsOutcomeAt MakesOwnOf req (outcome_of_check act) (with_sole_request number req (Checking check) so_far)
 check_own number req check (check_acts.Work work) so_far is =
     put_own so_far.node.requests req (record { session = number; course = Checking check }) work is
 check_own number req check (check_acts.Reply found) so_far is = tt
@@ -316,48 +278,56 @@ ChecksAreFew input node =
     (so_far : StepState) → Leads input node (input_received input (at_first node)) so_far → (req : ℕ) (request : Request) (check : Check)
     → tree.get so_far.node.requests req ≡ Some request → request.course ≡ Checking check → IsVid check.vid × All Few (left_of check.stage)
 
+-- what is known beside it in the middle of a step
+abbrev pub WorksUnderWay : Input → Node → StepState → Type 0
+WorksUnderWay input node so_far = Leads input node (input_received input (at_first node)) so_far × StepHasOneWork so_far
+
 abbrev pub WorksWell : Input → Node → StepState → Type 0
-WorksWell input node so_far = Leads input node (input_received input (at_first node)) so_far × (StepHasOneWork so_far × MakeOwnSoFar so_far)
+WorksWell input node so_far = WorksUnderWay input node so_far × MakeOwnSoFar so_far
 
 module _ {input : Input} {node : Node} (sound : IsSoundStep input node) (few : ChecksAreFew input node) where
-  pub steps_own : (so_far : StepState) (session req : ℕ) (next : Outcome) (moved : StepState) → RequestSteps input node so_far session req next moved
-      → WorksWell input node so_far → MakeOwnSoFar moved × IsOutcomeOwn req next moved
+  pub steps_own : StepsKeepAt MakesOwnOf input node (WorksUnderWay input node)
   steps_own so_far session req next moved (DiskBegins ask disk there on may_run) all =
       driven_own session req disk (begin_driver disk ask) so_far
-      (steps_free so_far session req next moved (DiskBegins ask disk there on may_run) sound all.1.0).free all.1.1
+      (steps_free so_far session req next moved (DiskBegins ask disk there on may_run) sound all.0.1).free all.1
   steps_own so_far session req next moved (DiskGoesOn number work attempt status bytes driver disk step ends on is) all =
       driven_own session req disk step (without_ended_work session req work status so_far)
-      (steps_free so_far session req next moved (DiskGoesOn number work attempt status bytes driver disk step ends on is) sound all.1.0).free
-      (freed_own session req work status so_far all.1.1)
+      (steps_free so_far session req next moved (DiskGoesOn number work attempt status bytes driver disk step ends on is) sound
+      all.0.1).free
+      (freed_at MakesOwnOf session req work status so_far all.1)
   steps_own so_far session req next moved (CommandBegins ask step arrival is) all =
       command_own session req step so_far (begins_own so_far.node.me session ask _ step is)
-      (steps_free so_far session req next moved (CommandBegins ask step arrival is) sound all.1.0).free all.1.1
+      (steps_free so_far session req next moved (CommandBegins ask step arrival is) sound all.0.1).free all.1
   steps_own so_far session req next moved (CommandGoesOn number work attempt status bytes op step ends is) all =
       command_own session req step (without_ended_work session req work status so_far) (goes_on_own bytes op step is)
-      (steps_free so_far session req next moved (CommandGoesOn number work attempt status bytes op step ends is) sound all.1.0).free
-      (freed_own session req work status so_far all.1.1)
+      (steps_free so_far session req next moved (CommandGoesOn number work attempt status bytes op step ends is) sound all.0.1).free
+      (freed_at MakesOwnOf session req work status so_far all.1)
   steps_own so_far session req next moved (CommandDecided entry op step from read there waits is) all =
       command_own session req step so_far (decided_own _ _ op step _ is)
-      (steps_free so_far session req next moved (CommandDecided entry op step from read there waits is) sound all.1.0).free all.1.1
+      (steps_free so_far session req next moved (CommandDecided entry op step from read there waits is) sound all.0.1).free all.1
   steps_own so_far session req next moved (CheckBegins inode arrival on) all = (
     sole_own session req (Checking (begin_check inode).check) so_far
-        (steps_free so_far session req next moved (CheckBegins inode arrival on) sound all.1.0).free all.1.1,
+        (steps_free so_far session req next moved (CheckBegins inode arrival on) sound all.0.1).free all.1,
     check_own session req (begin_check inode).check (begin_check inode).act so_far (check_begins_own inode),
   )
   steps_own so_far session req next moved (CheckGoesOn number work attempt status bytes check step ends is) all = (
     sole_own session req (Checking step.check) (without_ended_work session req work status so_far)
-        (steps_free so_far session req next moved (CheckGoesOn number work attempt status bytes check step ends is) sound all.1.0).free
-        (freed_own session req work status so_far all.1.1),
-    (let is_few = few so_far all.0 req (record { session = session; course = Checking check }) check ends.ends.request refl in
+        (steps_free so_far session req next moved (CheckGoesOn number work attempt status bytes check step ends is) sound all.0.1).free
+        (freed_at MakesOwnOf session req work status so_far all.1),
+    (let is_few = few so_far all.0.0 req (record { session = session; course = Checking check }) check ends.ends.request refl in
         check_own session req step.check step.act (without_ended_work session req work status so_far)
         (check_goes_on_own bytes check step is is_few.0 is_few.1)),
   )
   steps_own so_far session req next moved (ObjectBegins asked arrival) all = (
-    sole_own session req (DoingWork asked) so_far (steps_free so_far session req next moved (ObjectBegins asked arrival) sound all.1.0).free all.1.1,
+    sole_own session req (DoingWork asked) so_far
+        (steps_free so_far session req next moved (ObjectBegins asked arrival) sound all.0.1).free all.1,
     put_own so_far.node.requests req (record { session = session; course = DoingWork asked }) asked tt,
   )
   steps_own so_far session req next moved (ObjectIsDone number work attempt status bytes asked ends) all =
-      (freed_own session req work status so_far all.1.1, tt)
-  steps_own so_far session req next moved (EntryBegins entry arrival) all =
-      (sole_own session req (AwaitingDecision entry) so_far (steps_free so_far session req next moved (EntryBegins entry arrival) sound all.1.0).free all.1.1, tt)
-  steps_own so_far session req next moved (EntryDecided entry wanted from read there waits) all = (all.1.1, tt)
+      (freed_at MakesOwnOf session req work status so_far all.1, tt)
+  steps_own so_far session req next moved (EntryBegins entry arrival) all = (
+    sole_own session req (AwaitingDecision entry) so_far
+        (steps_free so_far session req next moved (EntryBegins entry arrival) sound all.0.1).free all.1,
+    tt,
+  )
+  steps_own so_far session req next moved (EntryDecided entry wanted from read there waits) all = (all.1, tt)

@@ -2,11 +2,13 @@
 use Rattle.std.proofs.Common.{◌≡◌, arith, ℕ, ◌+◌, ◌-◌, ◌≤◌, ◌<◌, nat_eq, nat_le, nat_lt, min, Bool, true, false, cond, List, []}
 use Rattle.std.proofs.Common.{length, drop, slice_get, get_or, Option, Some, None, Result, Ok, Err, refl, sym, ap, subst, ◌∙◌}
 use Rattle.std.proofs.lemmas.Bool.{and_parts, eqb-true, le-leb}
+use Rattle.std.proofs.Math.Nat.{zero-div}
 use Rattle.std.proofs.lemmas.List.{ext_get_or, get_or-take, get_or-drop, length-drop, length-take}
 use Rattle.proof_tools.proofs.Lists.{find-contains}
 use Rattle.object_id.specs.declared.oid.Kind.{Kind}
 use Rattle.object_id.specs.declared.oid.Kind.TheVariants.{Block, Inode}
 use Rattle.object_id.specs.declared.policy.Policy.{Policy}
+use Rattle.object_id.specs.declared.policy.Policy.TheVariants.{Copies, Coded}
 use Rattle.object_id.specs.Oid.{kind_of}
 use Rattle.object_store.specs.declared.fault.StoreFault.{StoreFault}
 use Rattle.object_store.specs.declared.fault.StoreFault.TheVariants.{OutOfObject}
@@ -30,7 +32,7 @@ use Rattle.peer_service.specs.State.{Peer, is_waiting}
 use Rattle.peer_service.specs.Fence.{epoch_refusal}
 use Rattle.peer_service.specs.Serve.{peer_step, own_epoch_step, step_behind_fence, step_if_recovered, peer_write_step, peer_say_step}
 use Rattle.peer_service.specs.Serve.{piece_or_refusal, row_or_none, reply_to}
-use Rattle.gateway.specs.Work.{ask_for}
+use Rattle.gateway.specs.Work.{ask_for, is_making}
 use Rattle.overlap_law.specs.Attempts.{AttemptRecord}
 use Rattle.overlap_law.specs.Since.{IsOfAttempts}
 use Rattle.overlap_law.specs.ToldPieces.{offset_read, IsPieceOfAttempts}
@@ -86,11 +88,12 @@ peer_gives peer request bytes said = by_fence (epoch_refusal peer.epoch request.
     by_fence None is = own_epoch_gives request.ask peer bytes is
     by_fence (Some refusal) is = absurd (cc (is))
 
--- a piece is read of a row, from an offset on
+-- a piece is read of an open row, from an offset on
 pub record IsReadOfRow (rows : AllRows) (oid index offset : ℕ) (bytes : List ℕ) : Type 0 where
   pub place : ℕ
   pub row : SeenRow
   pub there : slice_get (rows_of rows oid) place ≡ Some row
+  pub is_last : is_open row ≡ true
   pub index_so : row.index ≡ index
   pub size : ℕ
   pub same : piece_at row.bytes offset size ≡ bytes
@@ -117,6 +120,7 @@ read_of_row rows key offset size bytes read = by_row (open_at key.index (rows_of
           place = place;
           row = row;
           there = there;
+          is_last = (and_parts (is_open row) (nat_eq row.index key.index) passed).0;
           index_so = eqb-true row.index key.index (and_parts (is_open row) (nat_eq row.index key.index) passed).1;
           size = size;
           same = within (nat_le (offset + size) (length row.bytes)) (piece_at row.bytes offset size) so;
@@ -135,6 +139,29 @@ work_reads (obj_works.Read oid policy offset size) index peer bytes gives whole 
 work_reads (obj_works.ReadAll oid policy size) index peer bytes gives whole =
     read_of_row peer.rows (record { oid = oid; index = index }) 0 (part_size policy (kind_of oid) size) bytes gives
 
+-- the part at an index of no bytes has none
+part_of_none : (policy : Policy) (kind : Kind) → part_size policy kind 0 ≡ 0
+part_of_none (Copies copies) kind = refl
+part_of_none (Coded d p) Block = zero-div d
+part_of_none (Coded d p) Inode = refl
+
+-- and so is what is answered to a message of any read, from the offset's part on
+pub work_cuts : (work : ObjWork) (index : ℕ) (peer : Peer) (bytes : List ℕ) → GivesPiece peer bytes (ask_for work index)
+    → (is_making work ≡ false)
+    × IsReadOfRow peer.rows (oid_of work) index (part_size (policy_of work) (kind_of (oid_of work)) (offset_read work)) bytes
+work_cuts (obj_works.Create oid policy size offset piece) index peer bytes gives = absurd gives
+work_cuts (obj_works.Write oid policy offset piece) index peer bytes gives = absurd gives
+work_cuts (obj_works.Read oid policy offset size) index peer bytes gives = (
+  refl,
+  read_of_row peer.rows (record { oid = oid; index = index }) (part_size policy (kind_of oid) offset) (part_size policy (kind_of oid) size)
+      bytes gives,
+)
+work_cuts (obj_works.ReadAll oid policy size) index peer bytes gives = (
+  refl,
+  subst (λ (from : ℕ). IsReadOfRow peer.rows oid index from bytes) (sym (part_of_none policy (kind_of oid)))
+      (read_of_row peer.rows (record { oid = oid; index = index }) 0 (part_size policy (kind_of oid) size) bytes gives),
+)
+
 -- ---- a piece of a copy that is of attempts
 
 got_piece : (bytes : List ℕ) (offset n i : ℕ) → i < n → get_or (piece_at bytes offset n) i 0 ≡ get_or bytes (offset + i) 0
@@ -144,9 +171,9 @@ length-piece : (bytes : List ℕ) (offset n : ℕ) → length (piece_at bytes of
 length-piece bytes offset n = length-take n (drop offset bytes) ∙ ap (min n) (length-drop offset bytes)
 
 -- a piece inside another
-piece-of_piece : (bytes : List ℕ) (offset size from n : ℕ) → offset ≤ from → from + n ≤ offset + length (piece_at bytes offset size)
-    → 1 ≤ n → piece_at (piece_at bytes offset size) (from - offset) n ≡ piece_at bytes from n
-piece-of_piece bytes offset size from n above below some =
+pub piece-of_piece : (bytes : List ℕ) (offset size from n : ℕ) → offset ≤ from → from + n ≤ offset + length (piece_at bytes offset size)
+    → piece_at (piece_at bytes offset size) (from - offset) n ≡ piece_at bytes from n
+piece-of_piece bytes offset size from n above below =
     let piece : List ℕ = piece_at bytes offset size in
     let long = length-piece bytes offset size in
     let one = length-piece piece (from - offset) n in
@@ -180,5 +207,5 @@ piece-of_attempts kind policy attempts index offset size row whole of = record {
       let (k, attempt, at, has) = of.each unit (le-leb (unit_end kind unit) (length row) (omega (arith, long, some))) in
       let here : row_bytes_at policy kind unit row ≡ piece_at row from n
       = λ i. piece_at row (whole_size policy kind whole from i) (whole_size policy kind whole n i) in
-      (k, attempt, at, (has.0, piece-of_piece row offset size from n above below some ∙ sym here ∙ has.1));
+      (k, attempt, at, (has.0, piece-of_piece row offset size from n above below ∙ sym here ∙ has.1));
 }

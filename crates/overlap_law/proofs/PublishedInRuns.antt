@@ -1,7 +1,7 @@
 -- The inode of an id that an outbox publishes was created by the epoch of its node, and that of an id that is published by the epoch of its
 -- publication: in each run in range.
 use Rattle.std.proofs.Common.{◌≡◌, zero, suc, ◌+◌, drop, arith, ℕ, ◌≤◌, true, List, [], ◌∷◌}
-use Rattle.std.proofs.Common.{◌++◌, Some, option_map, slice_get, length, refl, sym, ap, subst, ◌∙◌}
+use Rattle.std.proofs.Common.{◌++◌, Some, slice_get, length, refl, sym, ap, subst, ◌∙◌}
 use Rattle.std.proofs.lemmas.List.Elements.{All-contains}
 use Rattle.std.proofs.lemmas.Option.{same_Some}
 use Rattle.object_id.specs.declared.entry.Entry.{Entry}
@@ -23,7 +23,7 @@ use Rattle.overlap_law.specs.CommandDisks.{opened_in}
 use Rattle.overlap_law.specs.Drafts.{published_by}
 use Rattle.overlap_law.specs.MomentChanges.{MomentTrail, RunsAreInRange}
 use Rattle.overlap_law.specs.MomentChanges as moments
-use Rattle.overlap_law.specs.Past.{MomentWithPast, moment_after, first_moment, run_on, run_with_past}
+use Rattle.overlap_law.specs.Past.{MomentWithPast, first_moment, run_with_past}
 use Rattle.overlap_law.specs.WriterClaims.{IsFirstEntry, IsStageKept}
 use Rattle.overlap_law.proofs.AttemptMessages.{contains_at}
 use Rattle.overlap_law.proofs.AwaitedChanges.{IsOwnCourse}
@@ -32,15 +32,13 @@ use Rattle.overlap_law.proofs.AwaitedEntriesInMoments.{own_entries}
 use Rattle.overlap_law.proofs.AwaitedInRuns.{awaited_in_worlds, entries_awaited-in_run}
 use Rattle.overlap_law.proofs.ClaimsInRuns.{claims-in_run}
 use Rattle.overlap_law.proofs.CountedEntries.{times, once_if, times-append, times-cons, same_entry, itself}
-use Rattle.overlap_law.proofs.MomentTrails.{event_trail}
 use Rattle.overlap_law.proofs.NoRecoveredDue.{began-with_past}
 use Rattle.overlap_law.proofs.PublishingStages.{published_at, published_in_course}
 use Rattle.overlap_law.proofs.PublishedInodes.{OutboxesAreCreated, WhatWasPublishedIsCreated, published_after}
 use Rattle.overlap_law.proofs.ReadInMoments.{HostsAreSound, kept_sound}
 use Rattle.overlap_law.proofs.RunsByChanges.{on_the_way}
-use Rattle.overlap_law.proofs.RunsByEvents.{KeptByEvents, run-kept_by_events}
-use Rattle.overlap_law.proofs.RunsWithOneMore.{run_with_one_more}
 use Rattle.overlap_law.proofs.CreatedFirst.{publications-on_the_way}
+use Rattle.overlap_law.proofs.KeptInRuns.{KeptOnTheWay, kept_on_the_way}
 
 -- ---- what is to be put
 
@@ -143,37 +141,19 @@ module _ (script : List Statement) (range : RunsAreInRange script) (events : Lis
 -- ---- and so what is published was created
 
 module _ (script : List Statement) (range : RunsAreInRange script) where
-  published_along : (events : List Event) (start : MomentWithPast) → run_with_past script events ≡ Some start → {moment : MomentWithPast}
-      → MomentTrail script start moment → WhatWasPublishedIsCreated start.world.log start.past.attempts
-      → WhatWasPublishedIsCreated moment.world.log moment.past.attempts
-  published_along events start is moments.Still published = published
-  published_along events start is (moments.Then {moment} {next} trail change) published =
-      published_after script range start moment next (began-with_past script events start is) change
-      (on_the_way script HostsAreSound (kept_sound script range) events start moment is trail)
-      (outboxes-in_run script range events start is)
-      (published_along events start is trail published)
+  abbrev PublishedIsCreated : MomentWithPast → Type 0
+  PublishedIsCreated moment = WhatWasPublishedIsCreated moment.world.log moment.past.attempts
 
-  -- a run ends in this moment, and what was published was created
-  record IsPublishedAt (moment : MomentWithPast) : Type 0 where
-    pub events : List Event
-    pub run : run_with_past script events ≡ Some moment
-    pub published : WhatWasPublishedIsCreated moment.world.log moment.past.attempts
+  opens_so : PublishedIsCreated (first_moment script)
+  unfolding initial_world log_effects
+  opens_so vid was = absurd (cc (was))
 
-  opening_published : IsPublishedAt (first_moment script)
-  unfolding run_with_past run_on initial_world log_effects
-  opening_published = record { events = []; run = refl; published = λ vid was. absurd (cc (was)) }
-
-  events_publish : KeptByEvents script IsPublishedAt
-  events_publish event before made begun is holds = record {
-    events = holds.events ++ event ∷ [];
-    run = run_with_one_more script event made holds.events before is holds.run;
-    published = published_along holds.events before holds.run
-        (event_trail script event before (moment_after script event before made) (ap (option_map (moment_after script event before)) is))
-        holds.published;
-  }
+  change_keeps : KeptOnTheWay script PublishedIsCreated
+  change_keeps events start before after is trail change published =
+      published_after script range start before after (began-with_past script events start is) change
+      (on_the_way script HostsAreSound (kept_sound script range) events start before is trail)
+      (outboxes-in_run script range events start is) published
 
   pub published-on_the_way : (events : List Event) (start moment : MomentWithPast) → run_with_past script events ≡ Some start
       → MomentTrail script start moment → WhatWasPublishedIsCreated moment.world.log moment.past.attempts
-  published-on_the_way events start moment is trail =
-      published_along events start is trail
-      (run-kept_by_events script IsPublishedAt opening_published events_publish events start is).published
+  published-on_the_way = kept_on_the_way script PublishedIsCreated opens_so change_keeps

@@ -161,11 +161,18 @@ OutboxesAreCreated moment = EachUp moment.world.hosts
 abbrev pub was_published : List Entry → ℕ → Bool
 was_published log vid = list_any (publishes vid) (log_effects log)
 
-published-push : (log : List Entry) (entry : Entry) (vid : ℕ)
+pub published-push : (log : List Entry) (entry : Entry) (vid : ℕ)
     → was_published (log ++ entry ∷ []) vid ≡ (was_published log vid || (publishes vid (outcome (log_effects log) entry).effect || false))
 published-push log entry vid =
     ap (list_any (publishes vid)) (log_effects-push log entry)
     ∙ list_any-append (publishes vid) (log_effects log) ((outcome (log_effects log) entry).effect ∷ [])
+
+-- what was published was so by a longer log
+pub published_stays : (log : List Entry) (entry : Entry) (vid : ℕ) → was_published log vid ≡ true
+    → was_published (log ++ entry ∷ []) vid ≡ true
+published_stays log entry vid was =
+    published-push log entry vid
+    ∙ or_left (was_published log vid) (publishes vid (outcome (log_effects log) entry).effect || false) was
 
 none_live : (vid : ℕ) → is_live_state (state_of [] vid) ≡ true → ⊥
 unfolding state_of

@@ -1,6 +1,7 @@
 -- What a command reads of an inode lies inside it; and the inode that it goes on with, or leaves open, has a table of its own chain. For a
 -- table that was read keeps no other entry, and the id that takes the place of a disk is its child.
-use Rattle.std.proofs.Common.{◌≡◌, arith, ℕ, ◌+◌, ◌≤◌, true, false, List, All, Option, Some, None, IfSome, option_map, option_and_then, refl}
+use Rattle.std.proofs.Common.{◌≡◌, arith, ℕ, ◌+◌, ◌≤◌, true, false, List, All, Option, Some, None, IfSome, option_map, option_and_then, inl}
+use Rattle.std.proofs.Common.{refl, sym, ap, subst, ◌∙◌}
 use Rattle.std.proofs.lemmas.List.Elements.{All-head, All-weaker}
 use Rattle.object_id.specs.declared.entry.Entry.{Entry}
 use Rattle.object_id.specs.declared.entry.Entry.TheVariants.{Format, Join, Leave, Reweight, Recovered, Reserve, Publish, Clone, Snapshot, Delete, Lock, Unlock}
@@ -10,6 +11,7 @@ use Rattle.object_id.specs.declared.limits.TheConstants.{OBJECTS_MAX}
 use Rattle.object_id.specs.declared.node.NodeId.{NodeId}
 use Rattle.object_id.specs.declared.oid.Kind.TheVariants.{Inode}
 use Rattle.object_id.specs.declared.oid.Vid.{Vid}
+use Rattle.object_id.specs.Oid.{IsVid}
 use Rattle.object_id.specs.Spec.{objects_of}
 use Rattle.inode.specs.Layout.{Content}
 use Rattle.inode.specs.declared.layout.TheConstants.{INODE_BYTES}
@@ -20,7 +22,7 @@ use Rattle.vdi_directory.specs.declared.decision.Decision.{Decision}
 use Rattle.vdi_directory.specs.declared.decision.Decision.TheVariants as decisions
 use Rattle.vdi_directory.specs.Chains.{chain_of, is_above}
 use Rattle.vdi_directory.specs.Effects.{header_of}
-use Rattle.vdi_directory.specs.References.{parent_of}
+use Rattle.vdi_directory.specs.References.{header_parent, parent_of}
 use Rattle.guest_driver.specs.declared.disk.Disk.{Disk}
 use Rattle.guest_driver.proofs.ExtentLemmas.{objects_most}
 use Rattle.vdi_ops.specs.Entries.{first_entry}
@@ -34,7 +36,8 @@ use Rattle.sheep_node.specs.declared.course.Course.TheVariants as courses
 use Rattle.sheep_node.specs.Changes.{outcome_of_command}
 use Rattle.sheep_node.specs.Courses.{disk_after}
 use Rattle.sheep_node.proofs.ValidSteps.{given}
-use Rattle.overlap_law.proofs.ChainTables.{IsInChain, IsOtherId, HasChainTable, HasNoOwn, chain_other, own_chain, in_chain_grows, table_grows, HasChains, taken_over, taken_no_own}
+use Rattle.overlap_law.proofs.ChainTables.{IsInChain, IsOtherId, HasChainTable, HasNoOwn, above_then, chain_other, own_chain}
+use Rattle.overlap_law.proofs.ChainTables.{in_chain_grows, table_grows, HasChains, taken_over, taken_no_own}
 use Rattle.overlap_law.proofs.KnownDisks.{IsKnownDisk, IsKnownInode, vid-of_inode, kind-of_inode}
 use Rattle.overlap_law.proofs.KnownTables.{table_so}
 use Rattle.overlap_law.proofs.ReadWorks.{ReadsOn, IsReadOutcome, inside_on}
@@ -46,11 +49,15 @@ module _ (known : List Effect) where
   abbrev pub IsTakenTable : Content → Type 0
   IsTakenTable inode = HasChainTable known inode × HasNoOwn inode
 
+  -- an id is above another
+  abbrev pub IsIdAbove : ℕ → Vid → Type 0
+  IsIdAbove vid elder = IsVid elder.0 × (is_above known elder.0 vid ≡ true)
+
   abbrev pub IsTabledTask : Vid → Task → Type 0
   IsTabledTask vid (Opening snapshot ids header) = All (IsInChain known vid.0) ids
   IsTabledTask vid (WritingBack inode) = HasChainTable known inode
-  IsTabledTask vid (Tagging old inode) = IsTakenTable inode
-  IsTabledTask vid (Copying ids header) = All (IsOtherId vid.0) ids
+  IsTabledTask vid (Tagging old inode) = IsTakenTable inode × (is_above known old.0 inode.vid ≡ true)
+  IsTabledTask vid (Copying ids header) = All (IsOtherId vid.0) ids × IfSome header.parent (IsIdAbove vid.0)
   IsTabledTask vid (Making entry opened) = IfSome opened IsTakenTable
 
   abbrev pub IsTabledChange : DiskChange → Type 0
@@ -78,12 +85,16 @@ module _ (old new : List Effect) (above : (elder vid : ℕ) → is_above old eld
   if_grows None is = tt
   if_grows (Some inode) is = (table_grows old new above inode is.0, is.1)
 
+  parent_grows : (vid : ℕ) (o : Option Vid) → IfSome o (IsIdAbove old vid) → IfSome o (IsIdAbove new vid)
+  parent_grows vid None is = tt
+  parent_grows vid (Some parent) is = (is.0, above parent.0 vid is.1)
+
   task_grows : (vid : Vid) (task : Task) → IsTabledTask old vid task → IsTabledTask new vid task
   task_grows vid (Opening snapshot ids header) is =
       All-weaker (IsInChain old vid.0) (IsInChain new vid.0) (in_chain_grows old new above vid.0) ids is
   task_grows vid (WritingBack inode) is = table_grows old new above inode is
-  task_grows vid (Tagging of inode) is = (table_grows old new above inode is.0, is.1)
-  task_grows vid (Copying ids header) is = is
+  task_grows vid (Tagging of inode) is = ((table_grows old new above inode is.0.0, is.0.1), above of.0 inode.vid is.1)
+  task_grows vid (Copying ids header) is = (is.0, parent_grows vid.0 header.parent is.1)
   task_grows vid (Making entry opened) is = if_grows opened is
 
   change_grows : (change : DiskChange) → IsTabledChange old change → IsTabledChange new change
@@ -138,7 +149,7 @@ module _ (known : List Effect) where
   task_inside op vid bytes (Opening true ids header) is = record { stage = table_read vid.0 header ids bytes is; outcome = tt }
   task_inside op vid bytes (Opening false ids header) is = record { stage = table_read vid.0 header ids bytes is; outcome = tt }
   task_inside op vid bytes (WritingBack inode) is = record { stage = is; outcome = tt }
-  task_inside op vid bytes (Tagging old inode) is = record { stage = is; outcome = tt }
+  task_inside op vid bytes (Tagging old inode) is = record { stage = is.0; outcome = tt }
   task_inside op vid bytes (Copying ids header) is = record { stage = tt; outcome = tt }
   task_inside op vid bytes (Making entry opened) is = record { stage = is; outcome = tt }
 
@@ -202,8 +213,11 @@ module _ (known : List Effect) where
               given IsReadCommandStep next
               (record {
                 stage = (
-                  taken_over known chains vid header parent old there from same is table,
-                  taken_no_own known chains vid header parent old own from same table,
+                  (
+                    taken_over known chains vid header parent old there from same is table,
+                    taken_no_own known chains vid header parent old own from same table,
+                  ),
+                  above_then known chains old.vid vid.0 parent from same old.vid (inl refl),
                 );
                 outcome = tt;
               })
@@ -213,10 +227,15 @@ module _ (known : List Effect) where
               → option_map (copy_step op vid (chain_of known vid.0) header) parent ≡ Some step → IsReadCommandStep step
           by_parent None from next = absurd (cc (next))
           by_parent (Some parent) from next =
+              let is = chains.with_parent vid.0 header parent there from in
+              let above = above_then known chains parent.0 vid.0 parent (ap header_parent there ∙ from) refl parent.0 (inl refl) in
               given IsReadCommandStep next
               (record {
-                stage = chain_other known chains vid.0 header there;
-                outcome = inode_inside parent.0 header.spec (chains.with_parent vid.0 header parent there from);
+                stage = (
+                  chain_other known chains vid.0 header there,
+                  subst (λ (o : Option Vid). IfSome o (IsIdAbove known vid.0)) (sym from) (is.id, above),
+                );
+                outcome = inode_inside parent.0 header.spec is;
               })
       granted_inside (Publish by made) at granted next = absurd (cc (next))
       granted_inside (Clone by made) at granted next = absurd (cc (next))

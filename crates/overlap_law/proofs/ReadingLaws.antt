@@ -1,6 +1,6 @@
 -- What both readings of a row's bytes have in common: bytes that are those of a served attempt may be read as of it and of each earlier
 -- one, and what may be read so may be read so later, as attempts begin and fates are told.
-use Rattle.std.proofs.Common.{◌≡◌, ⊎_elim, arith, ℕ, ◌≤◌, ◌<◌, Bool, true, false, List, Some, slice_get, refl, sym, ap, ◌∙◌}
+use Rattle.std.proofs.Common.{◌≡◌, inl, inr, ⊎_elim, arith, ℕ, ◌≤◌, ◌<◌, Bool, true, false, List, Some, slice_get, refl, sym, ap, ◌∙◌}
 use Rattle.std.proofs.lemmas.Bool.{cases_lt}
 use Rattle.std.proofs.lemmas.Option.{same_Some}
 use Rattle.overlap_law.specs.Attempts.{AttemptRecord, MessageFate}
@@ -48,8 +48,11 @@ copies_read = record {
 strips_read : IsReading IsStripOf
 strips_read = record {
   served = λ attempts unit j k index attempt there before covers loud. record {
-    own = λ own own_there mute. ⊎_elim
-        (λ (less : j < k). let silent = mute.each k attempt there less covers in absurd (cc (silent, loud)))
+    own = λ own own_there quiet. ⊎_elim
+        (λ (less : j < k). ⊎_elim
+        (λ (silent : is_mute attempt ≡ true). absurd (cc (silent, loud)))
+        (λ (alike : (part : ℕ) → unit_part_by part unit attempt.work ≡ unit_part_by part unit own.work). alike index)
+        (quiet.each k attempt there less covers))
         (λ (most : k ≤ j).
         let same : k ≡ j = omega (arith, before, most) in
         ap (λ (a : AttemptRecord). unit_part_by index unit a.work)
@@ -57,13 +60,17 @@ strips_read = record {
         (cases_lt j k);
   };
   later = λ attempts more grow unit j index bytes was there read. record {
-    own = λ own own_there mute.
+    own = λ own own_there quiet.
         let (fates, now, muter) = grow.stays j was there in
         let same : record was { fates = fates } ≡ own = same_Some (record was { fates = fates }) own (sym now ∙ own_there) in
         read.own was there (record {
           each = λ k later at less covers.
               let (told, there_now, muted) = grow.stays k later at in
-              muted (mute.each k (record later { fates = told }) there_now less covers);
+              ⊎_elim
+              (λ (silent : is_mute (record later { fates = told }) ≡ true). inl (muted silent))
+              (λ (alike : (part : ℕ) → unit_part_by part unit later.work ≡ unit_part_by part unit own.work).
+              inr (λ part. alike part ∙ ap (λ (a : AttemptRecord). unit_part_by part unit a.work) (sym same)))
+              (quiet.each k (record later { fates = told }) there_now less covers);
         })
         ∙ ap (λ (a : AttemptRecord). unit_part_by index unit a.work) same;
   };

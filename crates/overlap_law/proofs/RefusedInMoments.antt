@@ -116,7 +116,7 @@ or_either : (a b : Bool) → (a ≡ true) ⊎ (b ≡ true) → (a || b) ≡ true
 or_either true b either = refl
 or_either false b either = ⊎_elim (λ (none : false ≡ true). absurd (cc (none))) (λ (is : b ≡ true). is) either
 
-among_of : (req : ℕ) (one more : List ℕ) → (is_object_among req one ≡ true) ⊎ (is_object_among req more ≡ true) → is_object_among req (one ++ more) ≡ true
+pub among_of : (req : ℕ) (one more : List ℕ) → (is_object_among req one ≡ true) ⊎ (is_object_among req more ≡ true) → is_object_among req (one ++ more) ≡ true
 among_of req one more either =
     list_any-append (λ other. other == req) one more ∙ or_either (is_object_among req one) (is_object_among req more) either
 

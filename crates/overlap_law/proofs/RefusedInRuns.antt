@@ -315,7 +315,7 @@ module _ (script : List Statement) where
     found_brings RecoveryTicks so req number ask from = absurd (cc (from))
     found_brings WorkIsRetried so req number ask from = absurd (cc (from))
 
-    found_answered : (refused : List ℕ) (cause : NodeCause) → IsCause script world n host cause → AreAnswered world.guests refused
+    pub found_answered : (refused : List ℕ) (cause : NodeCause) → IsCause script world n host cause → AreAnswered world.guests refused
         → AreAnswered (progress_at_cause cause world) refused
     found_answered refused (GuestAsks session req ask) asked are =
         begins_answered world.guests refused session.number (record { req = req; disk = disk_open session world }) asked.next are
@@ -327,7 +327,7 @@ module _ (script : List Statement) where
     found_answered refused RecoveryTicks so are = are
     found_answered refused WorkIsRetried so are = are
 
-    replies_begun : (cause : NodeCause) → IsCause script world n host cause → (reply : ℕ × GuestRsp)
+    pub replies_begun : (cause : NodeCause) → IsCause script world n host cause → (reply : ℕ × GuestRsp)
         → Contains (node_step (input_of_cause cause) host.node).outputs.replies reply
         → (session : ℕ) × WasBegun script (progress_at_cause cause world) session reply.0
     replies_begun cause caused =

@@ -43,7 +43,7 @@ again_apart requests replies req was now there apart q at reply got replied = �
     (get-insert_cases requests req now q at got)
 
 -- nothing was replied yet
-none_apart : (requests : Requests) (replies : List (ℕ × GuestRsp)) → replies ≡ [] → AreApart requests replies
+pub none_apart : (requests : Requests) (replies : List (ℕ × GuestRsp)) → replies ≡ [] → AreApart requests replies
 none_apart requests replies none req request reply got replied =
     absurd (Contains-nil reply (subst (λ (all : List (ℕ × GuestRsp)). Contains all reply) none replied))
 
@@ -107,7 +107,7 @@ module _ (input : Input) (node : Node) where
   comes_apart so_far session req tried lined (Again work course from next there request) apart = apart
   comes_apart so_far session req tried lined (AgainAlone work from next there none) apart = apart
 
-  change_apart : IsSoundStep input node → (so_far next : StepState) → Change input node so_far next → ApartIn so_far → ApartIn next
+  pub change_apart : IsSoundStep input node → (so_far next : StepState) → Change input node so_far next → ApartIn so_far → ApartIn next
   change_apart sound so_far next (changes.Marks req number work attempt status learns over) apart = apart
   change_apart sound so_far next (changes.Fails session req number work attempt status course ends done why) apart = apart
   change_apart sound so_far next (changes.Stops session req number work attempt status course bytes ends over) apart = apart

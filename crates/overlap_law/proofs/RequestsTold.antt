@@ -12,12 +12,12 @@ use Rattle.overlap_law.specs.DiskEvents.{ends_write_of}
 use Rattle.overlap_law.specs.Headline.{ledger_of}
 use Rattle.overlap_law.specs.ToldReads.{begins_write_at}
 
-or_comes : (a b c : Bool) → (a || b) || c ≡ a || (b || c)
+pub or_comes : (a b c : Bool) → (a || b) || c ≡ a || (b || c)
 or_comes true b c = refl
 or_comes false b c = refl
 
 -- numbers are the same both ways round
-turned : (a b : ℕ) → (a == b) ≡ (b == a)
+pub turned : (a b : ℕ) → (a == b) ≡ (b == a)
 turned a b = by_tests (a == b) (b == a) refl refl
   where
     by_tests : (x y : Bool) → (a == b) ≡ x → (b == a) ≡ y → x ≡ y
@@ -40,11 +40,11 @@ module _ (req : ℕ) where
       by_test false is =
           sym (ap (λ (c : Bool). (requests req).ended || (c && b)) (sym (turned req place) ∙ is) ∙ or-false (requests req).ended)
 
-  and_true : (b : Bool) → (b && true) ≡ b
+  pub and_true : (b : Bool) → (b && true) ≡ b
   and_true true = refl
   and_true false = refl
 
-  and_false : (b : Bool) → (b && false) ≡ false
+  pub and_false : (b : Bool) → (b && false) ≡ false
   and_false true = refl
   and_false false = refl
 
@@ -52,7 +52,7 @@ module _ (req : ℕ) where
   or_true true = refl
   or_true false = refl
 
-  ended_after : (event : HistEvent) (ledger : Ledger)
+  pub ended_after : (event : HistEvent) (ledger : Ledger)
       → ((ledger_after ledger event).requests req).ended ≡ (ledger.requests req).ended || ends_write_of req event
   ended_after (Create disk blocks) ledger = sym (or-false (ledger.requests req).ended)
   ended_after (Copy old new) ledger = sym (or-false (ledger.requests req).ended)
@@ -103,7 +103,7 @@ module _ (req : ℕ) where
         by_test true is = ap (λ (k : ℕ). has_place (ledger.requests k) disk block) (sym (eqb-true req other is))
         by_test false is = refl
 
-    place_after : (event : HistEvent) (ledger : Ledger) → has_place ((ledger_after ledger event).requests req) disk block
+    pub place_after : (event : HistEvent) (ledger : Ledger) → has_place ((ledger_after ledger event).requests req) disk block
         ≡ has_place (ledger.requests req) disk block || begins_write_at req disk block event
     place_after (Create new blocks) ledger = sym (or-false (has_place (ledger.requests req) disk block))
     place_after (Copy old new) ledger = sym (or-false (has_place (ledger.requests req) disk block))

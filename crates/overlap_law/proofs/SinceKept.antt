@@ -40,6 +40,7 @@ use Rattle.overlap_law.proofs.NoRecoveredDue.{began-with_past}
 use Rattle.overlap_law.proofs.OrderedInRuns.{ordered-in_run}
 use Rattle.overlap_law.proofs.PlacedInMoments.{placed-in_run, placed-on_the_way}
 use Rattle.overlap_law.proofs.ReadInMoments.{kept_sound}
+use Rattle.overlap_law.proofs.RowKeeping.{MayFind}
 use Rattle.overlap_law.proofs.RunsByChanges.{run-kept, on_the_way}
 use Rattle.overlap_law.proofs.SinceAtEvents.{since_elsewhere}
 use Rattle.overlap_law.proofs.SinceAtNodes.{FindsSince, finds_nothing, grown}
@@ -69,7 +70,10 @@ module _ (script : List Statement) (range : RunsAreInRange script) (events : Lis
   -- ---- where the event begins
 
   module _ (good : ℕ → Bool) (needs : FoundNeeds good start) where
-    since : RowsAreSince (log_effects start.world.log) good start.world.hosts start.past.attempts
+    abbrev SinceAt : MomentWithPast → Type 0
+    SinceAt moment = RowsAreSince (log_effects moment.world.log) good moment.world.hosts moment.past.attempts
+
+    since : SinceAt start
     since = needs.since
 
     -- ---- a step of a node
@@ -129,28 +133,32 @@ module _ (script : List Statement) (range : RunsAreInRange script) (events : Lis
             (λ j now at told most. told));
       }
 
-    abbrev Anything : Search → Type 0
-    Anything search = Unit {0}
+      abbrev Anything : Search → Type 0
+      Anything search = Unit {0}
+
+      -- so it is where a recovery finds nothing
+      without_finds : (MayFind (input_of_cause cause) → ⊥) → ((request : PeerReq) → input_of_cause cause ≡ inputs.Request request → ⊥)
+          → ((entry : Entry) → input_of_cause cause ≡ inputs.LogEntry entry → ⊥) → SinceAt after
+      without_finds none not_served no_entry =
+          stepped_with Anything
+          (finds_nothing script range start start after began change good since n host.node (input_of_cause cause) none) not_served no_entry
+
+      -- and where it finds what it may
+      with_finds : ((request : PeerReq) → input_of_cause cause ≡ inputs.Request request → ⊥)
+          → ((entry : Entry) → input_of_cause cause ≡ inputs.LogEntry entry → ⊥) → SinceAt after
+      with_finds not_served no_entry = stepped_with Sound finds_sound not_served no_entry
 
     step_begins : (n : ℕ) (host : Host) (cause : NodeCause)
         → (stepped : IsStepping script start.world (record { n = n; host = host; cause = cause })) → StepsByChanges cause
-        → RowsAreSince
-        (log_effects (moment_in_step script (record { n = n; host = host; cause = cause }) start
-        (first_in_step (record { n = n; host = host; cause = cause }))).world.log) good
-        (moment_in_step script (record { n = n; host = host; cause = cause }) start
-        (first_in_step (record { n = n; host = host; cause = cause }))).world.hosts
-        (moment_in_step script (record { n = n; host = host; cause = cause }) start
-        (first_in_step (record { n = n; host = host; cause = cause }))).past.attempts
+        → SinceAt (moment_in_step script (record { n = n; host = host; cause = cause }) start
+        (first_in_step (record { n = n; host = host; cause = cause })))
     step_begins n host (GuestAsks session req ask) stepped by =
         let s : SteppingNode = record { n = n; host = host; cause = GuestAsks session req ask } in
         let change = moments.StepBegins s stepped by in
         let pairs = later-same script range start start (moment_in_step script s start (first_in_step s)) began change terms holds.shaped
         holds.tied (attempts-at_first script start s stepped by) in
-        stepped_with n host (GuestAsks session req ask) stepped (first_in_step s) change (step_peer (input_of_cause s.cause) host.node)
-        pairs Anything
-        (finds_nothing script range start start (moment_in_step script s start (first_in_step s)) began change good since n host.node
-        (input_of_cause s.cause) (λ may. may))
-        (λ request same. absurd (cc (same))) (λ entry same. absurd (cc (same)))
+        without_finds n host (GuestAsks session req ask) stepped (first_in_step s) change (step_peer (input_of_cause s.cause) host.node)
+        pairs (λ may. may) (λ request same. absurd (cc (same))) (λ entry same. absurd (cc (same)))
     step_begins n host (RequestComes name to request) stepped by = absurd by
     step_begins n host (ReplyComes name from rsp) stepped by =
         let s : SteppingNode = record { n = n; host = host; cause = ReplyComes name from rsp } in
@@ -158,9 +166,7 @@ module _ (script : List Statement) (range : RunsAreInRange script) (events : Lis
         let pairs = later-same script range start start (moment_in_step script s start (first_in_step s)) began change terms holds.shaped
         holds.tied (attempts-at_first script start s stepped by) in
         let peer_so = step_peer (input_of_cause s.cause) host.node in
-        stepped_with n host (ReplyComes name from rsp) stepped (first_in_step s) change peer_so pairs
-        (Sound n host (ReplyComes name from rsp) stepped (first_in_step s) change peer_so pairs)
-        (finds_sound n host (ReplyComes name from rsp) stepped (first_in_step s) change peer_so pairs)
+        with_finds n host (ReplyComes name from rsp) stepped (first_in_step s) change peer_so pairs
         (λ request same. absurd (cc (same))) (λ entry same. absurd (cc (same)))
     step_begins n host (LossIsTold name packet) stepped by =
         let s : SteppingNode = record { n = n; host = host; cause = LossIsTold name packet } in
@@ -168,9 +174,7 @@ module _ (script : List Statement) (range : RunsAreInRange script) (events : Lis
         let pairs = later-lost script range start start (moment_in_step script s start (first_in_step s)) began change terms holds.shaped
         holds.tied name packet (attempts-at_first script start s stepped by) in
         let peer_so = step_peer (input_of_cause s.cause) host.node in
-        stepped_with n host (LossIsTold name packet) stepped (first_in_step s) change peer_so pairs
-        (Sound n host (LossIsTold name packet) stepped (first_in_step s) change peer_so pairs)
-        (finds_sound n host (LossIsTold name packet) stepped (first_in_step s) change peer_so pairs)
+        with_finds n host (LossIsTold name packet) stepped (first_in_step s) change peer_so pairs
         (λ request same. absurd (cc (same))) (λ entry same. absurd (cc (same)))
     step_begins n host (EntryIsRead entry) stepped by =
         let s : SteppingNode = record { n = n; host = host; cause = EntryIsRead entry } in
@@ -185,20 +189,13 @@ module _ (script : List Statement) (range : RunsAreInRange script) (events : Lis
         let change = moments.StepBegins s stepped by in
         let pairs = later-same script range start start (moment_in_step script s start (first_in_step s)) began change terms holds.shaped
         holds.tied (attempts-at_first script start s stepped by) in
-        stepped_with n host WorkIsRetried stepped (first_in_step s) change (step_peer (input_of_cause s.cause) host.node) pairs Anything
-        (finds_nothing script range start start (moment_in_step script s start (first_in_step s)) began change good since n host.node
-        (input_of_cause s.cause) (λ may. may))
-        (λ request same. absurd (cc (same))) (λ entry same. absurd (cc (same)))
+        without_finds n host WorkIsRetried stepped (first_in_step s) change (step_peer (input_of_cause s.cause) host.node)
+        pairs (λ may. may) (λ request same. absurd (cc (same))) (λ entry same. absurd (cc (same)))
 
     step_is_made : (n : ℕ) (host : Host) (cause : NodeCause)
         → (stepped : IsStepping script start.world (record { n = n; host = host; cause = cause })) → StepsAtOnce cause
-        → RowsAreSince
-        (log_effects (moment_in_step script (record { n = n; host = host; cause = cause }) start
-        (last_in_step (record { n = n; host = host; cause = cause }))).world.log) good
-        (moment_in_step script (record { n = n; host = host; cause = cause }) start
-        (last_in_step (record { n = n; host = host; cause = cause }))).world.hosts
-        (moment_in_step script (record { n = n; host = host; cause = cause }) start
-        (last_in_step (record { n = n; host = host; cause = cause }))).past.attempts
+        → SinceAt (moment_in_step script (record { n = n; host = host; cause = cause }) start
+        (last_in_step (record { n = n; host = host; cause = cause })))
     step_is_made n host (GuestAsks session req ask) stepped by = absurd by
     step_is_made n host (RequestComes name to request) stepped by =
         since_served script range start began n host name to request stepped good terms holds.shaped holds.tied holds.turns holds.sound
@@ -214,18 +211,14 @@ module _ (script : List Statement) (range : RunsAreInRange script) (events : Lis
         let change = moments.StepIsMade s stepped by in
         let pairs = later-same script range start start (moment_in_step script s start (last_in_step s)) began change terms holds.shaped
         holds.tied (attempts-at_end script start s stepped by) in
-        stepped_with n host (EntryIsPut entry) stepped (last_in_step s) change refl pairs Anything
-        (finds_nothing script range start start (moment_in_step script s start (last_in_step s)) began change good since n host.node
-        (input_of_cause s.cause) (λ may. may))
-        (λ request same. absurd (cc (same))) (λ entry same. absurd (cc (same)))
+        without_finds n host (EntryIsPut entry) stepped (last_in_step s) change refl
+        pairs (λ may. may) (λ request same. absurd (cc (same))) (λ entry same. absurd (cc (same)))
     step_is_made n host RecoveryTicks stepped by =
         let s : SteppingNode = record { n = n; host = host; cause = RecoveryTicks } in
         let change = moments.StepIsMade s stepped by in
         let pairs = later-same script range start start (moment_in_step script s start (last_in_step s)) began change terms holds.shaped
         holds.tied (attempts-at_end script start s stepped by) in
-        stepped_with n host RecoveryTicks stepped (last_in_step s) change refl pairs
-        (Sound n host RecoveryTicks stepped (last_in_step s) change refl pairs)
-        (finds_sound n host RecoveryTicks stepped (last_in_step s) change refl pairs)
+        with_finds n host RecoveryTicks stepped (last_in_step s) change refl pairs
         (λ request same. absurd (cc (same))) (λ entry same. absurd (cc (same)))
     step_is_made n host WorkIsRetried stepped by = absurd by
 

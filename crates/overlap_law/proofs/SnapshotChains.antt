@@ -127,7 +127,7 @@ snapshot_was vid = by_entries (λ (log : List Entry). IsLiveSnapshot (state_of (
 -- ---- what is above an id
 
 -- an id is reserved to take the place of another
-abbrev HasBase : List Effect → ℕ → ℕ → Type 0
+abbrev pub HasBase : List Effect → ℕ → ℕ → Type 0
 HasBase before elder vid =
     (r : Reservation) × (reservation_on (record { 0 = vid }) (reservations_of before) ≡ Some r) × IsInPlaceOf elder r.source
 
@@ -199,7 +199,7 @@ module _ (before : List Effect) (sound : IsSound before) (elder vid : ℕ) (r : 
       ∙ ap (λ (b : Bool). rank (cond b states.Freed (states.Reserved r.by))) takes))
 
 -- an id above another is a snapshot's, or the other is reserved in its place, or is gone
-abbrev HasElder : List Entry → ℕ → ℕ → Type 0
+abbrev pub HasElder : List Entry → ℕ → ℕ → Type 0
 HasElder log elder vid =
     (was_snapped log elder ≡ true) ⊎ (HasBase (log_effects log) elder vid ⊎ (rank (state_of (log_effects log) vid) ≡ 4))
 
@@ -268,7 +268,7 @@ module _ (log : List Entry) (entry : Entry) where
         )))
         (λ (live : IsLiveSnapshot (state_of (log_effects log) p.0)).
         inl (was_then log entry elder (ap (was_snapped log) (sym same) ∙ snapshot_was p.0 log live)))
-        (made p parent)
+        (made.0 p parent)
       where
         made : IsMadeSo (log_effects log) (effects.Reserved grant)
         made = subst (IsMadeSo (log_effects log)) is so
@@ -313,7 +313,7 @@ none_above : (elder vid : ℕ) → is_above [] elder vid ≡ true → ⊥
 unfolding is_above chain_of
 none_above elder vid above = absurd (cc (above))
 
-elders : (log : List Entry) (elder vid : ℕ) → is_above (log_effects log) elder vid ≡ true → HasElder log elder vid
+pub elders : (log : List Entry) (elder vid : ℕ) → is_above (log_effects log) elder vid ≡ true → HasElder log elder vid
 elders = by_entries (λ (log : List Entry). (elder vid : ℕ) → is_above (log_effects log) elder vid ≡ true → HasElder log elder vid)
     (λ elder vid above. absurd (none_above elder vid (subst (λ (all : List Effect). is_above all elder vid ≡ true) log_effects-none above)))
     (λ log entry all. elders_then log entry all)

@@ -93,7 +93,7 @@ module _ (log : List Entry) (by : NodeId) (session : ℕ) (name base tag : List 
       let snaps : is.grant.reservation.source ≡ sources.Snapshot parent place.0 = place.1 in
       absurd (cc (clones, snaps)))
       (λ (live : IsLiveSnapshot (state_of (log_effects log) parent.0)). was_then log entry parent.0 (snapshot_was parent.0 log live))
-      (made parent (ap (λ (h : Header). h.parent) same ∙ from))
+      (made.0 parent (ap (λ (h : Header). h.parent) same ∙ from))
     where
       is : IsGrant log by session vid name (CloneOf base tag)
           (outcome (log_effects log) (Reserve by session name (CloneOf base tag))).effect

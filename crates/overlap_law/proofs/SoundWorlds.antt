@@ -92,6 +92,17 @@ named_by line (asks.Vdi ask) is = tt
 named_by line (asks.Object work) is = let inside = asked_inside line (asks.Object work) is in absurd (cc (inside))
 named_by line (asks.Entry entry) is = tt
 
+pub names_objects : (script : List Statement) (world : World) (n : ℕ) (host : Host) (cause : NodeCause)
+    → IsCause script world n host cause → InputNamesObjects (input_of_cause cause)
+names_objects script world n host (GuestAsks session req ask) caused = named_by caused.line ask caused.asks
+names_objects script world n host (RequestComes name to request) caused = tt
+names_objects script world n host (ReplyComes name from rsp) caused = tt
+names_objects script world n host (LossIsTold name packet) caused = tt
+names_objects script world n host (EntryIsRead entry) caused = tt
+names_objects script world n host (EntryIsPut entry) caused = tt
+names_objects script world n host RecoveryTicks caused = tt
+names_objects script world n host WorkIsRetried caused = tt
+
 -- a host that is up isn't lost
 not_lost : (host : Host) → is_host_up host ≡ true → host.is_lost ≡ false
 not_lost host up = not-true host.is_lost (and_parts (not host.is_lost) (has_numbers host.node) up).0

@@ -73,7 +73,7 @@ module _ (script : List Statement) where
   replied_once replies guests apart q one other there there_too =
       apart q one other (left_by script replies guests q one there).0 (left_by script replies guests q other there_too).0
 
-  caused_once : (world : World) (n : ℕ) (host : Host) (refused : List ℕ) (cause : NodeCause) → IsCause script world n host cause
+  pub caused_once : (world : World) (n : ℕ) (host : Host) (refused : List ℕ) (cause : NodeCause) → IsCause script world n host cause
       → AreAnswered script world.guests refused → UnansweredAreOnce world.guests → UnansweredAreOnce (progress_at_cause cause world)
   caused_once world n host refused (GuestAsks session req ask) caused are apart =
       begins_once world.guests refused session.number (record { req = req; disk = disk_open session world }) caused.next are apart

@@ -1,8 +1,7 @@
 -- In each world of a run in range the requests in the wire that ask for a row go to a target of their epoch, under the index of its part.
-use Rattle.std.proofs.Common.{◌≡◌, arith, ℕ, ◌+◌, true, List, [], ◌∷◌, ◌++◌, length, filter, map, All, Some, Ok, refl, sym, ap, subst, ◌∙◌}
+use Rattle.std.proofs.Common.{◌≡◌, arith, ℕ, ◌+◌, true, List, ◌++◌, length, filter, map, All, Some, sym, ap, subst, ◌∙◌}
 use Rattle.std.specs.List.{enumerate_from}
 use Rattle.std.specs.FinMap as tree
-use Rattle.std.proofs.lemmas.List.Elements.{All-nil, All-cons, All-head, All-tail}
 use Rattle.proof_tools.proofs.FiniteMaps.{get-insert_same}
 use Rattle.object_id.specs.declared.entry.Entry.{Entry}
 use Rattle.object_id.specs.declared.entry.Member.{Member}
@@ -19,99 +18,54 @@ use Rattle.vnode_table.specs.Epochs.{members_at}
 use Rattle.vnode_table.specs.Targets.{targets_in}
 use Rattle.cluster_script.specs.declared.statement.Statement.{Statement}
 use Rattle.peer_proto.specs.declared.ask.PeerReq.{PeerReq}
-use Rattle.peer_proto.specs.Ask.{ask_bytes, ask_in, IsPeerReq}
 use Rattle.peer_proto.specs.Work.{oid_of, policy_of}
-use Rattle.peer_proto.proofs.AskLemmas.{ask-again}
-use Rattle.vdi_directory.specs.declared.effect.Effect.{Effect}
 use Rattle.vdi_directory.specs.Decisions.{log_effects}
 use Rattle.peer_service.specs.State.{Peer}
 use Rattle.gateway.specs.Work.{targets_asked}
 use Rattle.gateway.specs.Attempt.{message_for, send_of}
 use Rattle.gateway.specs.State.{Work}
-use Rattle.recovery.specs.State.{Message}
-use Rattle.recovery.specs.Tick.{tick_messages, tick_sends}
 use Rattle.sheep_node.specs.declared.event.Event.{Event}
 use Rattle.sheep_node.specs.declared.input.Input.{Input}
 use Rattle.sheep_node.specs.State.{Node}
-use Rattle.sheep_node.specs.RecoveryView.{recovery_state_of}
 use Rattle.sheep_node.specs.StepState.{StepState, at_first}
 use Rattle.sheep_node.specs.StepFacts.{read_after, epochs_of, IsByTheLog}
-use Rattle.sheep_node.specs.Step.{on_recover_tick, node_step}
+use Rattle.sheep_node.specs.Step.{node_step}
 use Rattle.sheep_node.specs.Changes.{input_received, with_open_attempt, WorkIsNext, Leads}
 use Rattle.sheep_node.proofs.StepEffects.{Untouched, untouched_in}
 use Rattle.sheep_node.proofs.StepResults.{step_peer, step_epochs, step_reads}
-use Rattle.message_wire.specs.declared.packet.Packet.{Packet}
-use Rattle.message_wire.specs.declared.packet.Packet.TheVariants.{Request, Reply}
-use Rattle.message_wire.specs.Message.{name_cmp}
 use Rattle.sheep_world.specs.World.{Host, World, is_host_up}
 use Rattle.sheep_world.specs.LogFronts.{IsFront}
-use Rattle.sheep_world.specs.Opening.{initial_world}
-use Rattle.sheep_world.specs.Step.{EventOutcome, step}
-use Rattle.sheep_world.specs.NodeCauses.{NodeCause, GuestAsks, RequestComes, ReplyComes, LossIsTold, EntryIsRead, EntryIsPut, RecoveryTicks, WorkIsRetried, input_of_cause, IsCause, world_after_cause}
-use Rattle.sheep_world.specs.EventKinds.{log_after_return, EventKind, NodeStep, UntoldLoss, UnreadDelivery, NodeLoss, NodeLeave, NodeReweight, NodeJoin, NodeReturn, PhaseEnd}
+use Rattle.sheep_world.specs.NodeCauses.{NodeCause, input_of_cause, IsCause, world_after_cause}
 use Rattle.sheep_world.specs.HostChanges.{host_after_step}
 use Rattle.sheep_world.specs.Began.{Began, IsInvariant}
 use Rattle.sheep_world.proofs.BegunWorlds.{goes_on, by_induction}
-use Rattle.sheep_world.proofs.EventInversion.{happens}
 use Rattle.sheep_world.proofs.LogAtOpening.{log-holds}
-use Rattle.sheep_world.proofs.LogFrontLaws.{log_grows, all_read}
+use Rattle.sheep_world.proofs.LogFrontLaws.{all_read}
 use Rattle.sheep_world.proofs.NodesByTheLog.{by_the_log}
-use Rattle.sheep_world.proofs.RecoveryMessages.{same_asked}
-use Rattle.sheep_world.proofs.ReturningNodes.{stepped_renewed}
-use Rattle.sheep_world.proofs.StepsByCause.{served_silent}
 use Rattle.overlap_law.specs.AskedTargets.{AsksTarget, AsksGoToTargets}
 use Rattle.overlap_law.specs.Each.{policy_in}
 use Rattle.overlap_law.specs.Holders.{targets_by}
 use Rattle.overlap_law.specs.MomentChanges.{RunsAreInRange}
 use Rattle.overlap_law.specs.Past.{MomentWithPast, run_with_past}
 use Rattle.overlap_law.proofs.CausedWorks.{IsNotServed, no_object}
-use Rattle.overlap_law.proofs.CreatesOnTheWire.{AllSo, SendsSo, any_reply, wire_so}
 use Rattle.overlap_law.proofs.EpochsInRuns.{members_read}
-use Rattle.overlap_law.proofs.KnownAsks.{IsKnownMessage, sent_known}
 use Rattle.overlap_law.proofs.KnownDiskSteps.{effects_after, work_known}
 use Rattle.overlap_law.proofs.KnownDisksInRuns.{caused_known, read_reservable, nodes_know}
 use Rattle.overlap_law.proofs.LackedAtEntries.{policy_stays}
 use Rattle.overlap_law.proofs.NoRecoveredDue.{began-with_past}
 use Rattle.overlap_law.proofs.PlacedRows.{some_by_policy}
 use Rattle.overlap_law.proofs.PlacesTaken.{places_taken}
-use Rattle.overlap_law.proofs.SendsOfChanges.{received_nothing, put_sends, in_order_so_far}
+use Rattle.overlap_law.proofs.SendsOfChanges.{in_order_so_far}
 use Rattle.overlap_law.proofs.SendsOfWorks.{sends_for, steps_send}
+use Rattle.overlap_law.proofs.SentByTheLog.{StepsSendSo, step_so, opens_so, asks_after}
 use Rattle.overlap_law.proofs.SentToTargets.{SendGoesTo, targets_stay_asked, asks_no_row, policy_of_work, attempt_goes}
 use Rattle.overlap_law.proofs.ShapedAttempts.{entered_newest}
 use Rattle.overlap_law.proofs.WholeInRuns.{sound_world, sound_here, named, may_change, nodes_whole}
 use Rattle.overlap_law.proofs.WholeSteps.{turn_whole}
 
--- a packet that asks for a row goes to a target
-abbrev TargetsSo : List Entry → Packet → Type 0
-TargetsSo log (Request to bytes) = (request : PeerReq) → ask_in bytes ≡ Ok request → AsksTarget log to request.epoch.0 request.ask
-TargetsSo log (Reply from bytes) = Unit {0}
-
-sent_in_wire : (log : List Entry) (sends : List (NodeId × PeerReq)) → All (λ (send : NodeId × PeerReq). IsPeerReq send.1) sends
-    → All (SendGoesTo log) sends → All (λ (send : NodeId × PeerReq). TargetsSo log (Request send.0 (ask_bytes send.1))) sends
-sent_in_wire log [] spelled so = All-nil _
-sent_in_wire log (send ∷ sends) spelled so =
-    let Is : NodeId × PeerReq → Type 0 = λ (send : NodeId × PeerReq). IsPeerReq send.1 in
-    All-cons (λ (send : NodeId × PeerReq). TargetsSo log (Request send.0 (ask_bytes send.1))) send sends
-    (λ request read.
-    let same : send.1 ≡ request = same_asked send.1 request (sym (ask-again send.1 (All-head Is send sends spelled)) ∙ read) in
-    subst (λ (r : PeerReq). AsksTarget log send.0 r.epoch.0 r.ask) same (All-head (SendGoesTo log) send sends so))
-    (sent_in_wire log sends (All-tail Is send sends spelled) (All-tail (SendGoesTo log) send sends so))
-
--- a recovery asks for none so
-messages_so : (log : List Entry) (known : List Effect) (messages : List Message) → All (IsKnownMessage known) messages
-    → All (SendGoesTo log) (map (λ (message : Message). (message.to, message.request)) messages)
-messages_so log known [] all = All-nil (SendGoesTo log)
-messages_so log known (message ∷ messages) all =
-    All-cons (SendGoesTo log) (message.to, message.request) (map (λ (message : Message). (message.to, message.request)) messages)
-    (asks_no_row log known message.to message.request.epoch.0 message.request.ask message.wanted
-    (All-head (IsKnownMessage known) message messages all))
-    (messages_so log known messages (All-tail (IsKnownMessage known) message messages all))
-
-tick_so : (log : List Entry) (node : Node) → All (SendGoesTo log) (on_recover_tick (at_first node)).outputs.sends
-unfolding on_recover_tick tick_sends
-tick_so log node =
-    messages_so log (log_effects node.peer.entries) (tick_messages node.sends (recovery_state_of node))
-    (sent_known (log_effects node.peer.entries) node.sends (recovery_state_of node) (λ oid. refl))
+-- by a log
+abbrev IsTargetBy : List Entry → NodeId → PeerReq → Type 0
+IsTargetBy log to request = AsksTarget log to request.epoch.0 request.ask
 
 module _ (script : List Statement) (range : RunsAreInRange script) where
   module _ (world : World) (began : Began script world) where
@@ -211,94 +165,24 @@ module _ (script : List Statement) (range : RunsAreInRange script) where
           steps_send (SendGoesTo log_then) input host.node
           (λ so_far leads session req asked lined comes enough onward. opens so_far leads session req asked lined comes onward not) received
 
-      none_so : (sends : List (NodeId × PeerReq)) → sends ≡ [] → All (SendGoesTo log_then) sends
-      none_so sends none = subst (All (SendGoesTo log_then)) (sym none) (All-nil (SendGoesTo log_then))
-
-    step_so : (n : ℕ) (host : Host) (there : tree.get world.hosts n ≡ Some host) (up : is_host_up host ≡ true) (cause : NodeCause)
-        (caused : IsCause script world n host cause) (next : Began script (world_after_cause script n host cause world))
-        → All (SendGoesTo (world_after_cause script n host cause world).log) (node_step (input_of_cause cause) host.node).outputs.sends
-    step_so n host there up (GuestAsks session req ask) caused next =
-        by_works n host there up (GuestAsks session req ask) caused next tt
-        (none_so n host there up (GuestAsks session req ask) caused next _ (received_nothing (GuestAsks session req ask) host.node tt).1)
-    step_so n host there up (RequestComes name to request) caused next =
-        none_so n host there up (RequestComes name to request) caused next _ (served_silent request host.node)
-    step_so n host there up (ReplyComes name from rsp) caused next =
-        by_works n host there up (ReplyComes name from rsp) caused next tt
-        (none_so n host there up (ReplyComes name from rsp) caused next _ (received_nothing (ReplyComes name from rsp) host.node tt).1)
-    step_so n host there up (LossIsTold name packet) caused next =
-        by_works n host there up (LossIsTold name packet) caused next tt
-        (none_so n host there up (LossIsTold name packet) caused next _ (received_nothing (LossIsTold name packet) host.node tt).1)
-    step_so n host there up (EntryIsRead entry) caused next =
-        by_works n host there up (EntryIsRead entry) caused next tt
-        (none_so n host there up (EntryIsRead entry) caused next _ (received_nothing (EntryIsRead entry) host.node tt).1)
-    step_so n host there up (EntryIsPut entry) caused next =
-        none_so n host there up (EntryIsPut entry) caused next _ (put_sends host.node)
-    step_so n host there up RecoveryTicks caused next =
-        by_works n host there up RecoveryTicks caused next tt
-        (tick_so (world_after_cause script n host RecoveryTicks world).log host.node)
-    step_so n host there up WorkIsRetried caused next =
-        by_works n host there up WorkIsRetried caused next tt
-        (none_so n host there up WorkIsRetried caused next _ (received_nothing WorkIsRetried host.node tt).1)
-
-    -- ---- one event
-
-    module _ (before : AsksGoToTargets world) (event : Event) (made : EventOutcome) (happened : step script event world ≡ Some made) where
-      abbrev new : List Entry
-      new = made.world.log
-
-      old_so : AllSo (TargetsSo new) world.wire
-      old_so name (Reply from bytes) got = tt
-      old_so name (Request to bytes) got = λ request read.
-          let front = log_grows script event world made (happens script event world made happened) in
-          subst (λ (log : List Entry). AsksTarget log to request.epoch.0 request.ask) (sym front.is)
-          (targets_stay_asked world.log front.rest to request.epoch.0 request.ask (before.each name to bytes request got read))
-
-      sends_after : (kind : EventKind script event world made) → SendsSo (TargetsSo new) script event world made kind
-      sends_after (NodeStep h) =
-          let begun : Began script made.world = goes_on script event world made began happened in
-          let next : Began script (world_after_cause script h.n h.host h.cause world)
-          = subst (λ (m : EventOutcome). Began script m.world) (sym h.made_so) begun in
-          let sends : List (NodeId × PeerReq) = (node_step (input_of_cause h.cause) h.host.node).outputs.sends in
-          subst (λ (m : EventOutcome). All (λ (send : NodeId × PeerReq). TargetsSo m.world.log (Request send.0 (ask_bytes send.1))) sends)
-          h.made_so
-          (sent_in_wire (world_after_cause script h.n h.host h.cause world).log sends
-          (subst (λ (m : EventOutcome). All (λ (send : NodeId × PeerReq). IsPeerReq send.1) m.world.outputs.sends) (sym h.made_so)
-          (sound_world script range made.world begun).sent)
-          (step_so h.n h.host h.there h.up h.cause h.caused next))
-      sends_after (UntoldLoss h) = tt
-      sends_after (UnreadDelivery h) = tt
-      sends_after (NodeLoss h) = tt
-      sends_after (NodeLeave h) = tt
-      sends_after (NodeReweight h) = tt
-      sends_after (NodeJoin h) = tt
-      sends_after (NodeReturn h) =
-          subst (All (λ (send : NodeId × PeerReq). TargetsSo new (Request send.0 (ask_bytes send.1))))
-          (sym (stepped_renewed (log_after_return script h.n world) h.host.node).silent) (All-nil _)
-      sends_after (PhaseEnd h) = tt
-
-      goes_after : AsksGoToTargets made.world
-      goes_after = record {
-        each = λ name to bytes request got read.
-            let kind = happens script event world made happened in
-            wire_so (TargetsSo new) script event world made old_so kind (sends_after kind)
-            (any_reply (TargetsSo new) (λ from rsp. tt) script event world made kind) name (Request to bytes) got request read;
-      }
+    steps_send_so : StepsSendSo IsTargetBy script world
+    steps_send_so n host there up cause caused next =
+        let log : List Entry = (world_after_cause script n host cause world).log in
+        step_so (IsTargetBy log) (λ known to request wanted is. asks_no_row log known to request.epoch.0 request.ask wanted is)
+        cause host.node
+        (λ not received. by_works n host there up cause caused next not received)
 
   -- ---- every world
 
-  opens_so : AsksGoToTargets (initial_world script)
-  unfolding initial_world
-  opens_so = record {
-    each = λ name to bytes request got read.
-        let there : tree.get (tree.empty {X = Packet} {R = name_cmp}) name ≡ Some (Request to bytes) = got in
-        let none = tree.get-empty {X = Packet} name_cmp name in
-        absurd (cc (there, none));
-  }
-
   stays_so : IsInvariant script AsksGoToTargets
   stays_so = record {
-    opens = opens_so;
-    keeps = λ event world made began happened before. goes_after world began before event made happened;
+    opens = record { each = opens_so IsTargetBy script };
+    keeps = λ event world made began happened before. record {
+      each = asks_after IsTargetBy
+          (λ log more to request is. targets_stay_asked log more to request.epoch.0 request.ask is) script world began
+          (steps_send_so world began) before.each event made happened
+          (sound_world script range made.world (goes_on script event world made began happened)).sent;
+    };
   }
 
   pub asks_go_to_targets : (world : World) → Began script world → AsksGoToTargets world

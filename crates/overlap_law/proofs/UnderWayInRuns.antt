@@ -60,6 +60,11 @@ module _ (script : List Statement) (range : RunsAreInRange script) (req : ℕ) w
       → list_any (begins_write_of req) moment.past.history ≡ true → IsWriterAt script req
   writer_in_run events moment is so = ((run-kept_by_events script KnownAt opens_begun events_begun events moment is).1 so).writer
 
+  -- and was begun
+  pub begun-in_run : (events : List Event) (moment : MomentWithPast) → run_with_past script events ≡ Some moment
+      → list_any (begins_write_of req) moment.past.history ≡ true → IsBegunWriter script req moment.world.guests
+  begun-in_run events moment is so = (run-kept_by_events script KnownAt opens_begun events_begun events moment is).1 so
+
   module _ (writer : IsWriterAt script req) (P : List Entry → List HistEvent → ℕ → Type 0) (keeps : IsKeptOnHeld script range req writer P)
       (starts : HoldsAtBegin script range req writer P) where
     abbrev pub HoldsAt : MomentWithPast → Type 0

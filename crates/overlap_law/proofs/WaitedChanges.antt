@@ -50,9 +50,9 @@ use Rattle.sheep_node.proofs.WantedSteps.{driver_begins-wanted, driver_goes_on-w
 use Rattle.overlap_law.specs.Courses.{IsOfStage}
 use Rattle.overlap_law.proofs.CoursesOfAsks.{disk_in, seen_moves, plain, PlacedSoFar, course_placed}
 use Rattle.overlap_law.proofs.CoursesAtChanges.{on_working}
+use Rattle.overlap_law.proofs.CoveredCourses.{CoveredSoFar}
 use Rattle.overlap_law.proofs.DoneWorks.{bytes_long, wanted, same_disk}
 use Rattle.overlap_law.proofs.QueueOnce.{AreOnceIn}
-use Rattle.overlap_law.proofs.QueuedChanges.{StandingSoFar}
 use Rattle.overlap_law.proofs.QueuedInSteps.{begun_at_others}
 use Rattle.overlap_law.proofs.WaitedSteps.{no_id, HasOwnDraftAt, IsOwnIn, IsOfOwn, Waits, entries_stay, awaited_alike, own_alike, IsOwnStep, driver_begins-own, driver_goes_on-own, check_begins-vid, check_goes_on-vid, IsOpWaitedAt, command_begins-waited, command_goes_on-waited, command_decided-waited, IsCheckWaitedAt, check_begins-waited, check_goes_on-waited}
 use Rattle.overlap_law.proofs.WorksAtCourses.{IsAt, AtSoFar, freed_at, moved_at, IsOutcomeAt, StepsKeepAt, change_keeps_at}
@@ -63,7 +63,7 @@ pub record IsWaitingWell (asked : ℕ → Option Ask) (Began : ℕ → Option �
   pub sound : HasSoundWorks so_far.node
   pub queues : AreDiskRequests so_far.node.requests so_far.node.sessions
   pub once : AreOnceIn so_far.node.sessions
-  pub standing : StandingSoFar so_far
+  pub covered : CoveredSoFar so_far
   pub placed : PlacedSoFar asked Began so_far
 
 -- ---- a read or write takes a step
@@ -223,7 +223,7 @@ module _ (asked : ℕ → Option Ask) (Began : ℕ → Option ℕ → Type 0) {i
       subst (λ (inode : Content). All (λ (piece : Piece). entry_of inode piece ≡ entry_of disk.inode piece) (pieces_left others))
       (sym goes.table)
       (entries_stay disk.inode driver others
-      (begun_at_others so_far all.0.queues all.0.once all.0.standing session req q driver others
+      (begun_at_others so_far all.0.queues all.0.once all.0.covered session req q driver others
       ends.ends.request there_too other))) goes.told (driver_goes_on-own disk.inode bytes driver step is)
       (steps_free so_far session req next moved
       (DiskGoesOn number work attempt status bytes driver disk step ends on is) sound all.0.known.0.0).free

@@ -63,19 +63,18 @@ use Rattle.overlap_law.proofs.CoursesAtChanges.{none_placed, placed_in_chain}
 use Rattle.overlap_law.proofs.CoursesOfScript.{asked_by, BeganOn, brings, placed_found, requests_placed}
 use Rattle.overlap_law.proofs.NoRecoveredDue.{began-with_past}
 use Rattle.overlap_law.proofs.QueueOnce.{AreOnceIn, none_once, once_so_far}
-use Rattle.overlap_law.proofs.QueuedChanges.{AreStanding, StandingSoFar}
-use Rattle.overlap_law.proofs.QueuedInSteps.{IsQueuedWell, standing_in_chain, none_standing, received_standing}
+use Rattle.overlap_law.proofs.CoveredCourses.{AreCovered, CoveredSoFar, none_covered, covered_in_chain}
 use Rattle.overlap_law.proofs.WaitedSteps.{no_id, Waits}
 use Rattle.overlap_law.proofs.WaitedChanges.{IsWaitingWell, steps_waited, waits_in_chain}
 use Rattle.overlap_law.proofs.WholeInRuns.{sound_world, sound_here, named, may_change}
 use Rattle.overlap_law.proofs.WorksAtCourses.{HaveAt, AtSoFar, IsOutcomeAt, none_at, received_at}
 
--- reads and writes stand for the objects of their pieces, and works are waited for
+-- queues cover what reads and writes haven't come to, and works are waited for
 abbrev pub IsWaitedIn : Node → Type 0
-IsWaitedIn node = AreStanding node.requests node.sessions × HaveAt Waits node.gateway.works node.requests node.sessions
+IsWaitedIn node = AreCovered node.requests node.sessions × HaveAt Waits node.gateway.works node.requests node.sessions
 
-none_waited : AreStanding tree.empty tree.empty × HaveAt Waits tree.empty tree.empty tree.empty
-none_waited = (none_standing, none_at Waits)
+none_waited : AreCovered tree.empty tree.empty × HaveAt Waits tree.empty tree.empty tree.empty
+none_waited = (none_covered, none_at Waits)
 
 -- ---- a step of a node
 
@@ -86,14 +85,8 @@ module _ (asked : ℕ → Option Ask) (Began : ℕ → Option ℕ → Type 0) (i
   sound : IsSoundStep input node
   sound = (meets_numbers input node may.condition, is.one_work)
 
-  queued_well : (so_far : StepState) → Leads input node (input_received input (at_first node)) so_far → IsQueuedWell so_far
-  queued_well so_far leads =
-      let known = known_in_step input node may named is so_far leads in
-      record { queues = (once_so_far sound leads is.queues once).0; alone = known.0.1; on_disks = known.1 }
-
-  standing : (so_far : StepState) → Leads input node (input_received input (at_first node)) so_far → StandingSoFar so_far
-  standing so_far leads =
-      standing_in_chain may is.queues is.sole_commands sound queued_well leads (received_standing input node waited.0)
+  covered : (so_far : StepState) → Leads input node (input_received input (at_first node)) so_far → CoveredSoFar so_far
+  covered so_far leads = covered_in_chain input node may sound is.queues is.sole_commands waited.0 so_far leads
 
   well : (so_far : StepState) → Leads input node (input_received input (at_first node)) so_far → IsWaitingWell asked Began so_far
   well so_far leads =
@@ -103,7 +96,7 @@ module _ (asked : ℕ → Option Ask) (Began : ℕ → Option ℕ → Type 0) (i
         sound = works_sound_in_chain input node may named is so_far leads;
         queues = both.0;
         once = both.1;
-        standing = standing so_far leads;
+        covered = covered so_far leads;
         placed = placed_in_chain asked Began input node may is.queues is.sole_commands brought placed so_far leads;
       }
 
@@ -112,7 +105,7 @@ module _ (asked : ℕ → Option Ask) (Began : ℕ → Option ℕ → Type 0) (i
       → IsWaitedIn so_far.node × HasSoundWorks so_far.node
   waited_so_far so_far leads = (
     (
-      standing so_far leads,
+      covered so_far leads,
       waits_in_chain asked Began may is.queues is.sole_commands sound well leads (received_at Waits input node waited.1),
     ),
     (well so_far leads).sound,
@@ -127,7 +120,7 @@ module _ (asked : ℕ → Option Ask) (Began : ℕ → Option ℕ → Type 0) (i
 
   stepped_waited : IsWaitedIn (node_step input node).node
   stepped_waited = (
-    standing (node_step input node) (step_chain input node),
+    covered (node_step input node) (step_chain input node),
     waits_in_chain asked Began may is.queues is.sole_commands sound well (step_chain input node) (received_at Waits input node waited.1),
   )
 

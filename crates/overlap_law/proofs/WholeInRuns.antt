@@ -41,7 +41,7 @@ use Rattle.overlap_law.specs.Fates.{IsWhole, AttemptsAreWhole}
 use Rattle.overlap_law.specs.Past.{MomentWithPast, run_with_past}
 use Rattle.overlap_law.specs.ShapedAttempts.{AreShaped}
 use Rattle.overlap_law.specs.MomentChanges.{MomentChange, MomentTrail, RunsAreInRange, KeptByChanges}
-use Rattle.overlap_law.proofs.CausedWorks.{IsNotServed, by_changes, no_object}
+use Rattle.overlap_law.proofs.CausedWorks.{IsNotServed, by_changes, no_object, not_served}
 use Rattle.overlap_law.proofs.GrantedEpochs.{spec_stays}
 use Rattle.overlap_law.proofs.KnownDisks.{IsKnownWork}
 use Rattle.overlap_law.proofs.KnownDiskSteps.{effects_after, none_known, work_known}
@@ -51,7 +51,7 @@ use Rattle.overlap_law.proofs.PlacesTaken.{none_asked, places_taken}
 use Rattle.overlap_law.proofs.NewAttempts.{IsOpened, WasAttempt, come_from}
 use Rattle.overlap_law.proofs.RunsByChanges.{on_the_way}
 use Rattle.overlap_law.proofs.ShapedAttempts.{front, log_so, began_after, work_so, shaped-each}
-use Rattle.overlap_law.proofs.SoundWorlds.{IsSoundWorld, sound_worlds, asks_on_may, named_by}
+use Rattle.overlap_law.proofs.SoundWorlds.{IsSoundWorld, sound_worlds, asks_on_may, names_objects}
 use Rattle.overlap_law.proofs.WholeNodes.{IsWholeWork, AreWholeOn, none_whole}
 use Rattle.overlap_law.proofs.WholeSteps.{turn_whole, stepped_whole, served_whole, back_whole}
 use Rattle.overlap_law.proofs.WholeWorks.{IsWholeOn}
@@ -109,24 +109,7 @@ module _ (script : List Statement) (range : RunsAreInRange script) where
         caused other
 
     pub named : (cause : NodeCause) → IsCause script world n host cause → InputNamesObjects (input_of_cause cause)
-    named (GuestAsks session req ask) caused = named_by caused.line ask caused.asks
-    named (RequestComes name to request) caused = tt
-    named (ReplyComes name from rsp) caused = tt
-    named (LossIsTold name packet) caused = tt
-    named (EntryIsRead entry) caused = tt
-    named (EntryIsPut entry) caused = tt
-    named RecoveryTicks caused = tt
-    named WorkIsRetried caused = tt
-
-    not_served : (cause : NodeCause) → IsNotServed cause → (request : PeerReq) → input_of_cause cause ≢ inputs.Request request
-    not_served (GuestAsks session req ask) not request = λ same. absurd (cc (same))
-    not_served (RequestComes name to served) not request = absurd not
-    not_served (ReplyComes name from rsp) not request = λ same. absurd (cc (same))
-    not_served (LossIsTold name packet) not request = λ same. absurd (cc (same))
-    not_served (EntryIsRead entry) not request = λ same. absurd (cc (same))
-    not_served (EntryIsPut entry) not request = λ same. absurd (cc (same))
-    not_served RecoveryTicks not request = λ same. absurd (cc (same))
-    not_served WorkIsRetried not request = λ same. absurd (cc (same))
+    named cause caused = names_objects script world n host cause caused
 
     pub may_change : (cause : NodeCause) → IsNotServed cause → IsCause script world n host cause → May (input_of_cause cause) host.node
     may_change cause not caused = may_step cause caused (not_served cause not)

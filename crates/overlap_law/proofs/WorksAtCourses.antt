@@ -7,11 +7,11 @@ use Rattle.gateway_queue.specs.Queue.{queue_without}
 use Rattle.guest_driver.specs.InodeQueue.{queue_with_open, queue_with_waiting, queue_after_end}
 use Rattle.guest_driver.specs.declared.disk.Disk.{Disk}
 use Rattle.object_id.specs.declared.cause.Cause.TheVariants.{Halt}
+use Rattle.overlap_law.proofs.WorksCome.{had_in_turn, has_first, lined_all, session_in_turn, strayed_all, work_all}
 use Rattle.overlap_law.proofs.CoursesOfAsks.{disk_in}
 use Rattle.peer_proto.specs.declared.guest.GuestRsp.{GuestRsp}
 use Rattle.peer_proto.specs.declared.work.ObjWork.{ObjWork}
-use Rattle.proof_tools.proofs.FiniteMaps.{get-insert_cases, get-insert_other, get-insert_same, get-remove_other, get-remove_same}
-use Rattle.proof_tools.proofs.Lists.{Contains-cons, Contains-first}
+use Rattle.proof_tools.proofs.FiniteMaps.{get-insert_other, get-remove_other, get-remove_same}
 use Rattle.sheep_node.proofs.AwaitedWorks.{Works}
 use Rattle.sheep_node.proofs.OneWorkChanges.{StepHasOneWork, free_in}
 use Rattle.sheep_node.proofs.OneWorkParts.{Requests, Sessions, same_waiting}
@@ -24,7 +24,7 @@ use Rattle.sheep_node.specs.Changes.{IsApart, without_ended_work, IsSoundStep, O
 use Rattle.sheep_node.specs.Guests.{queued_as}
 use Rattle.sheep_node.specs.OneWork.{may_work_at, waiting_in, HasNoWork}
 use Rattle.sheep_node.specs.SessionQueues.{session_among}
-use Rattle.sheep_node.specs.State.{Node, new_session}
+use Rattle.sheep_node.specs.State.{Node}
 use Rattle.sheep_node.specs.StepState.{StepState, at_first, session_in, request_ended}
 use Rattle.sheep_node.specs.WantedWorks.{HasWork}
 use Rattle.sheep_node.specs.declared.course.Course.{Course}
@@ -32,9 +32,8 @@ use Rattle.sheep_node.specs.declared.course.Course.TheVariants.{Waiting}
 use Rattle.sheep_node.specs.declared.course.Request.{Request}
 use Rattle.sheep_node.specs.declared.input.Input.{Input}
 use Rattle.sheep_node.specs.declared.session.Session.{Session}
-use Rattle.std.proofs.Common.{◌≡◌, ◌≢◌, ℕ, List, [], ◌∷◌, ◌++◌, Contains, Option, Some, None, unwrap_or, refl, sym, ap, subst, ◌∙◌, inl, inr, ⊎_elim, ◌+◌}
+use Rattle.std.proofs.Common.{◌≡◌, ◌≢◌, ℕ, List, [], ◌∷◌, ◌++◌, Contains, Option, None, refl, sym, ap, subst, ◌∙◌, inl, inr, ⊎_elim, ◌+◌}
 use Rattle.std.proofs.lemmas.Bool.{cases_eq}
-use Rattle.std.proofs.lemmas.List.Elements.{Contains-push_cases}
 use Rattle.std.specs.Ordering.{nat_cmp}
 use Rattle.guest_driver.specs.InodeQueue as lines
 use Rattle.sheep_node.specs.Changes as changes
@@ -48,6 +47,10 @@ module _ (Q : Option Disk → Course → ObjWork → Type 0) where
   -- a request that was looked up is so with a work, if it is there
   abbrev pub IsAt : Sessions → Option Request → ObjWork → Type 0
   IsAt sessions request work = IsSeen disk_in (At work) sessions request
+
+  -- that the request of a number is
+  abbrev OfRequests : Requests → Sessions → ℕ → ObjWork → Type 0
+  OfRequests requests sessions req work = IsAt sessions (tree.get requests req) work
 
   -- each work is so with its request
   abbrev pub HaveAt : Works → Requests → Sessions → Type 0
@@ -68,13 +71,7 @@ module _ (Q : Option Disk → Course → ObjWork → Type 0) where
   pub work_at : (works : Works) (requests : Requests) (sessions : Sessions) (req : ℕ) (now : Work)
       → IsAt sessions (tree.get requests req) now.work
       → HaveAt works requests sessions → HaveAt (tree.insert works req now) requests sessions
-  work_at works requests sessions req now is all q work (inl (one, got, same)) = ⊎_elim
-      (λ (own : (q ≡ req) × (now ≡ one)).
-      subst (λ (work : ObjWork). IsAt sessions (tree.get requests q) work) (ap (λ (work : Work). work.work) own.1 ∙ same)
-      (subst (λ (k : ℕ). IsAt sessions (tree.get requests k) now.work) (sym own.0) is))
-      (λ (other : (q ≢ req) × (tree.get works q ≡ Some one)). all q work (inl (one, other.1, same)))
-      (get-insert_cases works req now q one got)
-  work_at works requests sessions req now is all q work (inr waits) = all q work (inr waits)
+  work_at works requests sessions req now is all = work_all (OfRequests requests sessions) works sessions req now is all
 
   -- ---- a work or a request ends
 
@@ -101,58 +98,20 @@ module _ (Q : Option Disk → Course → ObjWork → Type 0) where
       (cases_eq q req))
 
   -- a work whose request isn't there goes on in the gateway alone
-  pub strayed_at : (req : ℕ) (gateway : Gateway) (so_far : StepState) → tree.get so_far.node.requests req ≡ None
-      → IsApart req so_far.node.gateway gateway → AtSoFar so_far → HaveAt gateway.works so_far.node.requests so_far.node.sessions
-  strayed_at req gateway so_far none apart all q other (inl (one, got, is)) = ⊎_elim
-      (λ (own : q ≡ req).
-      let gone : tree.get so_far.node.requests q ≡ None = ap (tree.get so_far.node.requests) own ∙ none in
-      subst (λ (o : Option Request). IsAt so_far.node.sessions o other) (sym gone) tt)
-      (λ (later : q ≢ req). all q other (inl (one, sym (apart.others q later) ∙ got, is)))
-      (cases_eq q req)
-  strayed_at req gateway so_far none apart all q other (inr waits) = all q other (inr waits)
+  strayed_at : (req : ℕ) (gateway : Gateway) (so_far : StepState) → IsApart req so_far.node.gateway gateway → AtSoFar so_far
+      → HaveAt gateway.works so_far.node.requests so_far.node.sessions
+  strayed_at req gateway so_far apart all = strayed_all (OfRequests so_far.node.requests so_far.node.sessions) req gateway so_far apart all
 
   -- a work waits in its session's line
-  module _ (session req : ℕ) (work : ObjWork) (so_far : StepState) (all : AtSoFar so_far)
-      (is_at : IsAt so_far.node.sessions (tree.get so_far.node.requests req) work) where
-    abbrev new_waiting : lines.Waiting
-    new_waiting = record { req = req; work = work }
-
-    abbrev session_lined : Session
-    session_lined = record (session_in session so_far) { inode_queue = queue_with_waiting (session_in session so_far).inode_queue req work }
-
-    in_longer_line : (q : ℕ) (other : ObjWork)
-        → Contains (waiting_in session so_far.node.sessions ++ new_waiting ∷ []) (record { req = q; work = other })
-        → IsAt so_far.node.sessions (tree.get so_far.node.requests q) other
-    in_longer_line q other there = ⊎_elim
-        (λ (before : Contains (waiting_in session so_far.node.sessions) (record { req = q; work = other })). all q other
-        (inr (session, before)))
-        (λ (is : new_waiting ≡ record { req = q; work = other }).
-        subst (λ (waiting : lines.Waiting). IsAt so_far.node.sessions (tree.get so_far.node.requests waiting.req) waiting.work) is is_at)
-        (Contains-push_cases (waiting_in session so_far.node.sessions) new_waiting (record { req = q; work = other }) there)
-
-    had_or_lined : (q : ℕ) (other : ObjWork)
-        → HasWork q other so_far.node.gateway.works (tree.insert so_far.node.sessions session session_lined)
-        → IsAt so_far.node.sessions (tree.get so_far.node.requests q) other
-    had_or_lined q other (inl one) = all q other (inl one)
-    had_or_lined q other (inr (k, there)) = ⊎_elim
-        (λ (here : k ≡ session).
-        let is : waiting_in k (tree.insert so_far.node.sessions session session_lined)
-        ≡ waiting_in session so_far.node.sessions ++ new_waiting ∷ []
-        = ap (λ (k : ℕ). waiting_in k (tree.insert so_far.node.sessions session session_lined)) here
-        ∙ ap (λ (o : Option Session). (unwrap_or o new_session).inode_queue.waiting)
-        (get-insert_same so_far.node.sessions session session_lined) in
-        in_longer_line q other (subst (λ (list : List lines.Waiting). Contains list (record { req = q; work = other })) is there))
-        (λ (apart : k ≢ session).
-        let is : waiting_in k (tree.insert so_far.node.sessions session session_lined) ≡ waiting_in k so_far.node.sessions
-        = ap (λ (o : Option Session). (unwrap_or o new_session).inode_queue.waiting)
-        (get-insert_other so_far.node.sessions session session_lined k apart) in
-        all q other (inr (k, subst (λ (list : List lines.Waiting). Contains list (record { req = q; work = other })) is there)))
-        (cases_eq k session)
-
-    pub lined_at : HaveAt so_far.node.gateway.works so_far.node.requests (tree.insert so_far.node.sessions session session_lined)
-    lined_at q other has =
-        same_seen disk_in (At other) so_far.node.sessions session session_lined refl (tree.get so_far.node.requests q)
-        (had_or_lined q other has)
+  lined_at : (session req : ℕ) (work : ObjWork) (so_far : StepState) → AtSoFar so_far
+      → IsAt so_far.node.sessions (tree.get so_far.node.requests req) work
+      → HaveAt so_far.node.gateway.works so_far.node.requests (tree.insert so_far.node.sessions session
+      (record (session_in session so_far) { inode_queue = queue_with_waiting (session_in session so_far).inode_queue req work }))
+  lined_at session req work so_far all is q other has =
+      same_seen disk_in (At other) so_far.node.sessions session
+      (record (session_in session so_far) { inode_queue = queue_with_waiting (session_in session so_far).inode_queue req work }) refl
+      (tree.get so_far.node.requests q)
+      (lined_all (OfRequests so_far.node.requests so_far.node.sessions) session req work so_far all is q other has)
 
   -- ---- a step that a request takes
 
@@ -202,43 +161,13 @@ module _ (Q : Option Disk → Course → ObjWork → Type 0) where
           session_at moved.node.gateway.works moved.node.requests moved.node.sessions session after refl refl now.0,
           same_seen disk_in (At work) moved.node.sessions session after refl (tree.get moved.node.requests req) now.1,
         )
-    next_at so_far session req asked lined (InTurn work later none is) all = (
-      λ q other has. same_seen disk_in (At other) so_far.node.sessions session after refl (tree.get so_far.node.requests q)
-          (all.1 q other (had q other has)),
-      same_seen disk_in (At work) so_far.node.sessions session after refl (tree.get so_far.node.requests req)
-          (all.1 req work
-          (inr (session, subst (λ (list : List lines.Waiting). Contains list first) (sym is) (Contains-first first first later refl)))),
-    )
-      where
-        first : lines.Waiting
-        first = record { req = req; work = work }
-
-        after : Session
-        after = record (session_in session so_far) { inode_queue = record { current = Some req; waiting = later } }
-
-        in_line : (q : ℕ) (other : ObjWork) (k : ℕ)
-            → Contains (waiting_in k (tree.insert so_far.node.sessions session after)) (record { req = q; work = other })
-            → Contains (waiting_in k so_far.node.sessions) (record { req = q; work = other })
-        in_line q other k there = ⊎_elim
-            (λ (here : k ≡ session).
-            let now : waiting_in k (tree.insert so_far.node.sessions session after) ≡ later
-            = ap (λ (k : ℕ). waiting_in k (tree.insert so_far.node.sessions session after)) here
-            ∙ ap (λ (o : Option Session). (unwrap_or o new_session).inode_queue.waiting)
-            (get-insert_same so_far.node.sessions session after) in
-            let was : waiting_in k so_far.node.sessions ≡ first ∷ later = ap (λ (k : ℕ). waiting_in k so_far.node.sessions) here ∙ is in
-            subst (λ (list : List lines.Waiting). Contains list (record { req = q; work = other })) (sym was)
-            (Contains-cons first later (record { req = q; work = other })
-            (subst (λ (list : List lines.Waiting). Contains list (record { req = q; work = other })) now there)))
-            (λ (apart : k ≢ session).
-            subst (λ (list : List lines.Waiting). Contains list (record { req = q; work = other }))
-            (ap (λ (o : Option Session). (unwrap_or o new_session).inode_queue.waiting)
-            (get-insert_other so_far.node.sessions session after k apart)) there)
-            (cases_eq k session)
-
-        had : (q : ℕ) (other : ObjWork) → HasWork q other so_far.node.gateway.works (tree.insert so_far.node.sessions session after)
-            → HasWork q other so_far.node.gateway.works so_far.node.sessions
-        had q other (inl one) = inl one
-        had q other (inr (k, there)) = inr (k, in_line q other k there)
+    next_at so_far session req asked lined (InTurn work later none is) all =
+        let after : Session = session_in_turn session req work later so_far is in (
+          λ q other has. same_seen disk_in (At other) so_far.node.sessions session after refl (tree.get so_far.node.requests q)
+              (all.1 q other (had_in_turn session req work later so_far is q other has)),
+          same_seen disk_in (At work) so_far.node.sessions session after refl (tree.get so_far.node.requests req)
+              (all.1 req work (has_first session req work later so_far is)),
+        )
     next_at so_far session req asked lined (Again work course from next there request) all =
         (all.1, all.1 req asked.work (inl (asked, there, refl)))
     next_at so_far session req asked lined (AgainAlone work from next there none) all =
@@ -279,7 +208,7 @@ module _ (Q : Option Disk → Course → ObjWork → Type 0) where
         (record (session_in session lined) { inode_queue = queue_after_end (session_in session lined).inode_queue asked.work }) refl refl
         (λ q work has. (next_at so_far session req asked lined comes all).0 q work
         (gone_had lined.node.gateway.works lined.node.sessions req q work has)))
-    change_keeps_at so_far next (changes.Strays req work gateway there none apart) all = strayed_at req gateway so_far none apart all.1
+    change_keeps_at so_far next (changes.Strays req work gateway there none apart) all = strayed_at req gateway so_far apart all.1
     change_keeps_at so_far next (changes.Lines session req work moved steps waits) all =
         let now = steps_at so_far session req (ToWork work) moved steps all in
         lined_at session req work moved now.0 now.1

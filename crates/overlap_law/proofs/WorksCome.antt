@@ -37,6 +37,48 @@ use Rattle.sheep_node.proofs.OneWorkParts.{Sessions}
 use Rattle.sheep_node.proofs.RefusedCourses.{course_refused-keeps, request_refused-keeps}
 use Rattle.sheep_node.proofs.WantedParts.{stage_had, gone_had, line_had}
 
+-- ---- the first work of a session's line comes next
+
+module _ (session req : ℕ) (work : ObjWork) (later : List lines.Waiting) (so_far : StepState)
+    (is : waiting_in session so_far.node.sessions ≡ record { req = req; work = work } ∷ later) where
+  abbrev first : lines.Waiting
+  first = record { req = req; work = work }
+
+  -- the line without it
+  abbrev pub session_in_turn : Session
+  session_in_turn = record (session_in session so_far) { inode_queue = record { current = Some req; waiting = later } }
+
+  in_whole_line : (q : ℕ) (other : ObjWork) (k : ℕ)
+      → Contains (waiting_in k (tree.insert so_far.node.sessions session session_in_turn)) (record { req = q; work = other })
+      → Contains (waiting_in k so_far.node.sessions) (record { req = q; work = other })
+  in_whole_line q other k there = ⊎_elim
+      (λ (here : k ≡ session).
+      let now : waiting_in k (tree.insert so_far.node.sessions session session_in_turn) ≡ later
+      = ap (λ (k : ℕ). waiting_in k (tree.insert so_far.node.sessions session session_in_turn)) here
+      ∙ ap (λ (o : Option Session). (unwrap_or o new_session).inode_queue.waiting)
+      (get-insert_same so_far.node.sessions session session_in_turn) in
+      let was : waiting_in k so_far.node.sessions ≡ first ∷ later = ap (λ (k : ℕ). waiting_in k so_far.node.sessions) here ∙ is in
+      subst (λ (list : List lines.Waiting). Contains list (record { req = q; work = other })) (sym was)
+      (Contains-cons first later (record { req = q; work = other })
+      (subst (λ (list : List lines.Waiting). Contains list (record { req = q; work = other })) now there)))
+      (λ (apart : k ≢ session).
+      subst (λ (list : List lines.Waiting). Contains list (record { req = q; work = other }))
+      (ap (λ (o : Option Session). (unwrap_or o new_session).inode_queue.waiting)
+      (get-insert_other so_far.node.sessions session session_in_turn k apart)) there)
+      (cases_eq k session)
+
+  -- what is still there was there before
+  pub had_in_turn : (q : ℕ) (other : ObjWork)
+      → HasWork q other so_far.node.gateway.works (tree.insert so_far.node.sessions session session_in_turn)
+      → HasWork q other so_far.node.gateway.works so_far.node.sessions
+  had_in_turn q other (inl one) = inl one
+  had_in_turn q other (inr (k, there)) = inr (k, in_whole_line q other k there)
+
+  -- and so was the first
+  pub has_first : HasWork req work so_far.node.gateway.works so_far.node.sessions
+  has_first =
+      inr (session, subst (λ (list : List lines.Waiting). Contains list first) (sym is) (Contains-first first first later refl))
+
 -- each work is so
 abbrev pub AreAll : (ℕ → ObjWork → Type 0) → Works → Sessions → Type 0
 AreAll Q works sessions = (req : ℕ) (work : ObjWork) → HasWork req work works sessions → Q req work
@@ -110,7 +152,7 @@ module _ (Q : ℕ → ObjWork → Type 0) where
   steps_all input node so_far session req next moved (EntryDecided entry wanted from read there waits) all = all
 
   -- a work comes
-  work_all : (works : Works) (sessions : Sessions) (req : ℕ) (now : Work) → Q req now.work → AreAll Q works sessions
+  pub work_all : (works : Works) (sessions : Sessions) (req : ℕ) (now : Work) → Q req now.work → AreAll Q works sessions
       → AreAll Q (tree.insert works req now) sessions
   work_all works sessions req now is all q work (inl (one, got, same)) = ⊎_elim
       (λ (own : (q ≡ req) × (now ≡ one)).
@@ -121,7 +163,7 @@ module _ (Q : ℕ → ObjWork → Type 0) where
   work_all works sessions req now is all q work (inr waits) = all q work (inr waits)
 
   -- a work whose request isn't there goes on in the gateway alone
-  strayed_all : (req : ℕ) (gateway : Gateway) (so_far : StepState) → IsApart req so_far.node.gateway gateway → AllSoFar Q so_far
+  pub strayed_all : (req : ℕ) (gateway : Gateway) (so_far : StepState) → IsApart req so_far.node.gateway gateway → AllSoFar Q so_far
       → AreAll Q gateway.works so_far.node.sessions
   strayed_all req gateway so_far apart all q other (inl (one, got, is)) = ⊎_elim
       (λ (own : q ≡ req).
@@ -147,7 +189,7 @@ module _ (Q : ℕ → ObjWork → Type 0) where
         (λ (same : new_waiting ≡ record { req = q; work = other }). subst (λ (waiting : lines.Waiting). Q waiting.req waiting.work) same is)
         (Contains-push_cases (waiting_in session so_far.node.sessions) new_waiting (record { req = q; work = other }) there)
 
-    lined_all : AreAll Q so_far.node.gateway.works
+    pub lined_all : AreAll Q so_far.node.gateway.works
         (tree.insert so_far.node.sessions session
         (record (session_in session so_far) { inode_queue = queue_with_waiting (session_in session so_far).inode_queue req work }))
     lined_all q other (inl one) = all q other (inl one)
@@ -183,39 +225,9 @@ module _ (Q : ℕ → ObjWork → Type 0) where
           comes_so session req work moved steps,
         )
     next_all session req asked lined (InTurn work later none is) = (
-      λ q other has. all q other (had q other has),
-      all req work (inr (session, subst (λ (list : List lines.Waiting). Contains list first) (sym is) (Contains-first first first later refl))),
+      λ q other has. all q other (had_in_turn session req work later so_far is q other has),
+      all req work (has_first session req work later so_far is),
     )
-      where
-        first : lines.Waiting
-        first = record { req = req; work = work }
-
-        after : Session
-        after = record (session_in session so_far) { inode_queue = record { current = Some req; waiting = later } }
-
-        in_line : (q : ℕ) (other : ObjWork) (k : ℕ)
-            → Contains (waiting_in k (tree.insert so_far.node.sessions session after)) (record { req = q; work = other })
-            → Contains (waiting_in k so_far.node.sessions) (record { req = q; work = other })
-        in_line q other k there = ⊎_elim
-            (λ (here : k ≡ session).
-            let now : waiting_in k (tree.insert so_far.node.sessions session after) ≡ later
-            = ap (λ (k : ℕ). waiting_in k (tree.insert so_far.node.sessions session after)) here
-            ∙ ap (λ (o : Option Session). (unwrap_or o new_session).inode_queue.waiting)
-            (get-insert_same so_far.node.sessions session after) in
-            let was : waiting_in k so_far.node.sessions ≡ first ∷ later = ap (λ (k : ℕ). waiting_in k so_far.node.sessions) here ∙ is in
-            subst (λ (list : List lines.Waiting). Contains list (record { req = q; work = other })) (sym was)
-            (Contains-cons first later (record { req = q; work = other })
-            (subst (λ (list : List lines.Waiting). Contains list (record { req = q; work = other })) now there)))
-            (λ (apart : k ≢ session).
-            subst (λ (list : List lines.Waiting). Contains list (record { req = q; work = other }))
-            (ap (λ (o : Option Session). (unwrap_or o new_session).inode_queue.waiting)
-            (get-insert_other so_far.node.sessions session after k apart)) there)
-            (cases_eq k session)
-
-        had : (q : ℕ) (other : ObjWork) → HasWork q other so_far.node.gateway.works (tree.insert so_far.node.sessions session after)
-            → HasWork q other so_far.node.gateway.works so_far.node.sessions
-        had q other (inl one) = inl one
-        had q other (inr (k, there)) = inr (k, in_line q other k there)
     next_all session req asked lined (Again work course from next there request) = (all, all req asked.work (inl (asked, there, refl)))
     next_all session req asked lined (AgainAlone work from next there none) = (all, all req asked.work (inl (asked, there, refl)))
 

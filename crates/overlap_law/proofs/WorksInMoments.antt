@@ -64,7 +64,8 @@ module _ (script : List Statement) (range : RunsAreInRange script) where
               (record { numbers = le-leb 0 SENDS_MAX (omega arith); condition = first_may (format_entry script) [] (opens_log script range.is_script).log })
               none_queued (commands_alone_at_opening member.node (tries_of script)) (λ req session work from. absurd (cc (from))) none_allowed _
               (step_chain input new),
-          (own_in_chain input new (tt, one) (few_from input new reservable tt (none_known (effects_of new.peer))) none_own _ (step_chain input new)).1.1,
+          own_in_chain input new (tt, one) (few_from input new reservable tt (none_known (effects_of new.peer))) none_own _
+              (step_chain input new),
         );
     stays = λ event world made h began n host so begun. so began;
     steps = λ world n host cause began there up caused so next. (
@@ -79,8 +80,9 @@ module _ (script : List Statement) (range : RunsAreInRange script) where
         let reservable = subst (All IsReservable) (step_reads input host.node)
         (nodes-valid script range.is_script range.room (world_after_return script n host world) next n after (get-insert_same world.hosts n after)).read in (
           back_allowed log host.node,
-          (own_in_chain input host.node (tt, (together script range world began).driven n host there)
-              (few_from input host.node reservable tt (nodes_know script range world began n host there)) (so began).1 _ (step_chain input host.node)).1.1,
+          own_in_chain input host.node (tt, (together script range world began).driven n host there)
+              (few_from input host.node reservable tt (nodes_know script range world began n host there)) (so began).1 _
+              (step_chain input host.node),
         );
     joins = λ world n began control next. (none_allowed, none_own);
   }

@@ -1,5 +1,7 @@
 -- Each open create or write of a node is on an id that its request's session may write: in each world of a run in range, and at each moment on the
 -- way of its events.
+use Rattle.std.proofs.Common.{arith, ◌<◌}
+use Rattle.object_id.specs.declared.limits.TheConstants.{OBJECTS_MAX}
 use Rattle.std.proofs.Common.{◌≡◌, ◌⊎◌, inl, inr, ⊎_elim, ℕ, Bool, true, false, List, [], ◌∷◌, ◌++◌, All, Contains, length, Option, Some, None, IfSome, unwrap_or, refl, sym, ap, subst, ◌∙◌}
 use Rattle.std.specs.FinMap as tree
 use Rattle.std.proofs.lemmas.List.Elements.{All-head, Contains-append_cases}
@@ -157,9 +159,10 @@ module _ (log : List Entry) (n : ℕ) (node : Node) (own : node.me.0 ≡ n) (epo
       subst (λ (v : ℕ). MayWrite log n request.session v node) (sym same) (locked_may log n node own epoch_so request.session vid lock)
 
   module _ (making : is_making work.work ≡ true) where
-    -- the work is on an id that is locked, or creates what the session may write
+    -- the work is on an id that is locked, or creates an inode that the session may write
     abbrev WritesIt : Type 0
-    WritesIt = Locks (vid_of (oid_of work.work)) ⊎ ((is_create_work work.work ≡ true) × MayWriteIt)
+    WritesIt = Locks (vid_of (oid_of work.work))
+        ⊎ ((is_create_work work.work ≡ true) × MayWriteIt × ((own : ℕ) × (oid_of work.work ≡ inode_number own)))
 
     locks_it : (vid : ℕ) → vid_of (oid_of work.work) ≡ vid → Locks vid → WritesIt
     locks_it vid same lock = inl (subst Locks (sym same) lock)
@@ -223,11 +226,13 @@ module _ (log : List Entry) (n : ℕ) (node : Node) (own : node.me.0 ≡ n) (epo
           (has.commands req request op there command)
 
       -- on the id that was granted
-      on_granted : granted_at (Working vid task) ≡ Some vid → is_create_work work.work ≡ true → vid_of (oid_of work.work) ≡ vid.0 → WritesIt
-      on_granted granted creates same = inr (
+      on_granted : granted_at (Working vid task) ≡ Some vid → is_create_work work.work ≡ true → (own : ℕ)
+          → oid_of work.work ≡ inode_number own → vid_of (oid_of work.work) ≡ vid.0 → WritesIt
+      on_granted granted creates of object same = inr (
         creates,
         subst (λ (v : ℕ). MayWrite log n request.session v node) (sym same)
             (stage_may log n node own epoch_so request.session (opened_in request.session node.sessions) vid (Working vid task) granted kept),
+        (of, object),
       )
 
       lets_none : (of : ℕ) → IsLetGo node.requests request.session of → ⊥
@@ -308,13 +313,14 @@ module _ (log : List Entry) (n : ℕ) (node : Node) (own : node.me.0 ≡ n) (epo
       tasked vid (Copying ids header) at is owns = reads _ is.work_of refl
       tasked vid (Making entry None) at is owns =
           let kept = kept op command vid (Making entry None) at in
-          on_granted op command vid (Making entry None) at refl (ap is_create_work is.work_of)
+          on_granted op command vid (Making entry None) at refl (ap is_create_work is.work_of) vid.0
+          (subst (λ (stage : OpStage). IsOwnStage stage work.work) at owns)
           (ap vid_of (subst (λ (stage : OpStage). IsOwnStage stage work.work) at owns)
           ∙ vid-of_inode vid.0 (made_id vid entry None kept (sessions_at vid (Making entry None) at)))
       tasked vid (Making entry (Some inode)) at is owns =
           let kept = kept op command vid (Making entry (Some inode)) at in
           let same : inode ≡ is.inode = is.same inode refl in
-          on_granted op command vid (Making entry (Some inode)) at refl (ap is_create_work is.work_of)
+          on_granted op command vid (Making entry (Some inode)) at refl (ap is_create_work is.work_of) is.inode.vid (ap oid_of is.work_of)
           (ap vid_of (ap oid_of is.work_of ∙ ap (λ (i : Content). inode_number i.vid) (sym same))
           ∙ vid-of_inode inode.vid (known_at vid (Making entry (Some inode)) at).disk.id
           ∙ made_vid vid entry inode kept (fits_at vid (Making entry (Some inode)) at))
@@ -351,7 +357,7 @@ module _ (log : List Entry) (n : ℕ) (node : Node) (own : node.me.0 ≡ n) (epo
     pub work_may : MayWrite log n request.session (vid_of (oid_of work.work)) node
     work_may = ⊎_elim
         (λ (lock : Locks (vid_of (oid_of work.work))). on_locked (vid_of (oid_of work.work)) refl lock)
-        (λ (made : (is_create_work work.work ≡ true) × MayWriteIt). made.1)
+        (λ (made : (is_create_work work.work ≡ true) × MayWriteIt × ((own : ℕ) × (oid_of work.work ≡ inode_number own))). made.1)
         writes_it
 
     -- what isn't created is of a working disk
@@ -359,7 +365,21 @@ module _ (log : List Entry) (n : ℕ) (node : Node) (own : node.me.0 ≡ n) (epo
     work_working writes = ⊎_elim
         (λ (lock : Locks (vid_of (oid_of work.work))).
         held-works log (vid_of (oid_of work.work)) (holder_at node.me request.session) lock.held)
-        (λ (made : (is_create_work work.work ≡ true) × MayWriteIt). let creates = made.0 in absurd (cc (creates, writes)))
+        (λ (made : (is_create_work work.work ≡ true) × MayWriteIt × ((own : ℕ) × (oid_of work.work ≡ inode_number own))).
+        let creates = made.0 in absurd (cc (creates, writes)))
+        writes_it
+
+    -- and what is on an object of a disk is so too
+    pub data_working : (vid index : ℕ) → IsVid vid → index < OBJECTS_MAX → oid_of work.work ≡ object_number vid index
+        → state_of (log_effects log) vid ≡ States.Working
+    data_working vid index id few object = ⊎_elim
+        (λ (lock : Locks (vid_of (oid_of work.work))).
+        ap (state_of (log_effects log)) (sym (ap vid_of object ∙ vid-of_object vid index id few))
+        ∙ held-works log (vid_of (oid_of work.work)) (holder_at node.me request.session) lock.held)
+        (λ (made : (is_create_work work.work ≡ true) × MayWriteIt × ((own : ℕ) × (oid_of work.work ≡ inode_number own))).
+        let other = made.2.1 in
+        let most = id.1 in
+        absurd (omega (arith, most, few, object, other)))
         writes_it
 
 -- a work's request is there
@@ -404,6 +424,22 @@ writes_working moment sound claimed fit own well n host there up req work got ma
     work_working moment.world.log n host.node read.own read.epoch_so (own.each n host there up) (claimed n host there up) (fit n host there)
     (well n host there) req work got request asked making writes
 
+-- each open create or write on an object of a disk, that is no inode, is of a working disk
+abbrev pub DataIsOfWorking : List Entry → Hosts → Type 0
+DataIsOfWorking log hosts =
+    EachUp hosts (λ n node. (req : ℕ) (work : Work) → tree.get node.gateway.works req ≡ Some work → is_making work.work ≡ true
+    → (vid index : ℕ) → IsVid vid → index < OBJECTS_MAX → oid_of work.work ≡ object_number vid index
+    → state_of (log_effects log) vid ≡ States.Working)
+
+data_of_working : (moment : MomentWithPast) → HostsAreSound moment → AreClaimedAmong moment.world.log moment.world.hosts
+    → AreOpenAmong moment.world.hosts → CommandsAreTheSessions moment.world.hosts → HaveWellWorks moment.world.hosts
+    → DataIsOfWorking moment.world.log moment.world.hosts
+data_of_working moment sound claimed fit own well n host there up req work got making =
+    let read = (sound.each n host there).read in
+    let (request, asked) = asked_for host.node (well n host there) req work got in
+    data_working moment.world.log n host.node read.own read.epoch_so (own.each n host there up) (claimed n host there up) (fit n host there)
+    (well n host there) req work got request asked making
+
 module _ (script : List Statement) (range : RunsAreInRange script) where
   -- as an event begins, and after each change of it
   module _ (start : MomentWithPast) (began : Began script start.world) where
@@ -424,6 +460,14 @@ module _ (script : List Statement) (range : RunsAreInRange script) where
         → WritesAreOfWorking after.world.log after.world.hosts
     writes_working-after {before} {after} change =
         writes_working after (hosts_after_sound script range start began change) (claimed_after script range start began change)
+        (open_after script range start began change)
+        (said_sessions script range after.world.log after.world.hosts (awaited_after script range start began change))
+        (well_after script range start began change)
+
+    pub data_working-after : {before after : MomentWithPast} → MomentChange script start before after
+        → DataIsOfWorking after.world.log after.world.hosts
+    data_working-after {before} {after} change =
+        data_of_working after (hosts_after_sound script range start began change) (claimed_after script range start began change)
         (open_after script range start began change)
         (said_sessions script range after.world.log after.world.hosts (awaited_after script range start began change))
         (well_after script range start began change)

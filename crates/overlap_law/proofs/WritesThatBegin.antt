@@ -29,15 +29,15 @@ use Rattle.overlap_law.specs.StayingBlocks.{KeepsBlocks, AllKeepBlocks, are_apar
 use Rattle.overlap_law.specs.Words.{Hosts}
 
 module _ (effects : List Effect) (good_id : ℕ → Bool) (hosts : Hosts) (attempts : List AttemptRecord) where
-  abbrev All : Ledger → List HistEvent → Type 0
+  abbrev pub All : Ledger → List HistEvent → Type 0
   All = AllKeepBlocks effects good_id hosts attempts
 
   -- events that keep it of any ledger
-  abbrev KeepAlways : List HistEvent → Type 0
+  abbrev pub KeepAlways : List HistEvent → Type 0
   KeepAlways events = (ledger : Ledger) → All ledger events
 
-  map_keep : {X : Type 0} (make : X → HistEvent) → ((x : X) (ledger : Ledger) → KeepsBlocks effects good_id hosts attempts ledger (make x))
-      → (xs : List X) → KeepAlways (map make xs)
+  pub map_keep : {X : Type 0} (make : X → HistEvent)
+      → ((x : X) (ledger : Ledger) → KeepsBlocks effects good_id hosts attempts ledger (make x)) → (xs : List X) → KeepAlways (map make xs)
   map_keep make each [] ledger = tt
   map_keep make each (x ∷ xs) ledger = (each x ledger, map_keep make each xs (ledger_after ledger (make x)))
 

@@ -2,7 +2,7 @@
 -- dead, if the entries that attempts gave to inodes do: the entries are those that were read.
 use Rattle.std.proofs.Common.{◌≡◌, inr, arith, ℕ, ◌+◌, ◌*◌, ◌-◌, ◌≤◌, ◌<◌, nat_le, ◌&&◌, Bool, true, false, List}
 use Rattle.std.proofs.Common.{length, Some, refl, sym, ap, subst, ◌∙◌}
-use Rattle.std.proofs.lemmas.Bool.{and_parts, leb-true}
+use Rattle.std.proofs.lemmas.Bool.{and_parts, and_from, leb-true, le-leb}
 use Rattle.object_id.specs.declared.oid.Kind.{Kind}
 use Rattle.object_id.specs.declared.oid.Kind.TheVariants.{Inode}
 use Rattle.object_id.specs.declared.oid.Vid.{Vid}
@@ -40,7 +40,7 @@ use Rattle.overlap_law.specs.Past.{MomentWithPast, run_with_past}
 use Rattle.overlap_law.specs.StepMoments.{SteppingNode, IsStepping, StepsByChanges, LeadsInStep, first_in_step, moment_in_step}
 use Rattle.overlap_law.specs.Tables.{entry_unit, entry_by, StandsFor, EntriesAreMade, OwnEntriesAreMade}
 use Rattle.overlap_law.specs.ToDo.{entry_made}
-use Rattle.overlap_law.specs.Units.{unit_start, unit_size, unit_end}
+use Rattle.overlap_law.specs.Units.{unit_start, unit_size, unit_end, covers_by}
 use Rattle.overlap_law.proofs.CreatedStays.{created-by}
 use Rattle.overlap_law.proofs.DoneReads.{number_in_piece}
 use Rattle.overlap_law.proofs.EntryWrites.{entry_start, entry_size}
@@ -60,7 +60,7 @@ module _ (inode : Content) (bytes : List ℕ) (id : IsVid inode.vid)
   fits = omega (arith, head, long)
 
   -- it has the entries of the disk's objects alone
-  back_within : (vid index : ℕ) → HasEntry (write_back inode bytes) vid index → (vid ≡ inode.vid) × (index < objects_of inode.spec)
+  pub back_within : (vid index : ℕ) → HasEntry (write_back inode bytes) vid index → (vid ≡ inode.vid) × (index < objects_of inode.spec)
   back_within vid index has =
       let object = has.object in
       let unit : ℕ = entry_unit index in
@@ -76,7 +76,7 @@ module _ (inode : Content) (bytes : List ℕ) (id : IsVid inode.vid)
       (omega (arith, object), omega (arith, start, size, high, same, long))
 
   -- and they are those that were there
-  back_entry : (index : ℕ) → entry_made index (write_back inode bytes) ≡ u32_at (INODE_HEADER_BYTES + 4 * index) bytes
+  pub back_entry : (index : ℕ) → entry_made index (write_back inode bytes) ≡ u32_at (INODE_HEADER_BYTES + 4 * index) bytes
   back_entry index =
       let unit : ℕ = entry_unit index in
       let from : ℕ = INODE_HEADER_BYTES + 4 * index in
@@ -87,6 +87,21 @@ module _ (inode : Content) (bytes : List ℕ) (id : IsVid inode.vid)
       ∙ (λ i. u32_at 0 (piece_at (written_back inode bytes) (at i) (entry_size index i)))
       ∙ ap (λ (xs : List ℕ). u32_at 0 xs) (piece-beside bytes 0 header from 4 (inr (omega (arith, head))) fits)
       ∙ number_in_piece bytes from
+
+  pub back_covers : (index : ℕ) → index < objects_of inode.spec → covers_by (entry_unit index) (write_back inode bytes) ≡ true
+  back_covers index within =
+      let unit : ℕ = entry_unit index in
+      let start = entry_start index in
+      let size = entry_size index in
+      let same : length (written_back inode bytes) ≡ length bytes = length-laid_over bytes 0 header fits in
+      let begins : 0 ≤ unit_start Inode unit = omega arith in
+      let ends : unit_start Inode unit + unit_size Inode unit ≤ 0 + length (written_back inode bytes)
+      = omega (arith, start, size, same, long, within) in
+      ap (λ (k : Kind). nat_le 0 (unit_start k unit) && nat_le (unit_end k unit) (0 + length (written_back inode bytes)))
+      (kind-of_inode inode.vid id)
+      ∙ and_from (nat_le 0 (unit_start Inode unit)) (nat_le (unit_end Inode unit) (0 + length (written_back inode bytes)))
+      (le-leb 0 (unit_start Inode unit) begins)
+      (le-leb (unit_end Inode unit) (0 + length (written_back inode bytes)) ends)
 
 -- the header of an inode is as long as it is to be
 pub header_long : (header : Header) (vid : ℕ) (table : List ℕ) → IsInodeHeader header

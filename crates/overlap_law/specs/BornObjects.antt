@@ -29,6 +29,7 @@ pub record ObjectsWereBorn (hosts : Hosts) (wire : Wire) (attempts : List Attemp
   pub listed : EachHost hosts (λ n host. All (IsBorn attempts) host.node.recovery.lists.objects)
   pub searched : EachHost hosts (λ n host. IfSome host.node.recovery.search (λ (search : Search). IsBorn attempts search.oid))
   pub asked : EachHost hosts (λ n host. (place oid : ℕ) (level : Epoch) (message : Message)
-      → slice_get host.node.recovery.unanswered place ≡ Some message → message.request.ask ≡ asks.RecoverRead oid level → IsBorn attempts oid)
+      → slice_get host.node.recovery.unanswered place ≡ Some message → message.request.ask ≡ asks.RecoverRead oid level
+      → IsBorn attempts oid)
   pub told : (name : MessageName) (from : NodeId) (reply : PeerRsp) (oids : List ℕ) → IsAnswering wire name from reply
       → reply.say ≡ says.Objects oids → All (IsBorn attempts) oids

@@ -1,11 +1,11 @@
 -- What is to be published: from where the table of its inode is, and that the inode was created.
 use Rattle.std.specs.Prelude.{◌≡◌, ℕ, ◌<◌, Bool, true, List, [], ◌∷◌, slice_get, slice_index, is_some, Option, Some, None}
 use Rattle.std.specs.FinMap as tree
-use Rattle.object_id.specs.declared.limits.TheConstants.{OBJECTS_MAX}
 use Rattle.object_id.specs.declared.oid.Vid.{Vid}
 use Rattle.object_id.specs.declared.entry.Entry.{Entry}
-use Rattle.object_id.specs.declared.entry.Entry.TheVariants.{Format, Join, Leave, Reweight, Recovered, Reserve, Publish, Clone, Snapshot}
-use Rattle.object_id.specs.declared.entry.Entry.TheVariants.{Delete, Lock, Unlock}
+use Rattle.object_id.specs.declared.entry.VdiSpec.{VdiSpec}
+use Rattle.object_id.specs.declared.entry.Entry.TheVariants.{Format, Join, Leave, Reweight, Recovered, Reserve, Publish, Clone}
+use Rattle.object_id.specs.declared.entry.Entry.TheVariants.{Snapshot, Delete, Lock, Unlock}
 use Rattle.object_id.specs.Oid.{inode_number}
 use Rattle.object_id.specs.Spec.{objects_of}
 use Rattle.inode.specs.Layout.{Content}
@@ -14,16 +14,13 @@ use Rattle.sheep_node.specs.declared.course.Request.{Request}
 use Rattle.sheep_node.specs.declared.course.Course.TheVariants.{Commanding}
 use Rattle.overlap_law.specs.Attempts.{AttemptRecord}
 use Rattle.overlap_law.specs.Reached.{Hosts}
-use Rattle.overlap_law.specs.Each.{EachUp}
+use Rattle.overlap_law.specs.Each.{EachUp, spec_in}
 use Rattle.overlap_law.specs.Fates.{IsCreated}
 use Rattle.overlap_law.specs.Tables.{AreAmong, candidates}
 use Rattle.vdi_directory.specs.declared.effect.Effect.{Effect}
+use Rattle.vdi_directory.specs.declared.effect.Reservation.{Reservation}
 use Rattle.vdi_directory.specs.Effects.{reservations_of, reservation_on}
 use Rattle.vdi_directory.specs.References.{parent_of}
-use Rattle.overlap_law.specs.Attempts.{object_of}
-use Rattle.overlap_law.specs.Units.{covers_unit}
-use Rattle.overlap_law.specs.Each.{EachAttempt}
-use Rattle.overlap_law.specs.Tables.{entry_unit, entry_by}
 use Rattle.overlap_law.specs.WrittenBlocks.{IsCandidate}
 
 -- an entry of a new id's inode: one that may be read of the inode of what it is made from, and of a new disk a hole
@@ -37,11 +34,20 @@ IsDrawn effects attempts vid index entry =
     is_some (reservation_on (record { 0 = vid }) (reservations_of effects)) ≡ true
     → IsDrawnFrom attempts index entry (parent_of effects vid)
 
--- the attempts on a reserved id's inode have such entries
+-- a good id is reserved, and its inode has an entry of the index
+pub record IsReservedEntry (effects : List Effect) (good_id : ℕ → Bool) (vid index : ℕ) : Type 0 where
+  pub reservation : Reservation
+  pub stands : reservation_on (record { 0 = vid }) (reservations_of effects) ≡ Some reservation
+  pub good : good_id vid ≡ true
+  pub spec : VdiSpec
+  pub made_with : spec_in effects vid ≡ Some spec
+  pub within : index < objects_of spec
+
+-- what may be read of a reserved id's inode is so drawn. It is not said of each attempt: where the create of an inode that is to take the
+-- place of a disk was refused everywhere, the session may enter objects of that disk before it has given the id back
 pub record ReservedInodesAreDrawn (effects : List Effect) (good_id : ℕ → Bool) (attempts : List AttemptRecord) : Type 0 where
-  pub each : EachAttempt attempts (λ j attempt. (vid index : ℕ) → object_of attempt ≡ inode_number vid → good_id vid ≡ true
-      → index < OBJECTS_MAX
-      → covers_unit (entry_unit index) attempt ≡ true → IsDrawn effects attempts vid index (entry_by index attempt))
+  pub each : (vid index entry : ℕ) → IsReservedEntry effects good_id vid index → IsCandidate attempts vid index entry
+      → IsDrawnFrom attempts index entry (parent_of effects vid)
 
 -- the id that an entry publishes
 abbrev pub published_by : Entry → Option Vid

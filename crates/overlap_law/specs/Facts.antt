@@ -1,5 +1,6 @@
 -- The other facts on which the overlap of epochs rests: holders and lists, lost gateways, and entries; and all six together.
-use Rattle.std.specs.Prelude.{◌≡◌, ℕ, ◌+◌, ◌*◌, ◌==◌, ◌<◌, ◌≤◌, max, Bool, true, false, ◌&&◌, List, [], ◌∷◌, ◌++◌, All, Some, Ok}
+use Rattle.std.specs.Prelude.{◌≡◌, ◌⊎◌, ℕ, ◌+◌, ◌*◌, ◌==◌, ◌<◌, ◌≤◌, max, Bool, true, false, ◌&&◌, List, [], ◌∷◌, ◌++◌, All, Some, Ok}
+use Rattle.std.specs.Prelude.{slice_index}
 use Rattle.std.specs.List.{find, list_any}
 use Rattle.std.specs.Option.{option_map_or}
 use Rattle.std.specs.FinMap as tree
@@ -9,9 +10,15 @@ use Rattle.object_id.specs.declared.entry.Entry.{Entry}
 use Rattle.object_id.specs.declared.entry.Entry.TheVariants.{Leave}
 use Rattle.object_id.specs.Fields.{u32_at}
 use Rattle.object_id.specs.Oid.{IsVid, kind_of, vid_of, inode_number, object_number}
+use Rattle.object_id.specs.Spec.{objects_of}
 use Rattle.disk_lock.specs.declared.holder.Holder.{Holder}
 use Rattle.epoch_log.specs.Epochs.{epoch_of, settled_of}
+use Rattle.vdi_directory.specs.declared.effect.Effect.{Effect}
+use Rattle.vdi_directory.specs.Dead.{is_dead}
 use Rattle.vdi_directory.specs.Decisions.{log_effects}
+use Rattle.guest_driver.specs.declared.disk.Disk.{Disk}
+use Rattle.sheep_node.specs.declared.session.Session.{Session}
+use Rattle.sheep_node.specs.State.{Node}
 use Rattle.inode.specs.declared.layout.TheConstants.{INODE_HEADER_BYTES}
 use Rattle.peer_proto.specs.declared.ask.PeerReq.{PeerReq}
 use Rattle.peer_proto.specs.Ask.{ask_in}
@@ -23,10 +30,11 @@ use Rattle.message_wire.specs.declared.packet.Packet.TheVariants.{Request}
 use Rattle.message_wire.specs.Message.{name_cmp}
 use Rattle.sheep_world.specs.World.{World}
 use Rattle.overlap_law.specs.Attempts.{MessageFate, Flying, Served, Doomed, AttemptRecord, object_of, attempts_on}
-use Rattle.overlap_law.specs.Words.{Hosts, is_made, covers_unit, row_bytes_at, last_of, base_of}
-use Rattle.overlap_law.specs.Holders.{targets_by, creates, is_object_among, IsGood}
-use Rattle.overlap_law.specs.Each.{Placing, EachHost, EachAttempt, EachRowOf, end_of_row, holds_level}
+use Rattle.overlap_law.specs.Words.{Hosts, is_made, covers_unit, row_bytes_at, last_of, base_of, own_base_of}
+use Rattle.overlap_law.specs.Holders.{targets_by, creates, is_object_among, IsGood, IsGoodId}
+use Rattle.overlap_law.specs.Each.{Placing, EachHost, EachUp, EachAttempt, EachRowOf, end_of_row, holds_level}
 use Rattle.overlap_law.specs.Grants.{leave_of, writer_of, granted_in}
+use Rattle.overlap_law.specs.Tables.{entry_unit, IsEntryOpen, IsYetOf}
 use Rattle.overlap_law.specs.Past.{FinishedList, Past, counts}
 use Rattle.overlap_law.specs.Contents.{RowContents, AttemptsStand}
 
@@ -79,8 +87,8 @@ HeldAtTheLeave log = (front rest : List Entry) (node : NodeId) (vid : ℕ) (hold
     → writer_of (log_effects log) vid ≡ Some writer → epoch_of (front ++ Leave node ∷ []) ≤ granted_in log vid
 
 -- Lost gateways are fenced. The attempts of a lost gateway, and its messages, are of epochs below that of its `Leave`; where one of the
--- messages is still on its way, the disk is granted next after that entry, and every attempt under that grant is of a later epoch. And so is each disk
--- that a session of it might write as it left
+-- messages is still on its way, the disk is granted next after that entry, and every attempt under that grant is of a later epoch. And so
+-- is each disk that a session of it might write as it left
 pub record LostGatewaysAreFenced (log : List Entry) (hosts : Hosts) (wire : tree.FinMap name_cmp Packet) (attempts : List AttemptRecord) :
     Type 0 where
   pub messages : EachHost hosts (λ n host. (epoch : ℕ) (name : MessageName) (to : NodeId) (bytes : List ℕ) (request : PeerReq)
@@ -113,6 +121,21 @@ HaveOneTable attempt bytes others = (unit : ℕ) → INODE_HEADER_BYTES ≤ unit
     → row_bytes_at (policy_of attempt.work) (kind_of (object_of attempt)) unit bytes
     ≡ row_bytes_at (policy_of attempt.work) (kind_of (object_of attempt)) unit others
 
+-- a copy of an open disk's inode has at an index the entry of the session's table, or while that entry is being written the disk's own id
+abbrev pub HasTableEntry : Node → Disk → ℕ → List ℕ → Type 0
+HasTableEntry node disk index bytes =
+    (entry_in index bytes ≡ slice_index disk.inode.table index)
+    ⊎ ((disk.snapshot ≡ false) × (entry_in index bytes ≡ disk.inode.vid) × IsEntryOpen node disk.inode.vid index)
+
+-- while a session has the disk of an id open, each copy of its inode that reaches the epoch of an entry's own base has that
+abbrev pub CopiesHaveTheTable : List Effect → Hosts → ℕ → List AttemptRecord → Type 0
+CopiesHaveTheTable effects hosts vid attempts = EachUp hosts (λ m node. (number index : ℕ) (session : Session) (disk : Disk)
+    → tree.get node.sessions number ≡ Some session → session.disk ≡ Some disk → disk.inode.vid ≡ vid → IsYetOf effects m number disk
+    → index < objects_of disk.inode.spec → (own : AttemptRecord)
+    → own_base_of (entry_unit index) (attempts_on (inode_number vid) attempts) ≡ Some own
+    → EachHost hosts (λ n host. EachRowOf host.node.peer.rows (inode_number vid) (λ row. own.epoch ≤ end_of_row host.node.peer.epoch row.to
+    → HasTableEntry node disk index row.bytes)))
+
 -- Entries name made objects. An entry that says "own" stands in a copy of an inode only after a made create of its object; and
 -- where the last attempt on the inode is made, as that of an opening is, the copies that reach its epoch have one table
 pub record EntriesNameMadeObjects (hosts : Hosts) (vid : ℕ) (attempts : List AttemptRecord) : Type 0 where
@@ -138,3 +161,6 @@ pub record MeetsFacts (world : World) (past : Past) : Type 0 where
   pub fenced : LostGatewaysAreFenced world.log world.hosts world.wire past.attempts
   pub entries : (vid : ℕ) → IsVid vid → IsGood world.log past.attempts past.unavailable (inode_number vid)
       → EntriesNameMadeObjects world.hosts vid past.attempts
+  -- the last one's second half in full, of disks that were available at every state so far: their tables are read from their chains
+  pub tables : (vid : ℕ) → IsVid vid → IsGoodId world.log past.unavailable vid → is_dead (log_effects world.log) vid ≡ false
+      → CopiesHaveTheTable (log_effects world.log) world.hosts vid past.attempts

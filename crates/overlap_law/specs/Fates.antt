@@ -110,4 +110,5 @@ pub record IsCreated (attempts : List AttemptRecord) (oid epoch : ℕ) : Type 0 
 
 -- before a write of an object stands a made create of it, whether or not the object was available
 pub record CreatesComeFirst (attempts : List AttemptRecord) : Type 0 where
-  pub each : EachAttempt attempts (λ j attempt. creates attempt ≡ false → (created : IsCreated attempts (object_of attempt) attempt.epoch) × (created.place < j))
+  pub each : EachAttempt attempts (λ j attempt. creates attempt ≡ false
+      → (created : IsCreated attempts (object_of attempt) attempt.epoch) × (created.place < j))

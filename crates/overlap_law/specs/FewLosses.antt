@@ -1,5 +1,5 @@
--- Few losses on a large enough cluster: the members of an epoch stand in as many zones as an object has copies or strips, and of them at most
--- one less than there are copies, or as many as there are parity strips, don't count for the epoch.
+-- Few losses on a large enough cluster: the members of an epoch stand in as many zones as an object has copies or strips, and of them at
+-- most one less than there are copies, or as many as there are parity strips, don't count for the epoch.
 use Rattle.std.specs.Prelude.{◌≡◌, ℕ, ◌+◌, ◌≤◌, Bool, not, max, List, length, filter, Some}
 use Rattle.object_id.specs.declared.node.NodeId.{NodeId}
 use Rattle.object_id.specs.declared.entry.Entry.{Entry}

@@ -3,7 +3,9 @@ use Rattle.std.specs.Prelude.{ℕ, Bool, false, List}
 use Rattle.cluster_script.specs.declared.statement.Statement.{Statement}
 use Rattle.vdi_directory.specs.Decisions.{log_effects}
 use Rattle.overlap_law.specs.Past.{MomentWithPast}
-use Rattle.overlap_law.specs.Groups.{FlightIsKept, WritersAreKept, TermsAreKept}
+use Rattle.overlap_law.specs.Groups.{FlightIsKept, AttemptsAreKept, WritersAreKept, TermsAreKept, RowsAreKept, SearchesAreKept}
+use Rattle.overlap_law.specs.Groups.{TablesAreKept}
+use Rattle.overlap_law.specs.Facts.{MeetsFacts}
 use Rattle.overlap_law.specs.TiedAttempts.{IsTied}
 use Rattle.overlap_law.specs.Fates.{AttemptsAreWhole, AttemptsAreOrdered}
 use Rattle.overlap_law.specs.ShapedAttempts.{AreShaped}
@@ -11,15 +13,16 @@ use Rattle.overlap_law.specs.OpenWorks.{WorksKnowTheirFates, PacketsAreOfOpenWor
 use Rattle.overlap_law.specs.OpenWorks.{RefusedRequestsAreMute, OpenAttemptsAreLatest}
 use Rattle.overlap_law.specs.Traffic.{OpenAttemptsHaveMessages}
 use Rattle.overlap_law.specs.Writers.{AttemptsHaveBegun}
-use Rattle.overlap_law.specs.Fates.{AttemptsAreOrdered}
 use Rattle.overlap_law.specs.Sessions.{SessionsWorkApart, MakersAreApart}
 use Rattle.overlap_law.specs.Courses.{WorksAreWaitedFor, CommandsKeepTheirGrants}
 use Rattle.overlap_law.specs.RequestsOfScript.{RequestsAreWithoutReply, RequestsAreTheScripts, AttemptsAreTheScripts, TheRefusedAreAnswered}
-use Rattle.overlap_law.specs.Holders.{is_live_object, targets_by}
+use Rattle.overlap_law.specs.Holders.{is_live_object, is_good, is_available_disk, targets_by}
 use Rattle.overlap_law.specs.Rows.{RowsHaveEnds, OneRowIsOpen, RowsAreApart, ServedRowsStay, RowsAreWhole, RowsAreAtTargets, RowsAreBegun}
 use Rattle.overlap_law.specs.Lists.{ListsComeFirst, TellersHaveCome, ListsAreWhole, PendingIsLacked}
 use Rattle.overlap_law.specs.Since.{CopiesAreOfAttempts}
 use Rattle.overlap_law.specs.Searches.{SearchesAreOfTheFirst, ToldRowsAreTrue, ToldCopiesAreOfAttempts, NoRowIsTrue, LevelsAreAsked, PassedLevelsLackRows}
+use Rattle.overlap_law.specs.NoObjects.{NothingIsLacked}
+use Rattle.overlap_law.specs.ToDo.{WorksNameWhatIsMade}
 use Rattle.overlap_law.specs.Headline.{OtherEpochsChangeNothing, RefusedHaveNoItems, RefusedMakeNothing}
 
 -- the groups of the wire, of the writers and of epochs, what of the attempts, of commands, of rows and of recoveries, and the headline's
@@ -76,3 +79,22 @@ pub record IsKeptSoFar (script : List Statement) (moment : MomentWithPast) : Typ
   pub passed : (good : ℕ → Bool) → PassedLevelsLackRows (targets_by moment.world.log) moment.world.log (log_effects moment.world.log) good
       moment.world.hosts
   pub peers : OtherEpochsChangeNothing script moment.world
+
+-- the whole groups of the attempts, of the rows, of the recoveries and of the tables, that what works name is made, that nothing is lacked,
+-- and the six facts
+pub record KeepsFacts (moment : MomentWithPast) : Type 0 where
+  pub attempts : AttemptsAreKept (targets_by moment.world.log) moment.world.log moment.world.hosts moment.world.wire
+      moment.past.refused moment.past.lost moment.past.attempts
+  pub rows : RowsAreKept (targets_by moment.world.log) moment.world.log (log_effects moment.world.log)
+      (is_live_object moment.world.log moment.past.attempts) (is_good moment.world.log moment.past.attempts moment.past.unavailable)
+      moment.world.hosts moment.past.attempts
+  pub recoveries : SearchesAreKept (targets_by moment.world.log) moment.world.log (log_effects moment.world.log)
+      (is_live_object moment.world.log moment.past.attempts) (is_good moment.world.log moment.past.attempts moment.past.unavailable)
+      moment.past.listed moment.world.hosts moment.world.wire moment.past.attempts
+  pub tables : TablesAreKept moment.world.log (log_effects moment.world.log) (is_live_object moment.world.log moment.past.attempts)
+      (is_available_disk moment.world.log moment.past.unavailable) moment.world.hosts moment.past.attempts
+  pub named : WorksNameWhatIsMade (log_effects moment.world.log) (is_available_disk moment.world.log moment.past.unavailable)
+      moment.world.hosts moment.past.attempts
+  pub lacked : NothingIsLacked (log_effects moment.world.log) (is_available_disk moment.world.log moment.past.unavailable)
+      moment.world.hosts moment.world.wire
+  pub facts : MeetsFacts moment.world moment.past

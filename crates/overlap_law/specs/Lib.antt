@@ -65,4 +65,10 @@ pub mod FirstCreates
 pub mod ToldPieces
 pub mod ToldReads
 pub mod NamedWorks
+pub mod StayingDrafts
 pub mod FewLosses
+pub mod StandingReads
+pub mod OpenedTables
+pub mod MadeTables
+pub mod InodesRead
+pub mod KeptHistory

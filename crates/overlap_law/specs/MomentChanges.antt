@@ -66,7 +66,8 @@ pub data TrailLeft (script : List Statement) (start : MomentWithPast) : MomentWi
       → TrailLeft script start moment end
 
 -- a change on the way of an event that happens in a run
-pub record IsOnTheWay (script : List Statement) (events : List Event) (event : Event) (start end before after : MomentWithPast) : Type 0 where
+pub record IsOnTheWay (script : List Statement) (events : List Event) (event : Event) (start end before after : MomentWithPast)
+    : Type 0 where
   pub run : run_with_past script events ≡ Some start
   pub happens : next_moment script event start ≡ Some end
   pub behind : MomentTrail script start before

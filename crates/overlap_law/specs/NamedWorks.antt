@@ -5,6 +5,7 @@ use Rattle.object_id.specs.declared.limits.TheConstants.{OBJECTS_MAX}
 use Rattle.object_id.specs.Oid.{IsVid, inode_number, object_number}
 use Rattle.cluster_script.specs.declared.statement.Statement.{Statement}
 use Rattle.vdi_directory.specs.declared.effect.Effect.{Effect}
+use Rattle.vdi_directory.specs.Chains.{is_above}
 use Rattle.vdi_directory.specs.Decisions.{log_effects}
 use Rattle.peer_proto.specs.declared.work.ObjWork.{ObjWork}
 use Rattle.peer_proto.specs.Work.{oid_of}
@@ -19,8 +20,8 @@ use Rattle.overlap_law.specs.Attempts.{AttemptRecord}
 use Rattle.overlap_law.specs.Fates.{IsCreated}
 use Rattle.overlap_law.specs.Past.{MomentWithPast}
 use Rattle.overlap_law.specs.StepMoments.{SteppingNode, IsStepping, StepsByChanges, LeadsInStep, first_in_step, moment_in_step}
-use Rattle.overlap_law.specs.Tables.{entry_unit, StandsFor}
-use Rattle.overlap_law.specs.ToDo.{entry_made}
+use Rattle.overlap_law.specs.Tables.{entry_unit, StandsFor, EntriesAreMade}
+use Rattle.overlap_law.specs.ToDo.{entry_made, WorksNameWhatIsMade}
 use Rattle.overlap_law.specs.Units.{covers_by}
 
 -- a work has the entry of an index in a disk's inode
@@ -65,3 +66,12 @@ NewInodesNameWhatIsMade script good_id start before = (stepping : SteppingNode) 
     → RequestSteps (input_of_cause stepping.cause) stepping.host.node so_far session req (ToWork (create_inode inode)) moved
     → ((driver : Driver) → tree.get moved.node.requests req ≢ Some (record { session = session; course = Driving driver }))
     → NamesWhatIsMade (log_effects before.world.log) good_id before.past.attempts so_far.node.peer.epoch (create_inode inode)
+
+-- what is above a good id is good
+abbrev pub AboveIsGood : List Effect → (ℕ → Bool) → Type 0
+AboveIsGood effects good_id = (elder vid : ℕ) → is_above effects elder vid ≡ true → good_id vid ≡ true → good_id elder ≡ true
+
+-- the entries that attempts gave to inodes, and those that works are to give to them, stand for objects that were created
+pub record InodesNameWhatIsMade (live good_id : ℕ → Bool) (moment : MomentWithPast) : Type 0 where
+  pub entries : EntriesAreMade (log_effects moment.world.log) live good_id moment.past.attempts
+  pub named : WorksNameWhatIsMade (log_effects moment.world.log) good_id moment.world.hosts moment.past.attempts

@@ -17,7 +17,7 @@ use Rattle.gateway.specs.declared.message.Status.{Status}
 use Rattle.gateway.specs.Attempt.{Attempt}
 use Rattle.gateway.specs.State.{Work}
 use Rattle.guest_driver.specs.declared.disk.Disk.{Disk}
-use Rattle.vdi_ops.specs.Op.{Opening, WritingBack, Working, Op}
+use Rattle.vdi_ops.specs.Op.{Opening, Working, Op}
 use Rattle.sheep_node.specs.declared.course.Course.TheVariants.{Commanding}
 use Rattle.sheep_node.specs.declared.course.Request.{Request}
 use Rattle.sheep_node.specs.declared.input.Input.{Input}
@@ -30,6 +30,7 @@ use Rattle.overlap_law.specs.Attempts.{AttemptRecord, object_of}
 use Rattle.overlap_law.specs.Each.{EachUp, SomeAttempt}
 use Rattle.overlap_law.specs.Fates.{IsCreated}
 use Rattle.overlap_law.specs.Holders.{is_dead_by_log}
+use Rattle.overlap_law.specs.MadeTables.{inode_of_course}
 use Rattle.overlap_law.specs.Past.{MomentWithPast}
 use Rattle.overlap_law.specs.Reached.{Hosts}
 use Rattle.overlap_law.specs.StepMoments.{SteppingNode, IsStepping, StepsByChanges, LeadsInStep, first_in_step, moment_in_step}
@@ -46,13 +47,12 @@ abbrev pub OwnEntriesAreCreated : List Effect → List AttemptRecord → ℕ →
 OwnEntriesAreCreated effects attempts epoch inode = (index : ℕ) → index < objects_of inode.spec → slice_index inode.table index ≡ inode.vid
     → is_dead effects inode.vid ≡ false → IsCreated attempts (object_number inode.vid index) epoch
 
--- so it is of each disk that a session has open, and of each one that a command opens, whose inode is being written back
+-- so it is of each disk that a session has open, and of each inode that a command is to open
 pub record OpenTablesAreMade (effects : List Effect) (hosts : Hosts) (attempts : List AttemptRecord) : Type 0 where
   pub opened : EachUp hosts (λ n node. (number : ℕ) (session : Session) (disk : Disk) → tree.get node.sessions number ≡ Some session
       → session.disk ≡ Some disk → OwnEntriesAreCreated effects attempts node.peer.epoch disk.inode)
-  pub opening : EachUp hosts (λ n node. (req : ℕ) (request : Request) (op : Op) (vid : Vid) (inode : Content)
-      → tree.get node.requests req ≡ Some request → request.course ≡ Commanding op → op.stage ≡ Working vid (WritingBack inode)
-      → OwnEntriesAreCreated effects attempts node.peer.epoch inode)
+  pub to_open : EachUp hosts (λ n node. (req : ℕ) (request : Request) (inode : Content) → tree.get node.requests req ≡ Some request
+      → inode_of_course request.course ≡ Some inode → OwnEntriesAreCreated effects attempts node.peer.epoch inode)
 
 -- a test calls each object live that has an attempt, and whose id isn't dead
 abbrev pub CallsLive : (ℕ → Bool) → List Entry → List AttemptRecord → Type 0

@@ -30,13 +30,14 @@ pub record IsCopyFrom (attempts : List AttemptRecord) (unit j index : ℕ) (byte
   pub served : is_mute attempt ≡ false
   pub same : bytes ≡ unit_part_by index unit attempt.work
 
--- the later attempts that cover the unit are mute
-pub record AreMuteAfter (attempts : List AttemptRecord) (unit j : ℕ) : Type 0 where
-  pub each : EachAttempt attempts (λ k later. j < k → covers_unit unit later ≡ true → is_mute later ≡ true)
+-- the later attempts that cover the unit add nothing to it: each is mute, or has the attempt's own parts of it
+pub record AddNothingAfter (attempts : List AttemptRecord) (unit j : ℕ) (attempt : AttemptRecord) : Type 0 where
+  pub each : EachAttempt attempts (λ k later. j < k → covers_unit unit later ≡ true
+      → (is_mute later ≡ true) ⊎ ((index : ℕ) → unit_part_by index unit later.work ≡ unit_part_by index unit attempt.work))
 
--- of strips: the attempt's own, where the later ones are mute
+-- of strips: the attempt's own, where the later ones add nothing
 pub record IsStripOf (attempts : List AttemptRecord) (unit j index : ℕ) (bytes : List ℕ) : Type 0 where
-  pub own : (attempt : AttemptRecord) → slice_get attempts j ≡ Some attempt → AreMuteAfter attempts unit j → bytes
+  pub own : (attempt : AttemptRecord) → slice_get attempts j ≡ Some attempt → AddNothingAfter attempts unit j attempt → bytes
       ≡ unit_part_by index unit attempt.work
 
 -- which of the two an object's rows are

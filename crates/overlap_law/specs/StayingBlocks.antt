@@ -107,9 +107,12 @@ pub record ItemsAreOpen (ledger : Ledger) : Type 0 where
       → slice_get (items_in (ledger.disks disk) block) place ≡ Some item → is_item_of req item ≡ true → item.mark ≡ Open
 
 -- nothing may come to be read yet of a new disk: its inode has holes alone, and its own objects nothing
-pub record IsMadeBlank (hosts : Hosts) (attempts : List AttemptRecord) (vid : ℕ) : Type 0 where
-  pub entry : (index j : ℕ) (entry : AttemptRecord) → IsEntryToCome hosts attempts vid index j entry → entry_by index entry ≡ 0
-  pub own : (index unit j : ℕ) (attempt : AttemptRecord) → IsToCome hosts attempts (object_number vid index) unit j attempt → ⊥
+pub record IsMadeBlank (effects : List Effect) (good_id : ℕ
+    → Bool) (hosts : Hosts) (attempts : List AttemptRecord) (vid : ℕ) : Type 0 where
+  pub entry : (index j : ℕ) (entry : AttemptRecord) → HasEntryOf effects good_id vid index
+      → IsEntryToCome hosts attempts vid index j entry → entry_by index entry ≡ 0
+  pub own : (index unit j : ℕ) (attempt : AttemptRecord) → HasEntryOf effects good_id vid index
+      → IsToCome hosts attempts (object_number vid index) unit j attempt → ⊥
 
 -- a new disk is like another one: each of its blocks is one of that, its inode may come to have what that has, and its own objects nothing
 pub record IsMadeLike (effects : List Effect) (good_id : ℕ
@@ -117,9 +120,11 @@ pub record IsMadeLike (effects : List Effect) (good_id : ℕ
   pub block : (index unit : ℕ) (disk : Disk) (spec : VdiSpec)
       → IsBlockOfDisk (ledger_after ledger (Copy old new)) effects good_id new disk spec index unit
       → (was : Disk) × IsBlockOfDisk ledger effects good_id old was spec index unit
-  pub entry : (index j : ℕ) (entry : AttemptRecord) → IsEntryToCome hosts attempts new index j entry
+  pub entry : (index j : ℕ) (entry : AttemptRecord) → HasEntryOf effects good_id new index
+      → IsEntryToCome hosts attempts new index j entry
       → (i : ℕ) × (other : AttemptRecord) × IsEntryToCome hosts attempts old index i other × (entry_by index other ≡ entry_by index entry)
-  pub own : (index unit j : ℕ) (attempt : AttemptRecord) → IsToCome hosts attempts (object_number new index) unit j attempt → ⊥
+  pub own : (index unit j : ℕ) (attempt : AttemptRecord) → HasEntryOf effects good_id new index
+      → IsToCome hosts attempts (object_number new index) unit j attempt → ⊥
 
 -- where a block has an item of a request that stands, the disk's inode may come to have its own id alone, and each attempt on the block
 -- that may come to be read has the item's bytes
@@ -142,7 +147,7 @@ ComesToNothing hosts attempts req = EachAttempt attempts (λ j attempt. attempt.
 
 -- what has to hold of an event that a history gets next
 abbrev pub KeepsBlocks : List Effect → (ℕ → Bool) → Hosts → List AttemptRecord → Ledger → HistEvent → Type 0
-KeepsBlocks effects good_id hosts attempts ledger (Create disk blocks) = IsMadeBlank hosts attempts disk
+KeepsBlocks effects good_id hosts attempts ledger (Create disk blocks) = IsMadeBlank effects good_id hosts attempts disk
 KeepsBlocks effects good_id hosts attempts ledger (Copy old new) = IsMadeLike effects good_id hosts attempts ledger old new
 KeepsBlocks effects good_id hosts attempts ledger (Delete disk) = Unit {0}
 KeepsBlocks effects good_id hosts attempts ledger (WriteStart req disk block coded bytes) = Unit {0}

@@ -1,12 +1,13 @@
--- What open reads were told of copies: at each unit a piece has the bytes of some attempt.
-use Rattle.std.specs.Prelude.{◌≡◌, ℕ, ◌+◌, ◌-◌, ◌≤◌, true, false, List, length, slice_get, Some}
+-- What open reads were told: at each unit a piece of a copy has the bytes of some attempt, and a piece of a row has what the row owed.
+use Rattle.std.specs.Prelude.{◌≡◌, ℕ, ◌+◌, ◌-◌, ◌≤◌, Bool, true, false, List, length, slice_get, Some}
 use Rattle.std.specs.FinMap as tree
 use Rattle.std.specs.Ordering.{nat_cmp}
 use Rattle.object_id.specs.declared.node.NodeId.{NodeId}
 use Rattle.object_id.specs.declared.oid.Kind.{Kind}
+use Rattle.object_id.specs.declared.policy.Policy.{Policy}
 use Rattle.object_id.specs.Oid.{kind_of}
 use Rattle.object_store.specs.Bytes.{piece_at}
-use Rattle.gf256.specs.Part.{is_in_strips}
+use Rattle.gf256.specs.Part.{is_in_strips, part_size}
 use Rattle.vdi_directory.specs.declared.effect.Effect.{Effect}
 use Rattle.peer_proto.specs.declared.say.PeerRsp.{PeerRsp}
 use Rattle.peer_proto.specs.declared.say.PeerSay.TheVariants.{Piece}
@@ -22,6 +23,7 @@ use Rattle.overlap_law.specs.Attempts.{AttemptRecord, attempts_on}
 use Rattle.overlap_law.specs.Each.{EachUp, SomeAttempt, policy_in}
 use Rattle.overlap_law.specs.Packets.{Wire, IsAnswering}
 use Rattle.overlap_law.specs.Reached.{Hosts}
+use Rattle.overlap_law.specs.Since.{IsSince}
 use Rattle.overlap_law.specs.Units.{unit_start, unit_size, unit_end, covers_unit, unit_part_by}
 
 -- nothing came yet of a message of a request's open work
@@ -55,3 +57,38 @@ pub record ToldPiecesAreOfAttempts (effects : List Effect) (hosts : Hosts) (wire
       → is_in_strips (policy_of work.work) (kind_of (oid_of work.work)) ≡ false
       → IsPieceOfAttempts (kind_of (oid_of work.work)) (attempts_on (oid_of work.work) attempts) message.index
       (offset_read work.work) bytes)
+
+-- a piece is cut, from an offset of the object on, of bytes that a node had of it in an epoch, and that have what it owed then
+pub record IsPieceSince (policy : Policy) (oid : ℕ) (hosts : Hosts) (attempts : List AttemptRecord) (node : NodeId) (index epoch offset : ℕ)
+    (bytes : List ℕ) : Type 0 where
+  pub row : List ℕ
+  pub size : ℕ
+  pub since : IsSince policy oid hosts attempts node index epoch epoch row
+  pub same : piece_at row (part_size policy (kind_of oid) offset) size ≡ bytes
+
+-- the part of a unit lies inside a piece that a read of the object was told, so many bytes long
+pub record IsPartInside (work : ObjWork) (unit long : ℕ) : Type 0 where
+  pub above : part_size (policy_of work) (kind_of (oid_of work)) (offset_read work)
+      ≤ part_size (policy_of work) (kind_of (oid_of work)) (unit_start (kind_of (oid_of work)) unit)
+  pub below : part_size (policy_of work) (kind_of (oid_of work)) (unit_start (kind_of (oid_of work)) unit)
+      + part_size (policy_of work) (kind_of (oid_of work)) (unit_size (kind_of (oid_of work)) unit)
+      ≤ part_size (policy_of work) (kind_of (oid_of work)) (offset_read work) + long
+
+-- and is this
+abbrev pub part_in_piece : ObjWork → ℕ → List ℕ → List ℕ
+part_in_piece work unit bytes =
+    piece_at bytes
+    (part_size (policy_of work) (kind_of (oid_of work)) (unit_start (kind_of (oid_of work)) unit)
+    - part_size (policy_of work) (kind_of (oid_of work)) (offset_read work))
+    (part_size (policy_of work) (kind_of (oid_of work)) (unit_size (kind_of (oid_of work)) unit))
+
+-- a piece of a good object, of a copy or of strips, that is on its way back to an open read, is of bytes that have what their node owed in
+-- the read's epoch
+pub record ToldPiecesAreSince (effects : List Effect) (good : ℕ → Bool) (hosts : Hosts) (wire : Wire) (attempts : List AttemptRecord)
+    : Type 0 where
+  pub each : EachUp hosts (λ n node. (req place : ℕ) (work : Work) (current : gateways.Attempt) (message : Message) (from : NodeId)
+      (rsp : PeerRsp) (bytes : List ℕ) → IsUnansweredOf node.gateway.works req work current place message
+      → IsAnswering wire (message_name n message.number) from rsp → rsp.say ≡ Piece bytes → good (oid_of work.work) ≡ true
+      → policy_in effects (oid_of work.work) ≡ Some (policy_of work.work)
+      → IsPieceSince (policy_of work.work) (oid_of work.work) hosts attempts from message.index current.epoch.0 (offset_read work.work)
+      bytes)

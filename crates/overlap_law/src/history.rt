@@ -13,12 +13,15 @@ ghost use Rattle.overlap_law.specs.Attempts.{AttemptRecord};
 ghost use Rattle.overlap_law.specs.Headline.{ledger_of};
 ghost use Rattle.overlap_law.specs.Holders.{is_object_among};
 ghost use Rattle.overlap_law.specs.HistoryGrowth.{HistoryGrows, added_at_cause, added_in};
+ghost use Rattle.overlap_law.specs.KeptHistory.{WhatIsDoneIsAlone, EntriesKeepBlocks, CommandsWriteWhatMayCome};
+ghost use Rattle.overlap_law.specs.KeptHistory.{CheckedValuesHaveItems, CreatesMayStay, RepliesAreAlone, KeepsHistory};
 ghost use Rattle.overlap_law.specs.MomentChanges.{MomentChange, MomentTrail, RunsAreInRange};
 ghost use Rattle.overlap_law.specs.Past.{MomentWithPast, run_with_past};
 ghost use Rattle.overlap_law.specs.StayingBlocks.{ItemsAreOpen, BlocksStayWritten, WorksMayStay, EntersWhatMayCome, GrowsKeeping};
 ghost use Rattle.overlap_law.specs.StayingBlocks.{DisksAreLive};
 ghost use Rattle.overlap_law.specs.StayingBlocks.{AllKeepBlocks};
 ghost use Rattle.overlap_law.specs.StayingBlocks.{InodesAreLive, ComesToNothing};
+ghost use Rattle.overlap_law.specs.Pieces.{WritesHaveItems};
 ghost use Rattle.overlap_law.specs.Tables.{EntriesAreMade, PublishedInodesAreMade};
 ghost use Rattle.overlap_law.specs.Words.{Hosts};
 ghost use Rattle.overlap_law.specs.WrittenBlocks.{BlocksAreWritten};
@@ -101,4 +104,59 @@ pub fn what_stays_written_is_written()
         → EntriesAreMade (log_effects moment.world.log) live good_id moment.past.attempts
         → BlocksStayWritten (ledger_of moment.past.history) (log_effects moment.world.log) good_id moment.world.hosts moment.past.attempts
         → BlocksAreWritten (ledger_of moment.past.history) (log_effects moment.world.log) good_id moment.world.hosts moment.past.attempts }
+{}
+
+/// In each run in range, whatever a change of a moment on the way of an event adds to the history keeps what blocks may be read as, if a
+/// write that is done in it is alone where it was written, and an entry that the log gets makes disks blank, or like other ones: who is
+/// refused, or loses its reply as a node is lost, hadn't ended, and nothing comes of what was refused.
+pub fn what_ends_keeps_blocks()
+    ensures { (script : List Statement) (events : List Event) (start before after : MomentWithPast) → RunsAreInRange script
+        → run_with_past script events ≡ Some start → MomentTrail script start before → MomentChange script start before after
+        → (good_id : ℕ → Bool) → WhatIsDoneIsAlone good_id before after → EntriesKeepBlocks good_id before after
+        → GrowsKeeping (log_effects after.world.log) good_id after.world.hosts after.past.attempts before.past.history
+        after.past.history }
+{}
+
+/// In each run in range an attempt that begins in a change, on the inode of a disk that is there, gives the inode the disk's own id, or an
+/// entry that it might come to have before, if what commands write back to inodes does: a write enters the own id, a check is on no inode,
+/// a tag goes over no entry, and the inode of an id is created before its disk is there.
+pub fn attempts_enter_what_may_come()
+    ensures { (script : List Statement) (events : List Event) (start before after : MomentWithPast) → RunsAreInRange script
+        → run_with_past script events ≡ Some start → MomentTrail script start before → MomentChange script start before after
+        → (good_id : ℕ → Bool) → CommandsWriteWhatMayCome good_id before after → EntersWhatMayCome good_id before after }
+{}
+
+/// In each run in range, behind a change of a moment on the way of an event: what an open work would make of a block of a disk's own object
+/// may be read of it, whichever requests are refused, if what writes have still to write and the values that checks write have their items
+/// among those by which the blocks may be read, and what an open create would make of a block may be.
+pub fn open_works_make_what_may_stay()
+    ensures { (script : List Statement) (events : List Event) (start before after : MomentWithPast) → RunsAreInRange script
+        → run_with_past script events ≡ Some start → MomentTrail script start before → MomentChange script start before after
+        → (good_id : ℕ → Bool) → WritesHaveItems (ledger_of after.past.history) after.world.hosts
+        → CheckedValuesHaveItems (ledger_of after.past.history) after.world.hosts
+        → CreatesMayStay (ledger_of after.past.history) (log_effects after.world.log) good_id after.world.hosts after.past.attempts
+        → WorksMayStay (ledger_of after.past.history) (log_effects after.world.log) good_id after.world.hosts after.past.attempts }
+{}
+
+/// In each run in range a write that is done in a change is one to which a node's step replies there, and that it doesn't refuse. So what
+/// is done is alone where it was written, if that is so of each such reply in the middle of a step.
+pub fn what_is_done_is_replied_to()
+    ensures { (script : List Statement) (start before after : MomentWithPast) → RunsAreInRange script → Began script start.world
+        → MomentChange script start before after → (good_id : ℕ → Bool) → RepliesAreAlone script good_id start before after
+        → WhatIsDoneIsAlone good_id before after }
+{}
+
+/// So each change of a moment on the way of an event of a run in range keeps it that what a block may come to be read as may be read of it,
+/// and that open works make what may be, by whichever tests for live objects and good ids, if the change keeps the history: what commands
+/// write and what entries make, what replies leave, what is still to write, and what is created. It is so where the entries that attempts
+/// give to inodes stand for what is made.
+pub fn each_change_keeps_blocks_written()
+    ensures { (script : List Statement) (events : List Event) (start before after : MomentWithPast) → RunsAreInRange script
+        → run_with_past script events ≡ Some start → MomentTrail script start before → MomentChange script start before after
+        → (live good_id : ℕ → Bool) → KeepsHistory script good_id start before after
+        → InodesAreLive (log_effects after.world.log) live good_id
+        → EntriesAreMade (log_effects after.world.log) live good_id after.past.attempts
+        → BlocksStayWritten (ledger_of before.past.history) (log_effects before.world.log) good_id before.world.hosts before.past.attempts
+        → BlocksStayWritten (ledger_of after.past.history) (log_effects after.world.log) good_id after.world.hosts after.past.attempts
+        × WorksMayStay (ledger_of after.past.history) (log_effects after.world.log) good_id after.world.hosts after.past.attempts }
 {}

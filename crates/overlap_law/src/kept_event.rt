@@ -9,7 +9,7 @@ ghost use Rattle.sheep_world.specs.Step.{step};
 ghost use Rattle.overlap_law.specs.Past.{MomentWithPast, run_with_past, moment_after};
 ghost use Rattle.overlap_law.specs.RunsWithAsks.{run_with_asks_and_past};
 ghost use Rattle.overlap_law.specs.MomentChanges.{RunsAreInRange};
-ghost use Rattle.overlap_law.specs.KeptSoFar.{IsKeptSoFar};
+ghost use Rattle.overlap_law.specs.KeptSoFar.{IsKeptSoFar, KeepsFacts};
 
 use cluster_script::Script;
 use disk_history::HistList;
@@ -18,7 +18,7 @@ use sheep_world::{ApplyFault, World};
 
 /// Makes an event as [`World::apply`] does, with its refusals and at its cost. Behind each run that led to the world before, and behind
 /// each run with a client's reads, the event makes a run that leads to the world after, whose history has grown by what is given; and each
-/// run of events in range that leads there keeps what has been proved of the overlap (`specs/KeptSoFar.antt`).
+/// run of events in range that leads there keeps what has been proved of the overlap, the six facts among it (`specs/KeptSoFar.antt`).
 pub fn keeps_overlap(
     script: &Script,
     world: &mut World,
@@ -41,6 +41,8 @@ pub fn keeps_overlap(
         ≡ Some (moment_after script.now event moment (record { world = world.new.world; grown = grown }))) }
     ensures kept { OnOk result ((events : List TheEvent) (moment : MomentWithPast) → RunsAreInRange script.now
         → run_with_past script.now events ≡ Some moment → moment.world ≡ world.new.world → IsKeptSoFar script.now moment) }
+    ensures facts { OnOk result ((events : List TheEvent) (moment : MomentWithPast) → RunsAreInRange script.now
+        → run_with_past script.now events ≡ Some moment → moment.world ≡ world.new.world → KeepsFacts moment) }
 {
     world.apply(script, event)
 }

@@ -333,8 +333,8 @@ pub fn attempts_of_the_refused_are_mute()
 {}
 
 /// In each world of a run in range nodes and wire go together, and so do works and requests, and all that is asked and told can be spelled;
-/// and an up node may take each step that an event has it take. For what a request in the wire creates, writes or reads ends inside the rows
-/// of its object: a read goes by the entries of an open disk's table, which name none but the disk and those above it.
+/// and an up node may take each step that an event has it take. For what a request in the wire creates, writes or reads ends inside the
+/// rows of its object: a read goes by the entries of an open disk's table, which name none but the disk and those above it.
 pub fn nodes_step_on_what_they_may()
     ensures together { (script : List Statement) (world : World) → RunsAreInRange script → Began script world → HoldsTogether script world }
     ensures may { (script : List Statement) (world : World) (n : ℕ) (host : Host) (cause : NodeCause) → RunsAreInRange script

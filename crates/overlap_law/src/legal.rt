@@ -1,6 +1,7 @@
 //! Laws of the headline's first part: that the replies so far are one legal history.
-ghost use Rattle.std.specs.Prelude.{◌≡◌, ◌≢◌, ℕ, ◌+◌, ◌≤◌, ◌++◌, Bool, false, List, None, Some};
+ghost use Rattle.std.specs.Prelude.{◌≡◌, ◌≢◌, ℕ, ◌+◌, ◌≤◌, ◌++◌, Bool, true, false, List, Option, None, Some};
 ghost use Rattle.std.specs.List.{list_any};
+ghost use Rattle.std.specs.Option.{option_map_or};
 ghost use Rattle.object_id.specs.declared.entry.Entry.{Entry};
 ghost use Rattle.inode.specs.Layout.{Content};
 ghost use Rattle.disk_history.specs.declared.event.HistEvent.{HistEvent};
@@ -8,7 +9,9 @@ ghost use Rattle.disk_history.specs.Ledger.{Ledger};
 ghost use Rattle.disk_history.specs.Ledger as histories;
 ghost use Rattle.disk_history.specs.Legal.{has_place};
 ghost use Rattle.vdi_directory.specs.declared.effect.Effect.{Effect};
+ghost use Rattle.vdi_directory.specs.Decisions.{log_effects};
 ghost use Rattle.peer_proto.specs.declared.guest.DiskAsk.TheVariants.{Read};
+ghost use Rattle.peer_proto.specs.declared.guest.GuestRsp.{GuestRsp};
 ghost use Rattle.peer_proto.specs.declared.guest.GuestRsp.TheVariants.{Piece as Told};
 ghost use Rattle.guest_driver.specs.declared.disk.Disk.{Disk};
 ghost use Rattle.guest_driver.specs.declared.extent.Extent.{Extent};
@@ -17,20 +20,36 @@ ghost use Rattle.guest_driver.specs.Driver.{Reads, DriverStep, begin_driver, dri
 ghost use Rattle.guest_driver.specs.Extent.{IsExtent, last_index_of};
 ghost use Rattle.guest_driver.specs.Refusals.{refusal_on};
 ghost use Rattle.cluster_script.specs.declared.statement.Statement.{Statement};
+ghost use Rattle.cluster_script.specs.NumberedRequests.{request_at};
+ghost use Rattle.cluster_script.specs.Statements.{is_check};
+ghost use Rattle.sheep_node.specs.declared.ask.Ask.{Ask};
+ghost use Rattle.sheep_node.specs.declared.check_write.CheckWrite.{CheckWrite};
 ghost use Rattle.sheep_node.specs.declared.event.Event.{Event};
+ghost use Rattle.sheep_node.specs.declared.input.Input.{Input};
+ghost use Rattle.sheep_node.specs.Changes.{Change, RequestSteps, ToReply};
+ghost use Rattle.sheep_node.specs.May.{May};
+ghost use Rattle.sheep_node.specs.SessionQueues.{CommandsAreAlone, QueuesAreDiskRequests};
+ghost use Rattle.sheep_node.specs.State.{Node, session_at};
+ghost use Rattle.sheep_node.specs.StepState.{StepState};
 ghost use Rattle.sheep_world.specs.Granted.{entry_adds};
-ghost use Rattle.sheep_world.specs.HistoryAdditions.{blocks_read};
+ghost use Rattle.sheep_world.specs.HistoryAdditions.{blocks_read, disk_of, reply_grown, write_ended};
+ghost use Rattle.sheep_world.specs.NodeCauses.{NodeCause};
 ghost use Rattle.sheep_world.specs.Step.{EventOutcome, step};
+ghost use Rattle.sheep_world.specs.World.{World};
 ghost use Rattle.overlap_law.specs.Attempts.{AttemptRecord};
 ghost use Rattle.overlap_law.specs.DiskEvents.{ends_write_of};
 ghost use Rattle.overlap_law.specs.Headline.{ledger_of, IsLegalWhereAvailable};
+ghost use Rattle.overlap_law.specs.HistoryGrowth.{added_at_cause, added_by_reply};
 ghost use Rattle.overlap_law.specs.Holders.{is_available_disk};
 ghost use Rattle.overlap_law.specs.MomentChanges.{MomentTrail, RunsAreInRange, MomentChange};
 ghost use Rattle.overlap_law.specs.Past.{MomentWithPast, moment_after, run_with_past};
+ghost use Rattle.overlap_law.specs.StandingReads.{asked_in, ReadsStand, AllReadsStand, IsToldAll, ReadsMayGoOn, ReadsMayGoOnIn};
+ghost use Rattle.overlap_law.specs.StandingReads.{ReadsAreKept, AllReadsAreKept, DisksWereThere, WorkingDisksAreOfHistory};
+ghost use Rattle.overlap_law.specs.StandingReads.{ReadPiecesAreToCome, OpenHolesAreToCome, EachEventTellsWhatMayBeRead};
 ghost use Rattle.overlap_law.specs.StayingBlocks.{IsHomeToCome, BlocksStayWritten};
 ghost use Rattle.overlap_law.specs.ToldReads.{WhatIsToldMayBeRead, AllElseMayFollow, MayBeReadAs, MayStayReadAs, extent_on, IsReadUpTo};
 ghost use Rattle.overlap_law.specs.ToldReads.{PieceMayBeRead, HolesMayBeRead, ReadStands, IsDiskOf, PieceIsToCome, HolesAreToCome};
-ghost use Rattle.overlap_law.specs.ToldReads.{AllKeepReadsOf, StoodBefore, begins_write_at};
+ghost use Rattle.overlap_law.specs.ToldReads.{KeepsReadsOf, AllKeepReadsOf, StoodBefore, begins_write_at};
 ghost use Rattle.overlap_law.specs.Words.{Hosts};
 
 /// Of each run, an event leaves the history legal where the reads of disks that weren't available are left out, if it was legal before: if
@@ -108,8 +127,8 @@ pub fn what_was_read_stays_so()
 {}
 
 /// In each run in range, at each moment on the way of an event too: the disks that the history has are those that the log has made, so that
-/// what an entry would add to the history, if it were put next, may come next there: it makes no disk that is there, copies none that isn't, and
-/// deletes none that was deleted.
+/// what an entry would add to the history, if it were put next, may come next there: it makes no disk that is there, copies none that
+/// isn't, and deletes none that was deleted.
 pub fn what_entries_add_may_follow()
     ensures { (script : List Statement) (events : List Event) (start moment : MomentWithPast) → RunsAreInRange script
         → run_with_past script events ≡ Some start → MomentTrail script start moment → (entry : Entry)
@@ -123,4 +142,122 @@ pub fn what_requests_did_is_told_by_events()
         → ((ledger_of history).requests req).ended ≡ list_any (ends_write_of req) history }
     ensures places { (req disk block : ℕ) (history : List HistEvent)
         → has_place ((ledger_of history).requests req) disk block ≡ list_any (begins_write_at req disk block) history }
+{}
+
+/// In each run in range of a script without checks what an event adds to the history may come next there, reads aside: a write that begins
+/// is of a request that had begun none and hadn't ended, in blocks of 512 bytes; a write that a reply ends, or whose node is lost, had
+/// begun and hadn't ended; and one that is done began blocks alone that its disk had then.
+pub fn all_else_may_follow()
+    ensures { (script : List Statement) (events : List Event) (event : Event) (before : MomentWithPast) (made : EventOutcome)
+        → RunsAreInRange script → ((req : ℕ) → option_map_or is_check (request_at script req) false ≡ false)
+        → run_with_past script events ≡ Some before → step script event before.world ≡ Some made
+        → AllElseMayFollow (ledger_of before.past.history) made.grown }
+{}
+
+/// Each change of a node on the way of a step leaves its reads where they stand: what each was told of the objects before its piece may be
+/// read of their blocks, whichever requests are refused. And a reply to a read tells all of it so. It is so by whatever ledger, if zeros
+/// may be read so of the holes of the open disks, and what comes of a piece may be read so of the piece's blocks.
+pub fn reads_stand_in_each_change()
+    ensures stand { (attempts : List AttemptRecord) (ledger : Ledger) (effects : List Effect) (good_id : ℕ → Bool)
+        (asked : ℕ → Option Ask) (input : Input) (node : Node) (so_far next : StepState) → May input node → QueuesAreDiskRequests node
+        → CommandsAreAlone node
+        → CommandsAreAlone so_far.node → Change input node so_far next
+        → ReadsMayGoOn (MayStayReadAs attempts) ledger effects good_id asked input node so_far
+        → ReadsStand (MayStayReadAs attempts) ledger effects good_id asked so_far.node
+        → ReadsStand (MayStayReadAs attempts) ledger effects good_id asked next.node }
+    ensures told { (attempts : List AttemptRecord) (ledger : Ledger) (effects : List Effect) (good_id : ℕ → Bool)
+        (asked : ℕ → Option Ask) (input : Input) (node : Node) (so_far moved : StepState) (session req : ℕ) (reply : GuestRsp)
+        (disk : Disk) → May input node
+        → QueuesAreDiskRequests node → CommandsAreAlone node → CommandsAreAlone so_far.node
+        → RequestSteps input node so_far session req (ToReply reply) moved → (session_at session so_far.node).disk ≡ Some disk
+        → ReadsMayGoOn (MayStayReadAs attempts) ledger effects good_id asked input node so_far
+        → ReadsStand (MayStayReadAs attempts) ledger effects good_id asked so_far.node
+        → IsToldAll (MayStayReadAs attempts) ledger effects good_id disk.inode (asked req) reply }
+{}
+
+/// Where the reads of a node stand by a history they stand by a later one too, and by later attempts, whichever requests are refused: if
+/// what the history gets keeps what they were told of the blocks before their pieces; what might be read so of a block still may by the
+/// later attempts; and the disks that it had were there by the log then, as they were made.
+pub fn reads_stand_as_a_history_grows()
+    ensures { (attempts later : List AttemptRecord) (history grown : List HistEvent) (effects after : List Effect) (good_id : ℕ → Bool)
+        (asked : ℕ → Option Ask) (node : Node)
+        → ((items : List histories.Item) (bytes : List ℕ) → MayStayReadAs attempts items bytes → MayStayReadAs later items bytes)
+        → DisksWereThere effects after history → ReadsAreKept attempts history grown node
+        → ReadsStand (MayStayReadAs attempts) (ledger_of history) effects good_id asked node
+        → ReadsStand (MayStayReadAs later) (ledger_of (history ++ grown)) after good_id asked node }
+{}
+
+/// Of each run in range, each change of a moment on the way of an event leaves the reads of the nodes that aren't lost where they stand, by
+/// whatever ledger, if they may go on where a step of a node does in it.
+pub fn each_change_leaves_reads_standing()
+    ensures { (script : List Statement) (events : List Event) (start before after : MomentWithPast) → RunsAreInRange script
+        → run_with_past script events ≡ Some start → MomentTrail script start before → MomentChange script start before after
+        → (attempts : List AttemptRecord) (ledger : Ledger) (effects : List Effect) (good_id : ℕ → Bool)
+        → ReadsMayGoOnIn script start before (MayStayReadAs attempts) ledger effects good_id
+        → AllReadsStand script (MayStayReadAs attempts) ledger effects good_id before.world.hosts
+        → AllReadsStand script (MayStayReadAs attempts) ledger effects good_id after.world.hosts }
+{}
+
+/// What a reply adds to the history is told as it may be read, if it tells all of its read so, whichever requests are refused, on a disk
+/// that is there, on which the request began.
+pub fn what_a_reply_tells_may_be_read()
+    ensures { (script : List Statement) (attempts : List AttemptRecord) (ledger : Ledger) (effects : List Effect) (good_id : ℕ → Bool)
+        (req : ℕ) (reply : GuestRsp) (disk : Disk) (world : World) (write : Option CheckWrite) → IsDiskOf ledger effects disk.inode
+        → IsToldAll (MayStayReadAs attempts) ledger effects good_id disk.inode (asked_in script req) reply
+        → disk_of script req world ≡ Some disk.inode.vid
+        → WhatIsToldMayBeRead good_id ledger (reply_grown script world write (req, reply)) }
+{}
+
+/// In each run in range a working disk that a session has open, in which no command goes on, is one of the history, as large as its inode
+/// says, and there by the log.
+pub fn working_disks_are_of_the_history()
+    ensures { (script : List Statement) (events : List Event) (moment : MomentWithPast) → RunsAreInRange script
+        → run_with_past script events ≡ Some moment → WorkingDisksAreOfHistory moment }
+{}
+
+/// Of each run in range, each change of a moment on the way of an event keeps where the reads of the nodes that aren't lost stand by the
+/// history, whichever requests are refused: if they may go on where a step of a node does in it, and what it adds to the history keeps what
+/// they were told of the blocks before their pieces.
+pub fn each_change_keeps_reads_standing()
+    ensures { (script : List Statement) (events : List Event) (start before after : MomentWithPast) → RunsAreInRange script
+        → run_with_past script events ≡ Some start → MomentTrail script start before → MomentChange script start before after
+        → (good_id : ℕ → Bool)
+        → ReadsMayGoOnIn script start before (MayStayReadAs before.past.attempts) (ledger_of before.past.history)
+        (log_effects before.world.log) good_id → AllReadsAreKept script start before after
+        → AllReadsStand script (MayStayReadAs before.past.attempts) (ledger_of before.past.history) (log_effects before.world.log) good_id
+        before.world.hosts
+        → AllReadsStand script (MayStayReadAs after.past.attempts) (ledger_of after.past.history) (log_effects after.world.log) good_id
+        after.world.hosts }
+{}
+
+/// Of each run in range, in the middle of whatever step of an event: the reads of the node that steps may go on, whichever requests are
+/// refused, where what comes of their pieces is to come, and the holes of open disks are, if what a block may come to be read as may be
+/// read of it. For the disks that sessions have open are sound, and a step brings what the script has asked.
+pub fn reads_may_go_on_with_what_is_to_come()
+    ensures { (script : List Statement) (events : List Event) (start before : MomentWithPast) → RunsAreInRange script
+        → run_with_past script events ≡ Some start → MomentTrail script start before
+        → (ledger : Ledger) (effects : List Effect) (good_id : ℕ → Bool)
+        → BlocksStayWritten ledger effects good_id before.world.hosts before.past.attempts → OpenHolesAreToCome before
+        → ReadPiecesAreToCome script start before ledger effects good_id
+        → ReadsMayGoOnIn script start before (MayStayReadAs before.past.attempts) ledger effects good_id }
+{}
+
+/// What the beginning of a step adds to the history keeps what was read of a block, whatever it is, and so does what a reply adds, if the
+/// end of the write that it ends does.
+pub fn what_a_step_adds_keeps_reads()
+    ensures begins { (attempts : List AttemptRecord) (ledger : Ledger) (vid block : ℕ) (script : List Statement) (world : World)
+        (cause : NodeCause) → AllKeepReadsOf attempts ledger vid block (added_at_cause script world cause) }
+    ensures replies { (attempts : List AttemptRecord) (ledger : Ledger) (vid block : ℕ) (script : List Statement) (world : World)
+        (cause : NodeCause) (reply : ℕ × GuestRsp) → (list_any (ends_write_of reply.0) (added_by_reply script world cause reply) ≡ true
+        → KeepsReadsOf attempts ledger vid block (write_ended reply.0 reply.1))
+        → AllKeepReadsOf attempts ledger vid block (added_by_reply script world cause reply) }
+{}
+
+/// The replies of each run in range of a script without checks are one legal history, the reads of disks that weren't available left out,
+/// if each event tells reads of disks that were available up to there what may be read.
+pub fn what_reads_are_told_decides()
+    ensures { (script : List Statement) → RunsAreInRange script
+        → ((req : ℕ) → option_map_or is_check (request_at script req) false ≡ false) → EachEventTellsWhatMayBeRead script
+        → (events : List Event) (moment : MomentWithPast) → run_with_past script events ≡ Some moment
+        → IsLegalWhereAvailable moment.past }
 {}

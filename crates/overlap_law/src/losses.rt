@@ -10,8 +10,8 @@ ghost use Rattle.overlap_law.specs.FewLosses.{LossesAreFew, LossesStayFew};
 ghost use Rattle.overlap_law.specs.Holders.{is_kept_in, is_available};
 
 /// On a large enough cluster few losses leave enough live holders. An object is kept in an epoch, if the epoch's members stand in as many
-/// zones as the object has copies or strips, and at most one less than there are copies, or as many as there are parity strips, of them don't
-/// count for the epoch. So it is available, if that is so of each epoch since its birth, or since the settled one, if that is later.
+/// zones as the object has copies or strips, and at most one less than there are copies, or as many as there are parity strips, of them
+/// don't count for the epoch. So it is available, if that is so of each epoch since its birth, or since the settled one, if that is later.
 pub fn few_losses_leave_enough_live_holders()
     ensures kept { (counts : NodeId → ℕ → Bool) (log : List Entry) (oid : ℕ) (policy : Policy) (epoch : ℕ) → IsLog log
         → epoch ≤ epoch_of log → LossesAreFew counts log oid policy epoch → IsTrue (is_kept_in counts log oid policy epoch) }

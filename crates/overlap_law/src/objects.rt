@@ -9,7 +9,7 @@ ghost use Rattle.overlap_law.specs.Fates.{CreatesComeFirst};
 ghost use Rattle.overlap_law.specs.Holders.{targets_by, is_good, is_available_disk};
 ghost use Rattle.overlap_law.specs.Lists.{WhatIsNotPendingIsThere};
 ghost use Rattle.overlap_law.specs.MomentChanges.{IsOnTheWay, RunsAreInRange};
-ghost use Rattle.overlap_law.specs.NoObjects.{NothingIsLacked, NoObjectIsMissing};
+ghost use Rattle.overlap_law.specs.NoObjects.{NothingIsLacked, NoObjectIsMissing, NoObjects};
 ghost use Rattle.overlap_law.specs.Overlap.{OverlapGivesObjects};
 ghost use Rattle.overlap_law.specs.Past.{MomentWithPast, run_with_past};
 ghost use Rattle.overlap_law.specs.Tables.{every_id, TablesAreMade, PublishedInodesAreMade};
@@ -59,20 +59,12 @@ pub fn the_overlap_gives_objects()
 {}
 
 /// In each run in range no message for a disk that was available, and is neither deleted nor given back, is lacked, and no object is
-/// missing at the event that comes next, if what the tables of such disks name was created at each moment to which events lead. For then
-/// what a node with a finished list hasn't pending is there.
+/// missing at the event that comes next. For what the tables of such disks name was created, and what a node with a finished list hasn't
+/// pending is there.
 pub fn no_object_is_lacked()
     ensures nowhere { (script : List Statement) → RunsAreInRange script
-        → ((events : List Event) (moment : MomentWithPast) → run_with_past script events ≡ Some moment
-        → TablesAreMade (log_effects moment.world.log) (is_available_disk moment.world.log moment.past.unavailable) moment.world.hosts
-        moment.past.attempts)
         → (events : List Event) (moment : MomentWithPast) → run_with_past script events ≡ Some moment
         → NothingIsLacked (log_effects moment.world.log) (is_available_disk moment.world.log moment.past.unavailable) moment.world.hosts
         moment.world.wire }
-    ensures missing { (script : List Statement) → RunsAreInRange script
-        → ((events : List Event) (moment : MomentWithPast) → run_with_past script events ≡ Some moment
-        → TablesAreMade (log_effects moment.world.log) (is_available_disk moment.world.log moment.past.unavailable) moment.world.hosts
-        moment.past.attempts)
-        → (events : List Event) (before : MomentWithPast) (event : Event) (made : EventOutcome)
-        → run_with_past script events ≡ Some before → step script event before.world ≡ Some made → NoObjectIsMissing script before made }
+    ensures missing { (script : List Statement) → RunsAreInRange script → NoObjects script }
 {}

@@ -70,7 +70,8 @@ pub fn the_overlap_holds_of_fewer()
         → OverlapAt few_live few_good few_ids moment }
 {}
 
-/// The moment that a script opens with has the invariant, if the script's runs are in range: nobody has asked, written or recovered anything.
+/// The moment that a script opens with has the invariant, if the script's runs are in range: nobody has asked, written or recovered
+/// anything.
 pub fn a_script_opens_with_the_overlap()
     ensures { (script : List Statement) → RunsAreInRange script → OverlapOf script (first_moment script) }
 {}

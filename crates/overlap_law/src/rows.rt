@@ -66,8 +66,8 @@ pub fn requests_are_of_attempts()
         → run_with_past script events ≡ Some moment → MakersAreOfAttempts moment.world.wire moment.past.attempts }
 {}
 
-/// In each run in range what nodes have rows of, have still to recover, and search, and what their recoveries were told of, was born; so was
-/// what lists on their way name. An object that is born with an event has nothing before it.
+/// In each run in range what nodes have rows of, have still to recover, and search, and what their recoveries were told of, was born; so
+/// was what lists on their way name. An object that is born with an event has nothing before it.
 pub fn what_nodes_have_was_born()
     ensures { (script : List Statement) (events : List Event) (moment : MomentWithPast) → RunsAreInRange script
         → run_with_past script events ≡ Some moment

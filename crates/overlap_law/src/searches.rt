@@ -72,9 +72,9 @@ pub fn told_rows_keep_what_they_owe()
         → ToldRowsAreSince (log_effects after.world.log) good after.world.hosts after.world.wire after.past.attempts }
 {}
 
-/// In each run in range, at each moment on the way of an event too, while answers of a level are awaited and none was refused or lost, those
-/// awaited and those kept are all that it is asked of: its targets that are members of the recovery's epoch, but for the node itself. So it
-/// is of every object whose policy the log knows.
+/// In each run in range, at each moment on the way of an event too, while answers of a level are awaited and none was refused or lost,
+/// those awaited and those kept are all that it is asked of: its targets that are members of the recovery's epoch, but for the node itself.
+/// So it is of every object whose policy the log knows.
 pub fn levels_are_asked()
     ensures { (script : List Statement) (events : List Event) (start moment : MomentWithPast) (good : ℕ → Bool) → RunsAreInRange script
         → run_with_past script events ≡ Some start → MomentTrail script start moment
@@ -91,9 +91,9 @@ pub fn what_a_search_passes_lacks_rows()
 {}
 
 /// Whichever objects are good, as long as their ids aren't dead: in each run in range each change of a moment on the way of an event leaves
-/// nothing missing that was made before the recovery's epoch, if before the change nothing such is missing, the rows of recovered epochs are
-/// kept, and attempts carried on. For an object is missing only once the level at which the nodes hold it has ended with too few rows, and
-/// there are enough.
+/// nothing missing that was made before the recovery's epoch, if before the change nothing such is missing, the rows of recovered epochs
+/// are kept, and attempts carried on. For an object is missing only once the level at which the nodes hold it has ended with too few rows,
+/// and there are enough.
 pub fn the_made_stays_unmissed()
     ensures { (script : List Statement) (events : List Event) (start before after : MomentWithPast) → RunsAreInRange script
         → run_with_past script events ≡ Some start → MomentTrail script start before → MomentChange script start before after
@@ -108,8 +108,8 @@ pub fn the_made_stays_unmissed()
 
 /// Whichever objects are good, as long as their ids aren't dead: in each run in range each change of a moment on the way of an event keeps,
 /// at a node whose list was finished before the change, in the same epoch, that of what was made up to that epoch, and of which the node is
-/// a target, it has an open row, or the object is pending, if that was so before, and nothing that was made is missing after the change. For
-/// an object is pending no more only once its row is there, or it is missing; and what is made later of an earlier epoch than the
+/// a target, it has an open row, or the object is pending, if that was so before, and nothing that was made is missing after the change.
+/// For an object is pending no more only once its row is there, or it is missing; and what is made later of an earlier epoch than the
 /// recovery's is doomed.
 pub fn what_was_there_stays_there()
     ensures { (script : List Statement) (events : List Event) (start before after : MomentWithPast) → RunsAreInRange script

@@ -21,14 +21,18 @@ ghost use Rattle.object_id.specs.declared.oid.Vid.{Vid};
 ghost use Rattle.object_id.specs.Oid.{inode_number};
 ghost use Rattle.overlap_law.specs.Fates.{IsCreated};
 ghost use Rattle.overlap_law.specs.Grants.{publishes, published_in};
-ghost use Rattle.overlap_law.specs.MomentChanges.{MomentChange, MomentTrail, RunsAreInRange};
+ghost use Rattle.overlap_law.specs.Holders.{is_available_disk};
+ghost use Rattle.overlap_law.specs.MadeTables.{TablesNameWhatIsMade};
+ghost use Rattle.overlap_law.specs.MomentChanges.{MomentChange, MomentTrail, TrailLeft, IsOnTheWay, RunsAreInRange};
+ghost use Rattle.overlap_law.specs.NamedWorks.{AboveIsGood, InodesNameWhatIsMade};
+ghost use Rattle.overlap_law.specs.OpenTables.{CallsLive};
 ghost use Rattle.overlap_law.specs.OpenWorks.{IsOpenAs};
 ghost use Rattle.overlap_law.specs.Past.{MomentWithPast, run_with_past};
 ghost use Rattle.overlap_law.specs.Sessions.{HoldsDisk};
 ghost use Rattle.overlap_law.specs.StepMoments.{SteppingNode, IsStepping, StepsByChanges, LeadsInStep, IsWithinStep, first_in_step};
 ghost use Rattle.overlap_law.specs.StepMoments.{moment_in_step};
 ghost use Rattle.overlap_law.specs.Tables.{entry_by, candidates, EntriesAreMade, OwnEntriesAreMade, PublishedInodesAreMade};
-ghost use Rattle.overlap_law.specs.Tables.{TablesAreTheInodes, SnapshotsAreFrozen, TablesAreMade};
+ghost use Rattle.overlap_law.specs.Tables.{TablesAreOfTheChain, TablesAreTheInodes, SnapshotsAreFrozen, TablesAreMade};
 ghost use Rattle.overlap_law.specs.ToCome.{IsToCome, IsEntryToCome, SnapshotsStayFrozen, OpenInodesAreCreated, TablesStayTheInodes};
 ghost use Rattle.overlap_law.specs.ToDo.{WorksNameWhatIsMade};
 ghost use Rattle.overlap_law.specs.Words.{is_made};
@@ -75,6 +79,23 @@ pub fn what_attempts_name_stays_made()
         → (live good_id : ℕ → Bool)
         → WorksNameWhatIsMade (log_effects after.world.log) good_id after.world.hosts after.past.attempts
         → OwnEntriesAreMade live before.past.attempts → OwnEntriesAreMade live after.past.attempts }
+{}
+
+/// Of each run in range, each change of a moment on the way of an event keeps that the entries which attempts gave to inodes, and those
+/// that works are to give to them, stand for objects that were created, of ids that a test calls good; if it calls good what is above a
+/// good id, and if in the moment before it the entries of sessions' tables stand for such objects. For an inode that a command creates is a
+/// new disk's, which has holes alone; or it takes the place of an open disk, and has the entries of that one's table; or it is a clone's,
+/// and has those that attempts gave to the inode of the disk above it, which was read. And the tests for good ids with which events end
+/// call good what is above a good id, at each moment on the way.
+pub fn what_inodes_name_stays_made()
+    ensures kept { (script : List Statement) (events : List Event) (start before after : MomentWithPast) → RunsAreInRange script
+        → run_with_past script events ≡ Some start → MomentTrail script start before → MomentChange script start before after
+        → (live good_id : ℕ → Bool) → CallsLive live before.world.log before.past.attempts
+        → AboveIsGood (log_effects before.world.log) good_id
+        → TablesAreMade (log_effects before.world.log) good_id before.world.hosts before.past.attempts
+        → InodesNameWhatIsMade live good_id before → InodesNameWhatIsMade live good_id after }
+    ensures above { (script : List Statement) (start moment end : MomentWithPast) → TrailLeft script start moment end
+        → AboveIsGood (log_effects moment.world.log) (is_available_disk end.world.log end.past.unavailable) }
 {}
 
 /// Of each run in range, over each change of a moment on the way of an event a unit may come to be read by an attempt that was there only
@@ -158,19 +179,50 @@ pub fn tables_are_the_inodes_by_what_may_come()
         → TablesAreTheInodes (log_effects moment.world.log) good_id moment.world.hosts moment.past.attempts }
 {}
 
-/// Of each run in range, each change of a moment on the way of an event keeps that the entries of sessions' tables name objects that were
-/// created by the epoch of their node, whichever ids are good, if it does so as a node goes on in its step: by any other change no session
-/// has another table.
-pub fn tables_stay_made_between_steps()
+/// Of each run in range, each change of a moment on the way of an event keeps that the entries of sessions' tables, and those of the inodes
+/// that commands are to open, stand for objects that were created by the epoch of their node, of ids that a test calls good; if it calls
+/// good what is above a good id, and if in the moment before it the entries that attempts gave to inodes stand for such objects. For a
+/// table gets an entry by the write of it that is done, of an object that was created; a table that is read has what attempts gave to the
+/// inode; and an id that takes the place of an open disk has the table of that one.
+pub fn what_tables_name_stays_made()
     ensures { (script : List Statement) (events : List Event) (start before after : MomentWithPast) → RunsAreInRange script
         → run_with_past script events ≡ Some start → MomentTrail script start before → MomentChange script start before after
-        → (good_id : ℕ → Bool)
-        → ((stepping : SteppingNode) (so_far next : StepState) → IsStepping script start.world stepping → StepsByChanges stepping.cause
-        → IsWithinStep stepping so_far next → before ≡ moment_in_step script stepping start so_far
-        → after ≡ moment_in_step script stepping start next
-        → TablesAreMade (log_effects after.world.log) good_id after.world.hosts after.past.attempts)
-        → TablesAreMade (log_effects before.world.log) good_id before.world.hosts before.past.attempts
-        → TablesAreMade (log_effects after.world.log) good_id after.world.hosts after.past.attempts }
+        → (live good_id : ℕ → Bool) → CallsLive live before.world.log before.past.attempts
+        → AboveIsGood (log_effects before.world.log) good_id
+        → EntriesAreMade (log_effects before.world.log) live good_id before.past.attempts
+        → TablesNameWhatIsMade (log_effects before.world.log) good_id before.world.hosts before.past.attempts
+        → TablesNameWhatIsMade (log_effects after.world.log) good_id after.world.hosts after.past.attempts }
+{}
+
+/// In each run in range, of disks that were available up to there: the entries of sessions' tables, and of the inodes that commands are to
+/// open, stand for objects that were created by the epoch of their node, if the disk isn't dead; the entries that attempts gave to inodes
+/// stand for objects that were created by the attempt's epoch, whichever objects are live; and those that works are to give to inodes, for
+/// objects that were created by now. So it is at each moment on the way of an event too, of the disks that are available up to the event's
+/// end.
+pub fn what_is_named_is_made()
+    ensures tables { (script : List Statement) (events : List Event) (moment : MomentWithPast) → RunsAreInRange script
+        → run_with_past script events ≡ Some moment
+        → TablesNameWhatIsMade (log_effects moment.world.log) (is_available_disk moment.world.log moment.past.unavailable)
+        moment.world.hosts moment.past.attempts }
+    ensures inodes { (script : List Statement) (events : List Event) (moment : MomentWithPast) → RunsAreInRange script
+        → run_with_past script events ≡ Some moment → (live : ℕ → Bool)
+        → InodesNameWhatIsMade live (is_available_disk moment.world.log moment.past.unavailable) moment }
+    ensures tables_on_the_way { (script : List Statement) (events : List Event) (event : Event) (start end before after : MomentWithPast)
+        → RunsAreInRange script → IsOnTheWay script events event start end before after
+        → TablesNameWhatIsMade (log_effects after.world.log) (is_available_disk end.world.log end.past.unavailable) after.world.hosts
+        after.past.attempts }
+    ensures inodes_on_the_way { (script : List Statement) (events : List Event) (event : Event) (start end before after : MomentWithPast)
+        → RunsAreInRange script → IsOnTheWay script events event start end before after → (live : ℕ → Bool)
+        → InodesNameWhatIsMade live (is_available_disk end.world.log end.past.unavailable) after }
+{}
+
+/// In each run in range, at each moment on the way of an event too, the own entries of the tables of open disks stand for objects that were
+/// created by the epoch of their node, if the disk isn't dead, whether or not it was available. So such a table names none but the disk and
+/// those above it, and of the disk itself what was created.
+pub fn own_entries_of_tables_are_made()
+    ensures { (script : List Statement) (events : List Event) (start moment : MomentWithPast) → RunsAreInRange script
+        → run_with_past script events ≡ Some start → MomentTrail script start moment
+        → TablesAreOfTheChain (log_effects moment.world.log) moment.world.hosts moment.past.attempts }
 {}
 
 /// In each run in range the inode of a disk that a session holds, and whose node has read the grant, was created by the node's epoch; and

@@ -103,10 +103,10 @@ pub fn tables_are_of_the_chain()
         → run_with_past script events ≡ Some start → MomentTrail script start moment → TablesAreWhole moment.world.hosts }
 {}
 
-/// In runs in range each change of a moment keeps that the own entries of the tables of open disks, and of those that commands are opening,
-/// stand for objects that were created by their node's epoch, where the disk isn't dead. It does so if in the moment before it what works
-/// write into inodes names what was created, and so do the own entries that attempts gave to inodes: what is read of an inode as its disk
-/// is opened has its entries of those.
+/// In runs in range each change of a moment keeps that the own entries of the tables of open disks, and of the inodes that commands are to
+/// open, stand for objects that were created by their node's epoch, where the disk isn't dead. It does so if in the moment before it what
+/// works write into inodes names what was created, and so do the own entries that attempts gave to inodes: what is read of an inode as its
+/// disk is opened has its entries of those.
 pub fn own_entries_of_tables_stay_made()
     ensures { (script : List Statement) (events : List Event) (start before after : MomentWithPast) (live good_id : ℕ → Bool)
         → RunsAreInRange script → run_with_past script events ≡ Some start → MomentTrail script start before

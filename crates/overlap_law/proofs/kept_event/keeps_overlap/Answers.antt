@@ -4,6 +4,7 @@ use Rattle.sheep_world.specs.World.{World}
 use Rattle.sheep_world.specs.Step.{step}
 use Rattle.overlap_law.proofs.AskedRuns.{with_asks-event}
 use Rattle.overlap_law.proofs.RunsWithOneMore.{run_with_one_more}
+use Rattle.overlap_law.proofs.KeptFacts.{facts_kept}
 use Rattle.overlap_law.proofs.KeptSoFar.{kept_so_far}
 use Rattle.overlap_law.proofs.kept_event.keeps_overlap.Goals as goal
 
@@ -29,4 +30,10 @@ pub returns-clause-kept : goal.returns-clause-kept
 returns-clause-kept c =
     IfOk-weaker c.apply.result _ _
     (λ grown made events moment range is at. kept_so_far c.args.script.now range events moment is)
+    c.apply.ensures.made
+
+pub returns-clause-facts : goal.returns-clause-facts
+returns-clause-facts c =
+    IfOk-weaker c.apply.result _ _
+    (λ grown made events moment range is at. facts_kept c.args.script.now range events moment is)
     c.apply.ensures.made

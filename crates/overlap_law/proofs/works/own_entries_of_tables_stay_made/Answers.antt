@@ -1,6 +1,6 @@
 use Rattle.overlap_law.proofs.LastReads.{last_reads-in_run}
 use Rattle.overlap_law.proofs.OpeningReads.{reads_name}
-use Rattle.overlap_law.proofs.OwnTablesSaid.{tables_stay_made}
+use Rattle.overlap_law.proofs.OwnTables.{tables_stay_made}
 use Rattle.overlap_law.proofs.works.own_entries_of_tables_stay_made.Goals as goal
 
 pub returns : goal.returns

@@ -1,0 +1,357 @@
+-- Which disk a session has open after a change of its node: the one that it had, or that one after a step of a read or write, or one that
+-- its command opens now. A snapshot's inode was read, a disk's was written back, or a disk was decided that takes the place of another.
+use Rattle.std.specs.Option.{option_and_then, option_map_or}
+use Rattle.std.specs.FinMap as tree
+use Rattle.std.proofs.lemmas.Bool.{cases_eq}
+use Rattle.std.proofs.lemmas.Option.{same_Some}
+use Rattle.proof_tools.proofs.FiniteMaps.{get-insert_same, get-insert_other}
+use Rattle.object_id.specs.declared.cause.Cause.TheVariants.{Halt}
+use Rattle.object_id.specs.declared.entry.Entry.{Entry}
+use Rattle.object_id.specs.declared.entry.Entry.TheVariants as entries
+use Rattle.object_id.specs.declared.entry.Origin.TheVariants.{Fresh, SnapshotOf, CloneOf}
+use Rattle.object_id.specs.declared.node.NodeId.{NodeId}
+use Rattle.object_id.specs.declared.oid.Vid.{Vid}
+use Rattle.inode.specs.Layout.{Content}
+use Rattle.peer_proto.specs.declared.guest.GuestRsp.{GuestRsp}
+use Rattle.peer_proto.specs.declared.guest.VdiAsk.{VdiAsk}
+use Rattle.peer_service.specs.State.{effects_of}
+use Rattle.peer_service.specs.LogReading.{decision_on}
+use Rattle.gateway.specs.declared.message.Status.{Status}
+use Rattle.gateway.specs.Work.{zones_for}
+use Rattle.gateway.specs.State.{Work}
+use Rattle.guest_driver.specs.declared.disk.Disk.{Disk}
+use Rattle.guest_driver.specs.InodeQueue as lines
+use Rattle.peer_proto.specs.declared.guest.DiskAsk.{DiskAsk}
+use Rattle.vdi_directory.specs.declared.decision.Decision.{Decision}
+use Rattle.vdi_directory.specs.declared.decision.Decision.TheVariants as decisions
+use Rattle.vdi_directory.specs.declared.effect.Effect.{Effect}
+use Rattle.vdi_directory.specs.declared.header.Header.{Header}
+use Rattle.vdi_directory.specs.Chains.{chain_of}
+use Rattle.vdi_directory.specs.Effects.{header_of}
+use Rattle.vdi_ops.specs.Entries.{first_entry}
+use Rattle.vdi_ops.specs.Steps.{first_step, begin_command, tag_step, copy_step, change_without_grant, step_after_grant}
+use Rattle.vdi_ops.specs.Steps.{step_after_decision, done_at, task_done, decided_at, op_on_done, on_decision}
+use Rattle.sheep_node.specs.declared.course.Course.TheVariants.{Commanding}
+use Rattle.sheep_node.specs.declared.input.Input.{Input}
+use Rattle.sheep_node.specs.declared.session.Session.{Session}
+use Rattle.sheep_node.specs.State.{Node, new_session}
+use Rattle.sheep_node.specs.StepState.{StepState, session_in, request_ended}
+use Rattle.sheep_node.specs.Courses.{disk_after, inode_open, after_driver_step, after_command_step}
+use Rattle.sheep_node.specs.Changes as changes
+use Rattle.sheep_node.specs.Changes.{without_ended_work, Outcome, ToWork, ToEntry, ToReply, without_denied_work, zones_of_members}
+use Rattle.sheep_node.specs.Changes.{RequestSteps, DiskBegins, DiskGoesOn, CommandBegins, CommandGoesOn, CommandDecided, CheckBegins}
+use Rattle.sheep_node.specs.Changes.{CheckGoesOn, ObjectBegins, ObjectIsDone, EntryBegins, EntryDecided, WorkIsNext, AtOnce, InTurn, Again}
+use Rattle.sheep_node.specs.Changes.{AgainAlone, Change}
+use Rattle.sheep_node.proofs.QueueChanges.{same_view}
+use Rattle.sheep_node.proofs.RefusedCourses.{course_refused-keeps, request_refused-keeps}
+use Rattle.sheep_node.proofs.OneWorkParts.{Sessions}
+use Rattle.std.proofs.Common.{◌≡◌, ◌≢◌, ◌⊎◌, inl, inr, ⊎_elim, ℕ, true, false, List, Option, Some, None, option_map}
+use Rattle.std.proofs.Common.{IfSome, unwrap_or, refl, sym, ap, subst, ◌∙◌}
+use Rattle.gateway.specs.Attempt.{Attempt}
+use Rattle.guest_driver.specs.Driver as drivers
+use Rattle.guest_driver.specs.Driver.{Driver}
+use Rattle.vdi_ops.specs.Op.{DiskChange, Stays, Opens, Closes, Op, OpStep, OpStage, Asked, Working, Publishing, Answered, disk_change}
+use Rattle.vdi_ops.specs.Op.{Task, Opening, WritingBack, Tagging, Copying, Making}
+use Rattle.sheep_node.specs.declared.course.Course.TheVariants.{Driving}
+use Rattle.sheep_node.specs.Changes.{EndsWork}
+use Rattle.sheep_node.specs.SessionQueues.{session_among}
+use Rattle.overlap_law.specs.OpenedTables.{OpensNow, ReadsIt, WroteIt, ByWork, ByEntry}
+use Rattle.overlap_law.proofs.DriverNames.{driver_begins-stays}
+
+-- how a session comes to have this disk open
+pub data DiskAfter (input : Input) (node : Node) (so_far : StepState) (q : ℕ) (disk : Disk) : Type 0 where
+  Stayed : (session_among q so_far.node.sessions).disk ≡ Some disk → DiskAfter input node so_far q disk
+  Drove : (was : Disk) (req number : ℕ) (work : Work) (attempt : Attempt) (status : Status) (bytes : List ℕ) (driver : Driver)
+      (step : drivers.DriverStep) → EndsWork input node so_far q req number work attempt status (Driving driver) bytes
+      → (session_among q so_far.node.sessions).disk ≡ Some was → drivers.driver_on_done was.inode bytes driver ≡ Some step
+      → disk ≡ record was { inode = step.inode } → DiskAfter input node so_far q disk
+  Opened : OpensNow input node so_far q disk → DiskAfter input node so_far q disk
+
+-- ---- what a command opens
+
+-- what becomes of the open disk is this one
+abbrev OpensAs : Disk → DiskChange → Type 0
+OpensAs disk Stays = ⊥
+OpensAs disk (Opens snapshot inode) = disk ≡ record { inode = inode; snapshot = snapshot }
+OpensAs disk Closes = ⊥
+
+opened_by : (disk : Disk) (change : DiskChange) (o : Option Disk) → disk_after change o ≡ Some disk → (o ≡ Some disk) ⊎ OpensAs disk change
+opened_by disk Stays o is = inl is
+opened_by disk (Opens snapshot inode) o is = inr (sym (same_Some (record { inode = inode; snapshot = snapshot }) disk is))
+opened_by disk Closes o is = absurd (cc (is))
+
+module _ (opened : Disk) where
+  abbrev OpensNone : OpStep → Type 0
+  OpensNone step = OpensAs opened (disk_change step) → ⊥
+
+  begins_none : (by : NodeId) (session : ℕ) (ask : VdiAsk) (disk : Option Content) (step : OpStep)
+      → begin_command by session ask disk ≡ Some step → OpensNone step
+  unfolding begin_command
+  begins_none by session ask disk step is =
+      subst (λ (o : Option OpStep). IfSome o OpensNone) is (by_entry (first_entry by session disk ask))
+    where
+      by_entry : (o : Option Entry) → IfSome (option_map (first_step by session) o) OpensNone
+      by_entry None = tt
+      by_entry (Some entry) = λ never. never
+
+  module _ (op : Op) where
+    ungranted_none : (entry : Entry) → OpensAs opened (change_without_grant entry) → ⊥
+    ungranted_none (entries.Format members) never = never
+    ungranted_none (entries.Join node zone vnodes) never = never
+    ungranted_none (entries.Leave node) never = never
+    ungranted_none (entries.Reweight node vnodes) never = never
+    ungranted_none (entries.Recovered node epoch) never = never
+    ungranted_none (entries.Reserve by session name origin) never = never
+    ungranted_none (entries.Publish by of) never = never
+    ungranted_none (entries.Clone by of) never = never
+    ungranted_none (entries.Snapshot by old of) never = never
+    ungranted_none (entries.Delete by session name tag) never = never
+    ungranted_none (entries.Lock by session name tag) never = never
+    ungranted_none (entries.Unlock by session of) never = never
+
+    tagged_none : (of : Vid) (tag : List ℕ) (header : Header) (disk : Option Content)
+        → IfSome (option_map (tag_step op of tag header) disk) OpensNone
+    tagged_none of tag header None = tt
+    tagged_none of tag header (Some old) = λ never. never
+
+    copied_none : (of : Vid) (chain : List ℕ) (header : Header) (parent : Option Vid)
+        → IfSome (option_map (copy_step op of chain header) parent) OpensNone
+    copied_none of chain header None = tt
+    copied_none of chain header (Some parent) = λ never. never
+
+    granted_none : (of : Vid) (chain : List ℕ) (disk : Option Content) (entry : Entry) (header : Header)
+        → IfSome (step_after_grant op of chain disk entry header) OpensNone
+    granted_none of chain disk (entries.Format members) header = tt
+    granted_none of chain disk (entries.Join node zone vnodes) header = tt
+    granted_none of chain disk (entries.Leave node) header = tt
+    granted_none of chain disk (entries.Reweight node vnodes) header = tt
+    granted_none of chain disk (entries.Recovered node epoch) header = tt
+    granted_none of chain disk (entries.Reserve by session name (Fresh spec)) header = λ never. never
+    granted_none of chain disk (entries.Reserve by session name (SnapshotOf tag)) header = tagged_none of tag header disk
+    granted_none of chain disk (entries.Reserve by session name (CloneOf base tag)) header = copied_none of chain header header.parent
+    granted_none of chain disk (entries.Publish by id) header = tt
+    granted_none of chain disk (entries.Clone by id) header = tt
+    granted_none of chain disk (entries.Snapshot by old id) header = tt
+    granted_none of chain disk (entries.Delete by session name tag) header = λ never. never
+    granted_none of chain disk (entries.Lock by session name tag) header = λ never. never
+    granted_none of chain disk (entries.Unlock by session id) header = λ never. never
+
+    decided_none : (known : List Effect) (disk : Option Content) (entry : Entry) (decision : Decision)
+        → IfSome (step_after_decision known disk op entry decision) OpensNone
+    decided_none known disk entry decisions.None = ungranted_none entry
+    decided_none known disk entry (decisions.Granted of) = by_header (header_of known of.0)
+      where
+        by_header : (o : Option Header) → IfSome (option_and_then (step_after_grant op of (chain_of known of.0) disk entry) o) OpensNone
+        by_header None = tt
+        by_header (Some header) = granted_none of (chain_of known of.0) disk entry header
+    decided_none known disk entry (decisions.Refused cause) = ungranted_none entry
+
+    -- and of it what it was about to
+    module _ (input : Input) (node : Node) (so_far : StepState) (q req : ℕ) where
+      task_opens : (number : ℕ) (work : Work) (attempt : Attempt) (status : Status) (bytes : List ℕ) (of : Vid) (task : Task)
+          → EndsWork input node so_far q req number work attempt status (Commanding op) bytes → op.stage ≡ Working of task
+          → OpensAs opened (disk_change (task_done op of bytes task)) → OpensNow input node so_far q opened
+      task_opens number work attempt status bytes of (Opening true ids header) ends at is =
+          ByWork (ReadsIt req number work attempt status bytes op of ids header ends at is)
+      task_opens number work attempt status bytes of (Opening false ids header) ends at never = absurd never
+      task_opens number work attempt status bytes of (WritingBack inode) ends at is =
+          ByWork (WroteIt req number work attempt status bytes op of inode ends at is)
+      task_opens number work attempt status bytes of (Tagging old inode) ends at never = absurd never
+      task_opens number work attempt status bytes of (Copying ids header) ends at never = absurd never
+      task_opens number work attempt status bytes of (Making entry made) ends at never = absurd never
+
+      goes_opens : (number : ℕ) (work : Work) (attempt : Attempt) (status : Status) (bytes : List ℕ) (step : OpStep)
+          → EndsWork input node so_far q req number work attempt status (Commanding op) bytes → op_on_done bytes op ≡ Some step
+          → OpensAs opened (disk_change step) → OpensNow input node so_far q opened
+      unfolding op_on_done
+      goes_opens number work attempt status bytes step ends next is = by_stage op.stage refl next
+        where
+          by_stage : (stage : OpStage) → op.stage ≡ stage → done_at bytes op stage ≡ Some step → OpensNow input node so_far q opened
+          by_stage (Asked entry) at next = absurd (cc (next))
+          by_stage (Working of task) at next =
+              task_opens number work attempt status bytes of task ends at
+              (subst (λ (s : OpStep). OpensAs opened (disk_change s)) (sym (same_Some (task_done op of bytes task) step next)) is)
+          by_stage (Publishing entry made) at next = absurd (cc (next))
+          by_stage (Answered change) at next = absurd (cc (next))
+
+      published_opens : (entry : Entry) (made : Option Content) → op.stage ≡ Publishing entry made
+          → tree.get so_far.node.requests req ≡ Some (record { session = q; course = Commanding op })
+          → OpensAs opened (option_map_or (Opens false) made Stays) → OpensNow input node so_far q opened
+      published_opens entry None at there never = absurd never
+      published_opens entry (Some inode) at there is = ByEntry req op entry inode there at is
+
+      decided_opens : (known : List Effect) (disk : Option Content) (decision : Decision) (step : OpStep)
+          → tree.get so_far.node.requests req ≡ Some (record { session = q; course = Commanding op })
+          → on_decision known disk decision op ≡ Some step → OpensAs opened (disk_change step) → OpensNow input node so_far q opened
+      unfolding on_decision
+      decided_opens known disk decision step there next is = by_stage op.stage refl next
+        where
+          by_stage : (stage : OpStage) → op.stage ≡ stage → decided_at known disk decision op stage ≡ Some step
+              → OpensNow input node so_far q opened
+          by_stage (Asked entry) at next =
+              absurd (subst (λ (o : Option OpStep). IfSome o OpensNone) next (decided_none known disk entry decision) is)
+          by_stage (Working of task) at next = absurd (cc (next))
+          by_stage (Publishing entry made) at next =
+              published_opens entry made at there
+              (subst (λ (o : Option OpStep). IfSome o (λ (s : OpStep). OpensAs opened (disk_change s)
+              → OpensAs opened (option_map_or (Opens false) made Stays))) next (λ same. same) is)
+          by_stage (Answered change) at next = absurd (cc (next))
+
+-- ---- over a change of a node
+
+module _ (q : ℕ) (disk : Disk) (input : Input) (node : Node) where
+  abbrev After : StepState → Type 0
+  After so_far = DiskAfter input node so_far q disk
+
+  module _ (origin : StepState) where
+    abbrev AreFrom : Sessions → Type 0
+    AreFrom sessions = (session_among q sessions).disk ≡ Some disk → After origin
+
+    abbrev From : StepState → Type 0
+    From so_far = AreFrom so_far.node.sessions
+
+    alike_from : (sessions : Sessions) (number : ℕ) (session : Session) → session.disk ≡ (session_among number sessions).disk
+        → AreFrom sessions → AreFrom (tree.insert sessions number session)
+    alike_from sessions number session same from is =
+        from (sym (same_view (λ (s : Session). s.disk) sessions number session same q) ∙ is)
+
+    ended_from : (session req : ℕ) (reply : GuestRsp) (so_far : StepState) → From so_far → From (request_ended session req reply so_far)
+    unfolding request_ended
+    ended_from session req reply so_far from = alike_from so_far.node.sessions session _ refl from
+
+    freed_from : (session req : ℕ) (work : Work) (status : Status) (so_far : StepState) → From so_far
+        → From (without_ended_work session req work status so_far)
+    freed_from session req work status so_far from = alike_from so_far.node.sessions session _ refl from
+
+    -- another disk is put in the place of the session's
+    put_from : (sessions : Sessions) (number : ℕ) (session : Session) → (q ≡ number → session.disk ≡ Some disk → After origin)
+        → AreFrom sessions → AreFrom (tree.insert sessions number session)
+    put_from sessions number session own from is = ⊎_elim
+        (λ (here : q ≡ number).
+        own here
+        (sym (ap (λ (o : Option Session). (unwrap_or o new_session).disk) (get-insert_same sessions number session))
+        ∙ ap (λ (k : ℕ). (session_among k (tree.insert sessions number session)).disk) (sym here) ∙ is))
+        (λ (apart : q ≢ number).
+        from (sym (ap (λ (o : Option Session). (unwrap_or o new_session).disk) (get-insert_other sessions number session q apart)) ∙ is))
+        (cases_eq q number)
+
+    command_from : (session req : ℕ) (step : OpStep) (so_far : StepState)
+        → (q ≡ session → OpensAs disk (disk_change step) → After origin) → From so_far
+        → From (after_command_step session req step so_far)
+    command_from session req step so_far opens from =
+        put_from so_far.node.sessions session (record (session_in session so_far) {
+          disk = disk_after (disk_change step) (session_in session so_far).disk;
+          command = Some req;
+        })
+        (λ own is. ⊎_elim
+        (λ (had : (session_in session so_far).disk ≡ Some disk).
+        from (ap (λ (k : ℕ). (session_among k so_far.node.sessions).disk) own ∙ had))
+        (λ (now : OpensAs disk (disk_change step)). opens own now)
+        (opened_by disk (disk_change step) (session_in session so_far).disk is)) from
+
+  from_itself : (so_far : StepState) → From so_far so_far
+  from_itself so_far is = Stayed is
+
+  sole_from : (session req : ℕ) (origin so_far : StepState) → From origin so_far
+      → AreFrom origin (tree.insert so_far.node.sessions session (record (session_in session so_far) { command = Some req }))
+  sole_from session req origin so_far from =
+      alike_from origin so_far.node.sessions session (record (session_in session so_far) { command = Some req }) refl from
+
+  -- a read or write leaves its disk as it begins
+  begins_from : (session req : ℕ) (ask : DiskAsk) (on : Disk) (so_far : StepState) → (session_in session so_far).disk ≡ Some on
+      → From so_far (after_driver_step session req on (drivers.begin_driver on ask) so_far)
+  begins_from session req ask on so_far opened =
+      put_from so_far so_far.node.sessions session (record (session_in session so_far) {
+        disk = Some (record on { inode = (drivers.begin_driver on ask).inode });
+      })
+      (λ own is.
+      let same : Some on ≡ Some disk
+      = ap (λ (i : Content). Some (record on { inode = i })) (sym (driver_begins-stays on ask)) ∙ is in
+      Stayed (ap (λ (k : ℕ). (session_among k so_far.node.sessions).disk) own ∙ opened ∙ same)) (from_itself so_far)
+
+  -- and changes it where a work of it is done
+  drives_from : (so_far : StepState) (session req number : ℕ) (work : Work) (attempt : Attempt) (status : Status) (bytes : List ℕ)
+      (driver : Driver) (was : Disk) (step : drivers.DriverStep)
+      → EndsWork input node so_far session req number work attempt status (Driving driver) bytes
+      → (session_in session (without_ended_work session req work status so_far)).disk ≡ Some was
+      → drivers.driver_on_done was.inode bytes driver ≡ Some step
+      → From so_far (after_driver_step session req was step (without_ended_work session req work status so_far))
+  drives_from so_far session req number work attempt status bytes driver was step ends on is =
+      put_from so_far freed.node.sessions session (record (session_in session freed) { disk = Some (record was { inode = step.inode }) })
+      (λ own same.
+      Drove was req number work attempt status bytes driver step
+      (subst (λ (k : ℕ). EndsWork input node so_far k req number work attempt status (Driving driver) bytes) (sym own) ends)
+      (ap (λ (k : ℕ). (session_among k so_far.node.sessions).disk) own
+      ∙ sym (same_view (λ (s : Session). s.disk) so_far.node.sessions session
+      (record (session_in session so_far) { inode_queue = lines.queue_after_end (session_in session so_far).inode_queue work.work }) refl
+      session) ∙ on) is
+      (sym (same_Some (record was { inode = step.inode }) disk same)))
+      (freed_from so_far session req work status so_far (from_itself so_far))
+    where
+      freed : StepState
+      freed = without_ended_work session req work status so_far
+
+  steps_from : (so_far : StepState) (session req : ℕ) (next : Outcome) (moved : StepState)
+      → RequestSteps input node so_far session req next moved → From so_far moved
+  steps_from so_far session req next moved (DiskBegins ask on there opened may) = begins_from session req ask on so_far opened
+  steps_from so_far session req next moved (DiskGoesOn number work attempt status bytes driver was step ends on is) =
+      drives_from so_far session req number work attempt status bytes driver was step ends on is
+  steps_from so_far session req next moved (CommandBegins ask step arrival is) =
+      command_from so_far session req step so_far
+      (λ own opens.
+      absurd (begins_none disk so_far.node.me session ask (inode_open (session_in session so_far).disk) step is opens)) (from_itself so_far)
+  steps_from so_far session req next moved (CommandGoesOn number work attempt status bytes op step ends is) =
+      command_from so_far session req step (without_ended_work session req work status so_far)
+      (λ own opens.
+      Opened (goes_opens disk op input node so_far q req number work attempt status bytes step
+      (subst (λ (k : ℕ). EndsWork input node so_far k req number work attempt status (Commanding op) bytes) (sym own) ends) is opens))
+      (freed_from so_far session req work status so_far (from_itself so_far))
+  steps_from so_far session req next moved (CommandDecided entry op step from read there waits is) =
+      command_from so_far session req step so_far
+      (λ own opens.
+      Opened (decided_opens disk op input node so_far q req (effects_of so_far.node.peer) (inode_open (session_in session so_far).disk)
+      (decision_on entry node.peer) step
+      (there ∙ ap (λ (k : ℕ). Some (record { session = k; course = Commanding op })) (sym own)) is opens)) (from_itself so_far)
+  steps_from so_far session req next moved (CheckBegins inode arrival on) = sole_from session req so_far so_far (from_itself so_far)
+  steps_from so_far session req next moved (CheckGoesOn number work attempt status bytes check step ends is) =
+      sole_from session req so_far (without_ended_work session req work status so_far)
+      (freed_from so_far session req work status so_far (from_itself so_far))
+  steps_from so_far session req next moved (ObjectBegins asked arrival) = sole_from session req so_far so_far (from_itself so_far)
+  steps_from so_far session req next moved (ObjectIsDone number work attempt status bytes asked ends) =
+      freed_from so_far session req work status so_far (from_itself so_far)
+  steps_from so_far session req next moved (EntryBegins entry arrival) = sole_from session req so_far so_far (from_itself so_far)
+  steps_from so_far session req next moved (EntryDecided entry wanted from read there waits) = from_itself so_far
+
+  next_from : (so_far : StepState) (session req : ℕ) (asked : Work) (lined : StepState)
+      → WorkIsNext input node so_far session req asked lined → From so_far lined
+  next_from so_far session req asked lined (AtOnce work moved steps begins) =
+      alike_from so_far moved.node.sessions session _ refl (steps_from so_far session req (ToWork work) moved steps)
+  next_from so_far session req asked lined (InTurn work later none is) =
+      alike_from so_far so_far.node.sessions session _ refl (from_itself so_far)
+  next_from so_far session req asked lined (Again work course from next there request) = from_itself so_far
+  next_from so_far session req asked lined (AgainAlone work from next there none) = from_itself so_far
+
+  pub disk_from : (so_far next : StepState) → Change input node so_far next → From so_far next
+  disk_from so_far next (changes.Marks req number work attempt status learns over) = from_itself so_far
+  disk_from so_far next (changes.Fails session req number work attempt status course ends done why) = from_itself so_far
+  disk_from so_far next (changes.Stops session req number work attempt status course bytes ends over) =
+      freed_from so_far session req work status so_far (from_itself so_far)
+  disk_from so_far next (changes.Refuses session req number work attempt status course cause ends done why) =
+      course_refused-keeps (From so_far) (ended_from so_far) (λ entry before now. now) session req cause course
+      (without_ended_work session req work status so_far) (freed_from so_far session req work status so_far (from_itself so_far))
+  disk_from so_far next (changes.Opens session req asked lined comes enough) = next_from so_far session req asked lined comes
+  disk_from so_far next (changes.Holds session req asked lined comes short touched) = next_from so_far session req asked lined comes
+  disk_from so_far next (changes.Denies session req asked lined request comes short untouched there own) =
+      request_refused-keeps (From so_far) (ended_from so_far) (λ entry before now. now) req
+      (Halt (zones_of_members lined.node) (zones_for asked.work)) request (without_denied_work session req asked lined)
+      (alike_from so_far lined.node.sessions session _ refl (next_from so_far session req asked lined comes))
+  disk_from so_far next (changes.Strays req work gateway there none apart) = from_itself so_far
+  disk_from so_far next (changes.Lines session req work moved steps waits) =
+      alike_from so_far moved.node.sessions session _ refl (steps_from so_far session req (ToWork work) moved steps)
+  disk_from so_far next (changes.Appends session req entry moved steps) = steps_from so_far session req (ToEntry entry) moved steps
+  disk_from so_far next (changes.Replies session req reply moved steps) =
+      ended_from so_far session req reply moved (steps_from so_far session req (ToReply reply) moved steps)
+  disk_from so_far next (changes.Arrives session req ask disk arrival on) =
+      alike_from so_far so_far.node.sessions session _ refl (from_itself so_far)
+  disk_from so_far next (changes.Rejects session req ask cause arrival) = from_itself so_far
+  disk_from so_far next (changes.Recovers due) = from_itself so_far

@@ -1,0 +1,212 @@
+-- A command comes to the creation of the inode that takes a disk's place only by the tag that it writes to the disk's, and to its
+-- publication only by the creation: by no decision, and not as it begins.
+use Rattle.std.proofs.Common.{◌≡◌, ℕ, Bool, true, false, List, Option, Some, None, option_map}
+use Rattle.std.proofs.Common.{IfSome, refl, sym, ap, subst, ◌∙◌}
+use Rattle.std.specs.Option.{option_and_then, option_map_or}
+use Rattle.std.proofs.lemmas.Option.{same_Some}
+use Rattle.object_id.specs.declared.entry.Entry.{Entry}
+use Rattle.object_id.specs.declared.entry.Entry.TheVariants as entries
+use Rattle.object_id.specs.declared.entry.Origin.TheVariants.{Fresh, SnapshotOf, CloneOf}
+use Rattle.object_id.specs.declared.node.NodeId.{NodeId}
+use Rattle.object_id.specs.declared.oid.Vid.{Vid}
+use Rattle.inode.specs.Layout.{Content}
+use Rattle.peer_proto.specs.declared.guest.VdiAsk.{VdiAsk}
+use Rattle.vdi_directory.specs.declared.decision.Decision.{Decision}
+use Rattle.vdi_directory.specs.declared.decision.Decision.TheVariants as decisions
+use Rattle.vdi_directory.specs.declared.effect.Effect.{Effect}
+use Rattle.vdi_directory.specs.declared.header.Header.{Header}
+use Rattle.vdi_directory.specs.Chains.{chain_of}
+use Rattle.vdi_directory.specs.Effects.{header_of}
+use Rattle.vdi_ops.specs.Entries.{first_entry}
+use Rattle.vdi_ops.specs.Op.{DiskChange, Stays, Opens, Closes, Op, OpStep, OpStage, Asked, Working, Publishing, Answered}
+use Rattle.vdi_ops.specs.Op.{Task, Opening, WritingBack, Tagging, Copying, Making}
+use Rattle.vdi_ops.specs.Steps.{first_step, begin_command, tag_step, copy_step, change_without_grant, step_after_grant}
+use Rattle.vdi_ops.specs.Steps.{step_after_decision, done_at, task_done, decided_at, op_on_done, on_decision}
+use Rattle.std.proofs.Common.{is_some, ◌∷◌}
+use Rattle.vdi_ops.specs.Tables.{inode_by}
+use Rattle.overlap_law.proofs.StagesFrom.{IsOfWorks}
+
+-- what holds of no command that has just begun, or whose entry was decided
+pub record IsNoneAtFirst (P : OpStage → Type 0) : Type 0 where
+  pub asked : (entry : Entry) → P (Asked entry) → ⊥
+  pub answered : (change : DiskChange) → P (Answered change) → ⊥
+  pub opening : (vid : Vid) (snapshot : Bool) (ids : List ℕ) (header : Header) → P (Working vid (Opening snapshot ids header)) → ⊥
+  pub tagging : (vid old : Vid) (inode : Content) → P (Working vid (Tagging old inode)) → ⊥
+  pub copying : (vid : Vid) (ids : List ℕ) (header : Header) → P (Working vid (Copying ids header)) → ⊥
+  pub making : (vid : Vid) (entry : Entry) → P (Working vid (Making entry None)) → ⊥
+
+module _ (P : OpStage → Type 0) (none : IsNoneAtFirst P) where
+  abbrev Never : OpStep → Type 0
+  Never step = P step.op.stage → ⊥
+
+  pub none_begins : (by : NodeId) (session : ℕ) (ask : VdiAsk) (disk : Option Content) (step : OpStep)
+      → begin_command by session ask disk ≡ Some step → P step.op.stage → ⊥
+  unfolding begin_command
+  none_begins by session ask disk step is =
+      subst (λ (o : Option OpStep). IfSome o Never) is (by_entry (first_entry by session disk ask))
+    where
+      by_entry : (o : Option Entry) → IfSome (option_map (first_step by session) o) (λ (step : OpStep). P step.op.stage → ⊥)
+      by_entry None = tt
+      by_entry (Some entry) = none.asked entry
+
+  module _ (op : Op) where
+    tagged_none : (of : Vid) (tag : List ℕ) (header : Header) (disk : Option Content)
+        → IfSome (option_map (tag_step op of tag header) disk) Never
+    tagged_none of tag header None = tt
+    tagged_none of tag header (Some old) = none.tagging of (record { 0 = old.vid }) (inode_by header of.0 old.table)
+
+    copied_none : (of : Vid) (chain : List ℕ) (header : Header) (parent : Option Vid)
+        → IfSome (option_map (copy_step op of chain header) parent) Never
+    copied_none of chain header None = tt
+    copied_none of chain header (Some parent) = none.copying of chain header
+
+    granted_none : (of : Vid) (chain : List ℕ) (disk : Option Content) (entry : Entry) (header : Header)
+        → IfSome (step_after_grant op of chain disk entry header) Never
+    granted_none of chain disk (entries.Format members) header = tt
+    granted_none of chain disk (entries.Join node zone vnodes) header = tt
+    granted_none of chain disk (entries.Leave node) header = tt
+    granted_none of chain disk (entries.Reweight node vnodes) header = tt
+    granted_none of chain disk (entries.Recovered node epoch) header = tt
+    granted_none of chain disk (entries.Reserve by session name (Fresh spec)) header = none.making of (entries.Publish op.by of)
+    granted_none of chain disk (entries.Reserve by session name (SnapshotOf tag)) header = tagged_none of tag header disk
+    granted_none of chain disk (entries.Reserve by session name (CloneOf base tag)) header = copied_none of chain header header.parent
+    granted_none of chain disk (entries.Publish by id) header = tt
+    granted_none of chain disk (entries.Clone by id) header = tt
+    granted_none of chain disk (entries.Snapshot by old id) header = tt
+    granted_none of chain disk (entries.Delete by session name tag) header = none.answered Stays
+    granted_none of chain disk (entries.Lock by session name tag) header =
+        none.opening of (is_some tag) (of.0 ∷ chain) header
+    granted_none of chain disk (entries.Unlock by session id) header = none.answered Closes
+
+    decided_none : (known : List Effect) (disk : Option Content) (entry : Entry) (decision : Decision)
+        → IfSome (step_after_decision known disk op entry decision) Never
+    decided_none known disk entry decisions.None = none.answered (change_without_grant entry)
+    decided_none known disk entry (decisions.Granted of) = by_header (header_of known of.0)
+      where
+        by_header : (o : Option Header) → IfSome (option_and_then (step_after_grant op of (chain_of known of.0) disk entry) o) Never
+        by_header None = tt
+        by_header (Some header) = granted_none of (chain_of known of.0) disk entry header
+    decided_none known disk entry (decisions.Refused cause) = none.answered (change_without_grant entry)
+
+    pub none_decided : (known : List Effect) (disk : Option Content) (decision : Decision) (step : OpStep)
+        → on_decision known disk decision op ≡ Some step → P step.op.stage → ⊥
+    unfolding on_decision
+    none_decided known disk decision step is = subst (λ (o : Option OpStep). IfSome o Never) is (by_stage op.stage)
+      where
+        by_made : (entry : Entry) (made : Option Content)
+            → P (Answered (option_map_or (Opens false) made Stays)) → ⊥
+        by_made entry made = none.answered (option_map_or (Opens false) made Stays)
+
+        by_stage : (stage : OpStage) → IfSome (decided_at known disk decision op stage) (λ (step : OpStep). P step.op.stage → ⊥)
+        by_stage (Asked entry) = decided_none known disk entry decision
+        by_stage (Working of task) = tt
+        by_stage (Publishing entry made) = by_made entry made
+        by_stage (Answered change) = tt
+
+-- ---- the creation of this inode, and its publication
+
+abbrev pub IsMakingTask : Content → Task → Type 0
+IsMakingTask inode (Opening snapshot ids header) = ⊥
+IsMakingTask inode (WritingBack other) = ⊥
+IsMakingTask inode (Tagging old other) = ⊥
+IsMakingTask inode (Copying ids header) = ⊥
+IsMakingTask inode (Making entry made) = made ≡ Some inode
+
+abbrev pub IsMakingStage : Content → OpStage → Type 0
+IsMakingStage inode (Asked entry) = ⊥
+IsMakingStage inode (Working vid task) = IsMakingTask inode task
+IsMakingStage inode (Publishing entry made) = ⊥
+IsMakingStage inode (Answered change) = ⊥
+
+abbrev pub IsPublishingStage : Content → OpStage → Type 0
+IsPublishingStage inode (Asked entry) = ⊥
+IsPublishingStage inode (Working vid task) = ⊥
+IsPublishingStage inode (Publishing entry made) = made ≡ Some inode
+IsPublishingStage inode (Answered change) = ⊥
+
+-- the tag was written, or the creation done
+abbrev pub WasTagging : Content → Op → Type 0
+WasTagging inode op = (vid : Vid) × (old : Vid) × (op.stage ≡ Working vid (Tagging old inode))
+
+abbrev pub WasMaking : Content → Op → Type 0
+WasMaking inode op = (vid : Vid) × (entry : Entry) × (op.stage ≡ Working vid (Making entry (Some inode)))
+
+module _ (inode : Content) where
+  no_making : IsNoneAtFirst (IsMakingStage inode)
+  no_making = record {
+    asked = λ entry never. never;
+    answered = λ change never. never;
+    opening = λ vid snapshot ids header never. never;
+    tagging = λ vid old other never. never;
+    copying = λ vid ids header never. never;
+    making = λ vid entry same. cc (same);
+  }
+
+  no_publishing : IsNoneAtFirst (IsPublishingStage inode)
+  no_publishing = record {
+    asked = λ entry never. never;
+    answered = λ change never. never;
+    opening = λ vid snapshot ids header never. never;
+    tagging = λ vid old other never. never;
+    copying = λ vid ids header never. never;
+    making = λ vid entry never. never;
+  }
+
+  module _ (op : Op) (bytes : List ℕ) (step : OpStep) where
+    tagged : (of : Vid) (task : Task) → op.stage ≡ Working of task → IsMakingStage inode (task_done op of bytes task).op.stage
+        → WasTagging inode op
+    tagged of (Opening true ids header) at is = absurd is
+    tagged of (Opening false ids header) at is = absurd is
+    tagged of (WritingBack other) at is = absurd is
+    tagged of (Tagging old other) at is =
+        (of, old, at ∙ ap (λ (i : Content). Working of (Tagging old i)) (same_Some other inode is))
+    tagged of (Copying ids header) at is = absurd (cc (is))
+    tagged of (Making entry made) at is = absurd is
+
+    done_tagging : op_on_done bytes op ≡ Some step → IsMakingStage inode step.op.stage → WasTagging inode op
+    unfolding op_on_done
+    done_tagging next is = by_stage op.stage refl next
+      where
+        by_stage : (stage : OpStage) → op.stage ≡ stage → done_at bytes op stage ≡ Some step → WasTagging inode op
+        by_stage (Asked entry) at next = absurd (cc (next))
+        by_stage (Working of task) at next =
+            tagged of task at
+            (subst (λ (s : OpStep). IsMakingStage inode s.op.stage) (sym (same_Some (task_done op of bytes task) step next)) is)
+        by_stage (Publishing entry made) at next = absurd (cc (next))
+        by_stage (Answered change) at next = absurd (cc (next))
+
+    created : (of : Vid) (task : Task) → op.stage ≡ Working of task → IsPublishingStage inode (task_done op of bytes task).op.stage
+        → WasMaking inode op
+    created of (Opening true ids header) at is = absurd is
+    created of (Opening false ids header) at is = absurd is
+    created of (WritingBack other) at is = absurd is
+    created of (Tagging old other) at is = absurd is
+    created of (Copying ids header) at is = absurd is
+    created of (Making entry made) at is =
+        (of, entry, at ∙ ap (λ (o : Option Content). Working of (Making entry o)) is)
+
+    done_making : op_on_done bytes op ≡ Some step → IsPublishingStage inode step.op.stage → WasMaking inode op
+    unfolding op_on_done
+    done_making next is = by_stage op.stage refl next
+      where
+        by_stage : (stage : OpStage) → op.stage ≡ stage → done_at bytes op stage ≡ Some step → WasMaking inode op
+        by_stage (Asked entry) at next = absurd (cc (next))
+        by_stage (Working of task) at next =
+            created of task at
+            (subst (λ (s : OpStep). IsPublishingStage inode s.op.stage) (sym (same_Some (task_done op of bytes task) step next)) is)
+        by_stage (Publishing entry made) at next = absurd (cc (next))
+        by_stage (Answered change) at next = absurd (cc (next))
+
+  pub making_of_works : IsOfWorks (IsMakingStage inode) (WasTagging inode)
+  making_of_works = record {
+    begins = λ by session ask disk step is. none_begins (IsMakingStage inode) no_making by session ask disk step is;
+    decided = λ known disk decision op step is. none_decided (IsMakingStage inode) no_making op known disk decision step is;
+    goes = λ op bytes step is holds. done_tagging op bytes step is holds;
+  }
+
+  pub publishing_of_works : IsOfWorks (IsPublishingStage inode) (WasMaking inode)
+  publishing_of_works = record {
+    begins = λ by session ask disk step is. none_begins (IsPublishingStage inode) no_publishing by session ask disk step is;
+    decided = λ known disk decision op step is. none_decided (IsPublishingStage inode) no_publishing op known disk decision step is;
+    goes = λ op bytes step is holds. done_making op bytes step is holds;
+  }

@@ -1,0 +1,185 @@
+-- What is to hold of the inodes that sessions have open, and of those that commands are to open, is so over each change of a node, if it
+-- is where an entry is entered, where an inode is read as its disk is opened, and where an id takes the place of its disk.
+use Rattle.std.proofs.Common.{◌≡◌, arith, ℕ, true, Bool, List, [], ◌∷◌, ◌++◌, length, Option, Some, sym, ap, subst, ◌∙◌}
+use Rattle.std.specs.FinMap as tree
+use Rattle.object_id.specs.declared.cause.Cause.TheVariants.{Halt}
+use Rattle.object_id.specs.declared.entry.Entry.{Entry}
+use Rattle.object_id.specs.declared.oid.Vid.{Vid}
+use Rattle.object_id.specs.Oid.{IsVid}
+use Rattle.inode.specs.Layout.{Content}
+use Rattle.peer_service.specs.State.{effects_of}
+use Rattle.peer_service.specs.LogReading.{decision_on}
+use Rattle.vdi_directory.specs.declared.effect.Effect.{Effect}
+use Rattle.vdi_directory.specs.declared.header.Header.{Header}
+use Rattle.gateway.specs.Attempt.{Attempt}
+use Rattle.gateway.specs.State.{Work}
+use Rattle.gateway.specs.Work.{zones_for}
+use Rattle.gateway.specs.declared.message.Status.{Status}
+use Rattle.guest_driver.specs.declared.disk.Disk.{Disk}
+use Rattle.guest_driver.specs.InodeQueue as lines
+use Rattle.guest_driver.specs.Driver.{begin_driver}
+use Rattle.guest_driver.specs.Pieces.{Piece}
+use Rattle.guest_driver.specs.PieceWorks.{write_entry, table_with_entry}
+use Rattle.vdi_ops.specs.Op.{Opening, Working, Op}
+use Rattle.vdi_ops.specs.Steps.{on_decision}
+use Rattle.vdi_ops.specs.Tables.{table_in, inode_by}
+use Rattle.disk_check.specs.Check.{begin_check}
+use Rattle.sheep_node.specs.declared.input.Input.{Input}
+use Rattle.sheep_node.specs.declared.input.Input.TheVariants as inputs
+use Rattle.sheep_node.specs.declared.course.Course.TheVariants.{Waiting, Driving, Commanding, Checking, DoingWork, AwaitingDecision}
+use Rattle.sheep_node.specs.AwaitedEntry.{waits_for_entry}
+use Rattle.sheep_node.specs.State.{Node}
+use Rattle.sheep_node.specs.StepState.{StepState, session_in}
+use Rattle.sheep_node.specs.SessionQueues.{session_among}
+use Rattle.sheep_node.specs.Courses.{inode_open}
+use Rattle.sheep_node.specs.LogReading.{entry_read}
+use Rattle.sheep_node.specs.SoundWorks.{IsSoundWork, HasSoundWorks}
+use Rattle.sheep_node.specs.WantedWorks.{IsWorkWanted}
+use Rattle.sheep_node.specs.Guests.{queued_as}
+use Rattle.sheep_node.specs.Changes as changes
+use Rattle.sheep_node.specs.Changes.{HasRequest, IsSoundStep, Outcome, ToWork, ToEntry, ToReply, EndsWork, without_ended_work}
+use Rattle.sheep_node.specs.Changes.{without_denied_work}
+use Rattle.sheep_node.specs.Changes.{zones_of_members, RequestSteps, DiskBegins, DiskGoesOn, CommandBegins, CommandGoesOn, CommandDecided}
+use Rattle.sheep_node.specs.Changes.{CheckBegins, CheckGoesOn, ObjectBegins, ObjectIsDone, EntryBegins, EntryDecided, WorkIsNext}
+use Rattle.sheep_node.specs.Changes.{AtOnce, InTurn, Again, AgainAlone, Change}
+use Rattle.sheep_node.proofs.RefusedCourses.{course_refused-keeps, request_refused-keeps}
+use Rattle.sheep_node.proofs.SoundChanges.{IsKnown}
+use Rattle.sheep_node.proofs.ValidityChanges.{AnySent, disk_valid, course_valid}
+use Rattle.overlap_law.proofs.DoneWorks.{wanted, same_disk}
+use Rattle.overlap_law.proofs.DriverNames.{driver_begins-stays}
+use Rattle.overlap_law.proofs.KnownDisks.{FewAt, known_validity}
+use Rattle.overlap_law.proofs.KnownDiskSteps.{AreOnKnown, IsKnownSoFar}
+use Rattle.overlap_law.proofs.TableWalk.{IsSoOpen, AreSoFar, TakesOver, open_so, opened_so, session_so, request_so, ended_so, freed_so}
+use Rattle.overlap_law.proofs.TableWalk.{sole_so}
+use Rattle.overlap_law.proofs.TableWalk.{driven_so, goes_so, commanded_so, command_begins-so, command_goes_on-so, command_decided-so}
+
+-- where the reading of an inode ends, as its disk is opened, it is so of the inode with the table that was read
+abbrev pub OpeningsRead : (Content → Type 0) → Input → Node → StepState → Type 0
+OpeningsRead T input node so_far =
+    (session req number : ℕ) (work : Work) (attempt : Attempt) (status : Status) (op : Op) (bytes : List ℕ) (vid : Vid)
+    (snapshot : Bool) (ids : List ℕ) (header : Header)
+    → EndsWork input node so_far session req number work attempt status (Commanding op) bytes
+    → op.stage ≡ Working vid (Opening snapshot ids header) → T (inode_by header vid.0 (table_in ids header.spec bytes))
+
+module _ (T : Content → Type 0) (known : List Effect) {input : Input} {node : Node} (sound : IsSoundStep input node)
+    (read : (entry : Entry) → input ≡ inputs.LogEntry entry → effects_of (entry_read entry node).peer ≡ known) where
+  -- what is known beside it where a change begins
+  pub record KnowsTables (so_far : StepState) : Type 0 where
+    pub waits : IsKnown so_far
+    pub sound_here : HasSoundWorks so_far.node
+    pub on_known : AreOnKnown known so_far.node
+    pub enters : (session req : ℕ) (work : Work) (disk : Disk) (piece : Piece) → tree.get so_far.node.gateway.works req ≡ Some work
+        → (session_in session so_far).disk ≡ Some disk → work.work ≡ write_entry disk.inode piece → IsVid disk.inode.vid → FewAt piece
+        → T disk.inode → T (table_with_entry disk.inode piece)
+    pub openings : OpeningsRead T input node so_far
+    pub takes : (entry : Entry) (session req : ℕ) (op : Op) → input ≡ inputs.LogEntry entry → HasRequest session req (Commanding op) so_far
+        → waits_for_entry entry (Commanding op) ≡ true
+        → TakesOver T known (inode_open (session_in session so_far).disk) (decision_on entry node.peer) op.stage
+
+  abbrev AreSo : StepState → Type 0
+  AreSo = AreSoFar T
+
+  known_step : (so_far : StepState) → KnowsTables so_far → IsKnownSoFar known (length so_far.outputs.sends) so_far
+  known_step so_far knows = (knows.on_known, record { few = omega arith; sent = λ k d within. tt; to_put = λ k d within. tt })
+
+  steps_so : (so_far : StepState) (session req : ℕ) (next : Outcome) (moved : StepState)
+      → RequestSteps input node so_far session req next moved
+      → KnowsTables so_far → AreSo so_far → AreSo moved
+  steps_so so_far session req next moved (DiskBegins ask disk there on may) knows all =
+      let is = subst (IsSoOpen T) on (open_so T session so_far all) in
+      driven_so T session req disk (begin_driver disk ask) so_far (subst T (sym (driver_begins-stays disk ask)) is) all
+  steps_so so_far session req next moved (DiskGoesOn number work attempt status bytes driver disk step ends on is) knows all =
+      let one : IsSoundWork work = knows.sound_here.open_works req work ends.ends.learns.there in
+      let here : (session_among session so_far.node.sessions).disk ≡ Some disk
+      = sym (same_disk sound so_far session req number work attempt status (Driving driver) bytes ends knows.waits one) ∙ on in
+      let wants = subst (λ (o : Option Disk). IsWorkWanted (inode_open o) (Driving driver) work.work) here
+      (wanted sound so_far session req number work attempt status (Driving driver) bytes ends knows.waits one) in
+      let disk_known = disk_valid (known_validity known) AnySent session so_far disk here (known_step so_far knows) in
+      let few = course_valid (known_validity known) AnySent session req (Driving driver) so_far ends.ends.request
+      (known_step so_far knows) in
+      let was = subst (IsSoOpen T) here (open_so T session so_far all) in
+      driven_so T session req disk step (without_ended_work session req work status so_far)
+      (goes_so T disk.inode bytes driver step work is was wants few
+      (λ piece entering at. knows.enters session req work disk piece ends.ends.learns.there here entering disk_known.disk.id at was))
+      (freed_so T session req work status so_far all)
+  steps_so so_far session req next moved (CommandBegins ask step arrival is) knows all =
+      commanded_so T session req step so_far
+      (command_begins-so T so_far.node.me session ask (inode_open (session_in session so_far).disk) step is) all
+  steps_so so_far session req next moved (CommandGoesOn number work attempt status bytes op step ends is) knows all =
+      commanded_so T session req step (without_ended_work session req work status so_far)
+      (command_goes_on-so T bytes op step is (all.courses req (record { session = session; course = Commanding op }) ends.ends.request)
+      (λ vid snapshot ids header at.
+      knows.openings session req number work attempt status op bytes vid snapshot ids header ends at))
+      (freed_so T session req work status so_far all)
+  steps_so so_far session req next moved (CommandDecided entry op step from reading there waits is) knows all =
+      let same : effects_of so_far.node.peer ≡ known = ap effects_of reading ∙ read entry from in
+      let disk = inode_open (session_in session so_far).disk in
+      commanded_so T session req step so_far
+      (command_decided-so T known disk op step (decision_on entry node.peer) (opened_so T session so_far all)
+      (knows.takes entry session req op from there waits)
+      (subst (λ (effects : List Effect). on_decision effects disk (decision_on entry node.peer) op ≡ Some step) same is)
+      (all.courses req (record { session = session; course = Commanding op }) there)) all
+  steps_so so_far session req next moved (CheckBegins inode arrival on) knows all =
+      sole_so T session req (Checking (begin_check inode).check) so_far tt all
+  steps_so so_far session req next moved (CheckGoesOn number work attempt status bytes check step ends is) knows all =
+      sole_so T session req (Checking step.check) (without_ended_work session req work status so_far) tt
+      (freed_so T session req work status so_far all)
+  steps_so so_far session req next moved (ObjectBegins asked arrival) knows all = sole_so T session req (DoingWork asked) so_far tt all
+  steps_so so_far session req next moved (ObjectIsDone number work attempt status bytes asked ends) knows all =
+      freed_so T session req work status so_far all
+  steps_so so_far session req next moved (EntryBegins entry arrival) knows all =
+      sole_so T session req (AwaitingDecision entry) so_far tt all
+  steps_so so_far session req next moved (EntryDecided entry awaited from reading there waits) knows all = all
+
+  next_so : (so_far : StepState) (session req : ℕ) (asked : Work) (lined : StepState)
+      → WorkIsNext input node so_far session req asked lined
+      → KnowsTables so_far → AreSo so_far → AreSo lined
+  next_so so_far session req asked lined (AtOnce work moved steps begins) knows all =
+      let now = steps_so so_far session req (ToWork work) moved steps knows all in
+      session_so T moved.node.requests moved.node.sessions session
+      (record (session_in session moved) { inode_queue = lines.queue_with_open (session_in session moved).inode_queue req work })
+      (open_so T session moved now) now
+  next_so so_far session req asked lined (InTurn work later none is) knows all =
+      session_so T so_far.node.requests so_far.node.sessions session
+      (record (session_in session so_far) { inode_queue = record { current = Some req; waiting = later } }) (open_so T session so_far all)
+      all
+  next_so so_far session req asked lined (Again work course from next there request) knows all = all
+  next_so so_far session req asked lined (AgainAlone work from next there none) knows all = all
+
+  pub change_so : (so_far next : StepState) → Change input node so_far next → KnowsTables so_far → AreSo so_far → AreSo next
+  change_so so_far next (changes.Marks req number work attempt status learns over) knows all = all
+  change_so so_far next (changes.Fails session req number work attempt status course ends done why) knows all = all
+  change_so so_far next (changes.Stops session req number work attempt status course bytes ends over) knows all =
+      freed_so T session req work status so_far all
+  change_so so_far next (changes.Refuses session req number work attempt status course cause ends done why) knows all =
+      course_refused-keeps AreSo (ended_so T) (λ entry before now. now) session req cause course
+      (without_ended_work session req work status so_far) (freed_so T session req work status so_far all)
+  change_so so_far next (changes.Opens session req asked lined comes short) knows all =
+      next_so so_far session req asked lined comes knows all
+  change_so so_far next (changes.Holds session req asked lined comes short touched) knows all =
+      next_so so_far session req asked lined comes knows all
+  change_so so_far next (changes.Denies session req asked lined request comes short untouched there own) knows all =
+      let now = next_so so_far session req asked lined comes knows all in
+      request_refused-keeps AreSo (ended_so T) (λ entry before now. now) req (Halt (zones_of_members lined.node) (zones_for asked.work))
+      request
+      (without_denied_work session req asked lined)
+      (session_so T lined.node.requests lined.node.sessions session
+      (record (session_in session lined) { inode_queue = lines.queue_after_end (session_in session lined).inode_queue asked.work })
+      (open_so T session lined now) now)
+  change_so so_far next (changes.Strays req work gateway there none apart) knows all = all
+  change_so so_far next (changes.Lines session req work moved steps waits) knows all =
+      let now = steps_so so_far session req (ToWork work) moved steps knows all in
+      session_so T moved.node.requests moved.node.sessions session
+      (record (session_in session moved) { inode_queue = lines.queue_with_waiting (session_in session moved).inode_queue req work })
+      (open_so T session moved now) now
+  change_so so_far next (changes.Appends session req entry moved steps) knows all =
+      steps_so so_far session req (ToEntry entry) moved steps knows all
+  change_so so_far next (changes.Replies session req reply moved steps) knows all =
+      ended_so T session req reply moved (steps_so so_far session req (ToReply reply) moved steps knows all)
+  change_so so_far next (changes.Arrives session req ask disk arrival on) knows all =
+      session_so T (tree.insert so_far.node.requests req (record { session = session; course = Waiting ask })) so_far.node.sessions session
+      (record (session_in session so_far) { queue = (session_in session so_far).queue ++ queued_as disk.inode.spec.shift req ask ∷ [] })
+      (open_so T session so_far all)
+      (request_so T so_far.node.requests so_far.node.sessions req session (Waiting ask) tt all)
+  change_so so_far next (changes.Rejects session req ask cause arrival) knows all = all
+  change_so so_far next (changes.Recovers due) knows all = all
