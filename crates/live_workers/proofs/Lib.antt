@@ -2,3 +2,5 @@ pub mod BroughtLemmas
 pub mod CellNumbers
 pub mod OpeningCells
 pub mod OtherStepLemmas
+pub mod SeatLemmas
+pub mod PlaceLists

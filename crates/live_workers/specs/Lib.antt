@@ -1,2 +1,4 @@
 pub mod Cells
 pub mod OtherSteps
+pub mod PlaceSeats
+pub mod NewSteps

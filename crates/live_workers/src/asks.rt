@@ -1,6 +1,9 @@
 //! A session asks its gateway.
 
-ghost use Rattle.std.specs.Prelude.{◌≡◌};
+ghost use Rattle.std.specs.Prelude.{◌≡◌, ◌+◌, ◌-◌, ◌^◌, ◌≤◌, min, true, false, Ok, Err, IfOk};
+ghost use Rattle.object_id.specs.declared.limits.TheConstants.{NODES_MAX};
+ghost use Rattle.live_workers.specs.PlaceSeats.{IsSeatAfter};
+ghost use Rattle.live_workers.specs.declared.work_fault.WorkFault.TheVariants as faults;
 
 use crate::place::Place;
 use crate::shared::Shared;
@@ -19,7 +22,16 @@ impl<'a, N: ClockName> Shared<'a, N> {
         place: &mut Place<N>,
         session: SessionOfScript,
         input: Input,
-    ) -> Result<bool, WorkFault> {
+    ) -> Result<bool, WorkFault>
+        ensures seat { IfOk result (λ made. IsSeatAfter made place.old.seat place.new.seat) }
+        ensures no_stamp { result ≡ Err faults.NoStamp → place.new.seat.spent ≡ true }
+        // One request more is begun where the gateway made a step on it, and else none.
+        ensures begun { result ≡ Ok true → place.new.begun ≡ min (place.old.begun + 1) (2 ^ 32 - 1) }
+        ensures waits { result ≡ Ok false → place.new.begun ≡ place.old.begun }
+        ensures next { result ≡ Ok true → place.new.next ≡ place.old.next }
+        ensures place { (place.new.worker ≡ place.old.worker) × (place.new.turn ≡ place.old.turn) }
+        ensures far { NODES_MAX ≤ session.node → (result ≡ Ok false) × (place.new.next ≡ place.old.next) }
+    {
         let node = NodeId(session.node);
         let Some(slot) = self.slot(node) else {
             return Ok(false);
@@ -37,7 +49,10 @@ impl<'a, N: ClockName> Shared<'a, N> {
             let clock = &self.clock;
             slot.step(self.alloc, event, input, none, None, clock, &mut place.seat)?
         };
+        if !self.post_sent(rt, sent)? {
+            return Ok(false);
+        }
         place.begun = place.begun.saturating_add(1);
-        Ok(self.post_sent(rt, sent)?)
+        Ok(true)
     }
 }

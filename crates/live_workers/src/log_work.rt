@@ -1,6 +1,9 @@
 //! What a node does with the log, its ticks, and its first worker.
 
-ghost use Rattle.std.specs.Prelude.{◌≡◌};
+ghost use Rattle.std.specs.Prelude.{◌≡◌, ◌≤◌, true, false, Ok, Err, IfOk};
+ghost use Rattle.object_id.specs.declared.limits.TheConstants.{NODES_MAX};
+ghost use Rattle.live_workers.specs.PlaceSeats.{IsSeatAfter};
+ghost use Rattle.live_workers.specs.declared.work_fault.WorkFault.TheVariants as faults;
 
 use crate::place::Place;
 use crate::shared::Shared;
@@ -154,7 +157,13 @@ impl<'a, N: ClockName> Shared<'a, N> {
         node: NodeId,
         event: Event,
         input: Input,
-    ) -> Result<bool, WorkFault> {
+    ) -> Result<bool, WorkFault>
+        ensures seat { IfOk result (λ made. IsSeatAfter made place.old.seat place.new.seat) }
+        ensures no_stamp { result ≡ Err faults.NoStamp → place.new.seat.spent ≡ true }
+        ensures place { (place.new.worker ≡ place.old.worker) × (place.new.turn ≡ place.old.turn) }
+        ensures asked { (place.new.begun ≡ place.old.begun) × (place.new.next ≡ place.old.next) }
+        ensures far { NODES_MAX ≤ node.0 → result ≡ Ok false }
+    {
         let Some(slot) = self.slot(node) else {
             return Ok(false);
         };

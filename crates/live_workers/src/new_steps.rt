@@ -1,24 +1,36 @@
 //! The steps that a live cluster made since they were last merged.
 
-ghost use Rattle.std.specs.Prelude.{◌≡◌, ◌++◌, OnOk};
+ghost use Rattle.std.specs.Prelude.{◌≡◌, ◌++◌, IfOk, OnOk};
+ghost use Rattle.live_workers.specs.NewSteps.{nothing_merged};
 
 use crate::shared::Shared;
 use live_cells::{NodeCell, Step};
 use object_id::{NODES_MAX, NoMemory, NodeId};
 use stamp_clock::ClockName;
 use std::alloc::Global;
+use std::marker::Model;
 use std::sync::Wait;
 
-/// How many steps of each cell, and of the others, are merged.
+/// How many steps of each cell, and of the others, are merged. Contracts see the record `MergedSteps` of `specs/NewSteps.antt`.
 #[derive(Drop)]
 pub struct Merged {
     cells: Vec<usize>,
     others: usize,
 }
 
+impl Model for Merged {
+    ghost use Rattle.live_workers.specs.NewSteps.{MergedSteps};
+
+    ghost Value = { MergedSteps };
+
+    ghost view = { λ merged. record { cells = merged.cells.items; others = merged.others } };
+}
+
 impl Merged {
     /// None is merged yet. Takes a number for each node that there may be.
-    pub fn new(alloc: Global) -> Result<Merged, NoMemory> {
+    pub fn new(alloc: Global) -> Result<Merged, NoMemory>
+        ensures { IfOk result (λ merged. merged ≡ nothing_merged) }
+    {
         let mut cells = Vec::new(alloc);
         for _ in 0..NODES_MAX {
             cells.push(0usize)?;

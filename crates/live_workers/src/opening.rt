@@ -1,7 +1,8 @@
 //! The cluster as its script opens it, behind locks.
 
-ghost use Rattle.std.specs.Prelude.{◌≡◌, All, IfOk};
+ghost use Rattle.std.specs.Prelude.{◌≡◌, ◌≤◌, Ok, length, All, IfOk, OnOk};
 ghost use Rattle.live_workers.specs.Cells.{IsCellOf};
+ghost use Rattle.live_workers.specs.PlaceSeats.{HasDrawnOne, HasDrawnOneAt};
 
 use crate::controls::add_controls_of;
 use crate::place::{MEMBERS_WORKER, Place};
@@ -47,7 +48,8 @@ fn opening_log<N: ClockName>(
 ) -> Result<LogCell<N>, NoMemory>
     requires clock { clock.now.id ≡ N.clock }
     requires seat { seat.old.clock ≡ N.clock }
-    ensures { seat.new.clock ≡ N.clock }
+    ensures drawn { OnOk result (HasDrawnOne seat.old seat.new) }
+    ensures clock { seat.new.clock ≡ N.clock }
 {
     let Ok(stamp) = clock.draw(seat) else {
         return Err(NoMemory);
@@ -95,6 +97,29 @@ fn places_of<N: ClockName>(alloc: Global, seats: Vec<Seat>) -> Result<Vec<Place<
     Ok(places)
 }
 
+/// The log of its first entry, of which the seat of worker 256 draws the stamp.
+#[tactic(auto, using(crate::proofs::PlaceLists::drawn_at, crate::proofs::PlaceLists::clocks_stay))]
+fn log_by_seats<N: ClockName>(
+    alloc: Global,
+    script: &Script,
+    clock: &Clock,
+    seats: &mut Vec<Seat>,
+) -> Result<LogCell<N>, NoMemory>
+    requires clock { clock.now.id ≡ N.clock }
+    requires seats { All (λ seat. seat.clock ≡ N.clock) seats.old.items }
+    ensures clock { OnOk result (All (λ seat. seat.clock ≡ N.clock) seats.new.items) }
+    ensures count { OnOk result (length seats.new.items ≡ length seats.old.items) }
+    ensures drawn { OnOk result (HasDrawnOneAt MEMBERS_WORKER seats.old.items seats.new.items) }
+{
+    match seats.get_mut(MEMBERS_WORKER as usize) {
+        Some(seat) => {
+            let log = opening_log(alloc, script, clock, seat)?;
+            Ok(log)
+        }
+        None => Err(NoMemory),
+    }
+}
+
 impl<'a, N: ClockName> Shared<'a, N> {
     /// Puts the cells of the opening members behind their locks, and the first phase's controls in order.
     fn open<R: Wait>(&self, rt: &R, format: &Entry) -> Result<(), NoMemory> {
@@ -110,7 +135,10 @@ impl<'a, N: ClockName> Shared<'a, N> {
     }
 
     /// The controls of the phases that were begun since one stand behind those that are left. Costs them.
-    pub fn begin_phases<R: Wait>(&self, rt: &R, from: usize, to: usize) -> Result<(), NoMemory> {
+    pub fn begin_phases<R: Wait>(&self, rt: &R, from: usize, to: usize) -> Result<(), NoMemory>
+        // Where no phase was begun it takes no memory.
+        ensures { to ≤ from → result ≡ Ok tt }
+    {
         let mut members = self.members.lock(rt);
         for phase in from..to {
             add_controls_of(&mut members.controls, self.script, phase + 1)?;
@@ -128,12 +156,11 @@ impl<'a, N: ClockName> Shared<'a, N> {
     ) -> Result<(Shared<'a, N>, Vec<Place<N>>), NoMemory>
         requires clock { clock.id ≡ N.clock }
         requires seats { All (λ seat. seat.clock ≡ N.clock) seats.items }
+        ensures script { IfOk result (λ opened. opened.0.script.now ≡ script.now) }
     {
-        let mut places = places_of(alloc, seats)?;
-        let log = match places.get_mut(MEMBERS_WORKER as usize) {
-            Some(place) => opening_log(alloc, script, &clock, &mut place.seat)?,
-            None => return Err(NoMemory),
-        };
+        let mut seats = seats;
+        let log = log_by_seats(alloc, script, &clock, &mut seats)?;
+        let places = places_of(alloc, seats)?;
         let format = match log.log().entry(0) {
             Some(entry) => entry.copy(alloc)?,
             None => return Err(NoMemory),

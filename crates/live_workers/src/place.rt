@@ -1,6 +1,6 @@
 //! A worker's place, which it has over all rounds.
 
-ghost use Rattle.std.specs.Prelude.{◌≡◌};
+ghost use Rattle.std.specs.Prelude.{◌≡◌, None};
 
 use object_id::NODES_MAX;
 use sheep_node::Input;
@@ -29,6 +29,9 @@ pub struct Place<N: ClockName> {
 impl<N: ClockName> Place<N> {
     pub(crate) fn new(worker: u32, seat: Seat) -> Place<N>
         requires { seat.clock ≡ N.clock }
+        ensures worker { (result.worker ≡ worker) × (result.turn ≡ 0) }
+        ensures seat { result.seat ≡ seat }
+        ensures asked { (result.begun ≡ 0) × (result.next ≡ None) }
     {
         Place {
             worker,

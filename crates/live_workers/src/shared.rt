@@ -1,6 +1,9 @@
 //! What the workers of a live cluster share.
 
-ghost use Rattle.std.specs.Prelude.{◌≡◌};
+ghost use Rattle.std.specs.Prelude.{◌≡◌, ◌≤◌, false, None, length, All, IfOk};
+ghost use Rattle.std.specs.Option.{is_some};
+ghost use Rattle.object_id.specs.declared.limits.TheConstants.{NODES_MAX};
+ghost use Rattle.live_workers.specs.OtherSteps.{IsOther};
 
 use crate::members::{Members, Others};
 use crate::slot::Slot;
@@ -41,10 +44,15 @@ pub struct Shared<'a, N: ClockName> {
     pub(crate) losses: Receiver<LostRequest<N>, Global>,
     pub(crate) members: Mutex<Members>,
     ghost of: { clock.id ≡ N.clock },
+    // There is a lock and a channel for each node that there may be.
+    ghost locks: { length slots.items ≡ NODES_MAX },
+    ghost channels: { length inboxes.items ≡ NODES_MAX },
 }
 
 /// The channels of all nodes.
-fn inboxes<N: ClockName>(alloc: Global) -> Result<Vec<Inbox<N>>, AllocError> {
+fn inboxes<N: ClockName>(alloc: Global) -> Result<Vec<Inbox<N>>, AllocError>
+    ensures { IfOk result (λ inboxes. length inboxes.items ≡ NODES_MAX) }
+{
     let mut inboxes = Vec::new(alloc);
     for _ in 0..NODES_MAX {
         let (sender, receiver) = unbounded(alloc)?;
@@ -54,7 +62,9 @@ fn inboxes<N: ClockName>(alloc: Global) -> Result<Vec<Inbox<N>>, AllocError> {
 }
 
 /// A lock for each node.
-fn slots<N: ClockName>(alloc: Global) -> Result<Vec<Mutex<Slot<N>>>, AllocError> {
+fn slots<N: ClockName>(alloc: Global) -> Result<Vec<Mutex<Slot<N>>>, AllocError>
+    ensures { IfOk result (λ slots. length slots.items ≡ NODES_MAX) }
+{
     let mut slots = Vec::new(alloc);
     for number in 0..NODES_MAX {
         slots.push(Mutex::new(Slot::empty(number)))?;
@@ -71,6 +81,8 @@ impl<'a, N: ClockName> Shared<'a, N> {
         log: LogCell<N>,
     ) -> Result<Shared<'a, N>, NoMemory>
         requires { clock.id ≡ N.clock }
+        ensures script { IfOk result (λ shared. shared.script.now ≡ script.now) }
+        ensures alloc { IfOk result (λ shared. shared.alloc ≡ alloc) }
     {
         let slots = slots(alloc)?;
         let inboxes = inboxes(alloc)?;
@@ -88,13 +100,17 @@ impl<'a, N: ClockName> Shared<'a, N> {
         })
     }
 
-    /// The lock of a node.
-    pub(crate) fn slot(&self, node: NodeId) -> Option<&Mutex<Slot<N>>> {
+    /// The lock of a node; none where there may be no such node.
+    pub(crate) fn slot(&self, node: NodeId) -> Option<&Mutex<Slot<N>>>
+        ensures { NODES_MAX ≤ node.0 → result ≡ None }
+    {
         self.slots.get(node.0 as usize)
     }
 
     /// Whether a node exists, lost or not.
-    pub fn has_node<R: Wait>(&self, rt: &R, node: NodeId) -> bool {
+    pub fn has_node<R: Wait>(&self, rt: &R, node: NodeId) -> bool
+        ensures { NODES_MAX ≤ node.0 → result ≡ false }
+    {
         match self.slot(node) {
             Some(slot) => slot.lock(rt).cell.is_some(),
             None => false,
@@ -102,7 +118,10 @@ impl<'a, N: ClockName> Shared<'a, N> {
     }
 
     /// What the cluster keeps: the nodes with their cells, by ascending number, and the steps at which no node stepped. Costs nothing.
-    pub fn into_slots(self) -> (Vec<Mutex<Slot<N>>>, Others) {
+    pub fn into_slots(self) -> (Vec<Mutex<Slot<N>>>, Others)
+        ensures slots { length result.0.items ≡ NODES_MAX }
+        ensures others { All IsOther result.1 }
+    {
         let Shared {
             alloc: _,
             script: _,
@@ -138,7 +157,9 @@ impl<'a, N: ClockName> Shared<'a, N> {
         &self,
         rt: &R,
         sent: Option<Vec<Letter<N>>>,
-    ) -> Result<bool, NoMemory> {
+    ) -> Result<bool, NoMemory>
+        ensures { IfOk result (λ made. made ≡ is_some sent) }
+    {
         match sent {
             Some(letters) => {
                 self.post(rt, letters)?;

@@ -1,8 +1,11 @@
 //! What stands behind a node's lock.
 
-ghost use Rattle.std.specs.Prelude.{◌≡◌, ◌<◌, IfOk, IfSome};
+ghost use Rattle.std.specs.Prelude.{◌≡◌, ◌<◌, true, Err, IfOk, IfSome};
+ghost use Rattle.std.specs.Option.{is_some};
 ghost use Rattle.std.proofs.Props.{props};
 ghost use Rattle.live_workers.specs.Cells.{IsCellOf};
+ghost use Rattle.live_workers.specs.PlaceSeats.{IsSeatAfter};
+ghost use Rattle.live_workers.specs.declared.work_fault.WorkFault.TheVariants as faults;
 
 use crate::brought::{both_brought, brought_of};
 use crate::steps::{act, letters_of};
@@ -107,6 +110,8 @@ impl<N: ClockName> Slot<N> {
         requires clock { clock.now.id ≡ N.clock }
         requires seat { seat.old.clock ≡ N.clock }
         ensures seen { IfOk result (λ made. IfSome made (λ stamp. stamp < seat.new.seen)) }
+        ensures seat { IfOk result (λ made. IsSeatAfter (is_some made) seat.old seat.new) }
+        ensures no_stamp { result ≡ Err faults.NoStamp → seat.new.spent ≡ true }
         ensures clock { seat.new.clock ≡ N.clock }
     {
         match self.cell.as_mut() {
@@ -143,6 +148,7 @@ impl<N: ClockName> Slot<N> {
     }
 
     /// The node steps on an input, if it exists and may: what the step sends, the reply to who asked among it.
+    #[tactic(auto, using(crate::proofs::SeatLemmas::drawn_one_kept))]
     pub(crate) fn step(
         &mut self,
         alloc: Global,
@@ -155,7 +161,9 @@ impl<N: ClockName> Slot<N> {
     ) -> Result<Option<Vec<Letter<N>>>, WorkFault>
         requires clock { clock.now.id ≡ N.clock }
         requires seat { seat.old.clock ≡ N.clock }
-        ensures { seat.new.clock ≡ N.clock }
+        ensures seat { IfOk result (λ sent. IsSeatAfter (is_some sent) seat.old seat.new) }
+        ensures no_stamp { result ≡ Err faults.NoStamp → seat.new.spent ≡ true }
+        ensures clock { seat.new.clock ≡ N.clock }
     {
         match self.act(event, input, brought, clock, seat)? {
             Some(stamp) => Ok(Some(self.letters(alloc, stamp, asker, clock, seat)?)),

@@ -1,9 +1,12 @@
 //! A step of a node behind its lock, and what it sends.
 
-ghost use Rattle.std.specs.Prelude.{◌≡◌, ◌<◌, ℕ, false, true, None, Ok, IfOk, IfSome, OnOk};
+ghost use Rattle.std.specs.Prelude.{◌≡◌, ◌<◌, ℕ, false, true, None, Ok, Err, IfOk, IfSome, OnOk};
+ghost use Rattle.std.specs.Option.{is_some};
 ghost use Rattle.live_cells.specs.Brought.{takes_brought};
 ghost use Rattle.live_cells.specs.Cell.{cell_after};
 ghost use Rattle.live_workers.specs.Cells.{IsCellOf};
+ghost use Rattle.live_workers.specs.PlaceSeats.{IsSeatAfter};
+ghost use Rattle.live_workers.specs.declared.work_fault.WorkFault.TheVariants as faults;
 
 use crate::work_fault::WorkFault;
 use live_cells::{ActFault, Carry, Letter, NodeCell};
@@ -30,7 +33,7 @@ fn takes_brought(event: Event) -> bool
 }
 
 /// The node steps on an input, if it may: the step's stamp, which the seat has seen.
-#[tactic(auto, using(crate::proofs::CellNumbers::spent_cell, crate::proofs::CellNumbers::same_cell, crate::proofs::CellNumbers::stepped_cell))]
+#[tactic(auto, using(crate::proofs::CellNumbers::spent_cell, crate::proofs::CellNumbers::same_cell, crate::proofs::CellNumbers::stepped_cell, crate::proofs::SeatLemmas::drawn_one))]
 pub(crate) fn act<N: ClockName>(
     cell: &mut NodeCell,
     event: Event,
@@ -43,6 +46,8 @@ pub(crate) fn act<N: ClockName>(
     requires seat { seat.old.clock ≡ N.clock }
     ensures step { IfOk result (λ made. IfSome made (λ stamp. cell.new ≡ cell_after stamp event input brought.items cell.old)) }
     ensures seen { IfOk result (λ made. IfSome made (λ stamp. stamp < seat.new.seen)) }
+    ensures seat { IfOk result (λ made. IsSeatAfter (is_some made) seat.old seat.new) }
+    ensures no_stamp { result ≡ Err faults.NoStamp → seat.new.spent ≡ true }
     ensures live { OnOk result (cell.new.spent ≡ false) }
     ensures unchanged { result ≡ Ok None → cell.new ≡ cell.old }
     // It stays the cell of its node.
