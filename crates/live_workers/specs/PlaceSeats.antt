@@ -14,6 +14,11 @@ abbrev pub IsSeatAfter : Bool → SeatState → SeatState → Type 0
 IsSeatAfter true old new = HasDrawnOne old new
 IsSeatAfter false old new = new ≡ old
 
+-- the call made one step at the most
+pub record HasDrawnAtMostOne (old new : SeatState) : Type 0 where
+  pub made : Bool
+  pub seat : IsSeatAfter made old new
+
 -- of these seats the one at the place drew one stamp, and the others are as they were
 pub record HasDrawnOneAt (place : ℕ) (old new : List SeatState) : Type 0 where
   pub before : SeatState

@@ -1,6 +1,6 @@
 //! A session asks its gateway.
 
-ghost use Rattle.std.specs.Prelude.{◌≡◌, ◌+◌, ◌-◌, ◌^◌, ◌≤◌, min, true, false, Ok, Err, IfOk};
+ghost use Rattle.std.specs.Prelude.{◌≡◌, ◌+◌, ◌-◌, ◌^◌, ◌<◌, ◌≤◌, min, true, false, Ok, Some, Err, IfOk};
 ghost use Rattle.object_id.specs.declared.limits.TheConstants.{NODES_MAX};
 ghost use Rattle.live_workers.specs.PlaceSeats.{IsSeatAfter};
 ghost use Rattle.live_workers.specs.declared.work_fault.WorkFault.TheVariants as faults;
@@ -15,7 +15,8 @@ use stamp_clock::ClockName;
 use std::sync::Wait;
 
 impl<'a, N: ClockName> Shared<'a, N> {
-    /// A session's next request, if its gateway may step on it: whether it did. Else its input waits at the session's place.
+    /// A session's next request, if its gateway may step on it: whether it did, and only then the request counts as begun. Else its input
+    /// waits at the session's place; where there may be no such gateway, the place is as it was.
     pub fn ask<R: Wait>(
         &self,
         rt: &R,
@@ -29,6 +30,7 @@ impl<'a, N: ClockName> Shared<'a, N> {
         ensures begun { result ≡ Ok true → place.new.begun ≡ min (place.old.begun + 1) (2 ^ 32 - 1) }
         ensures waits { result ≡ Ok false → place.new.begun ≡ place.old.begun }
         ensures next { result ≡ Ok true → place.new.next ≡ place.old.next }
+        ensures kept { session.node < NODES_MAX → result ≡ Ok false → place.new.next ≡ Some input }
         ensures place { (place.new.worker ≡ place.old.worker) × (place.new.turn ≡ place.old.turn) }
         ensures far { NODES_MAX ≤ session.node → (result ≡ Ok false) × (place.new.next ≡ place.old.next) }
     {

@@ -1,6 +1,8 @@
 //! A lost node comes back, between two rounds.
 
-ghost use Rattle.std.specs.Prelude.{◌≡◌};
+ghost use Rattle.std.specs.Prelude.{◌≡◌, ◌≤◌, true, false, Ok, Err, IfOk};
+ghost use Rattle.live_workers.specs.PlaceSeats.{IsSeatAfter};
+ghost use Rattle.live_workers.specs.declared.work_fault.WorkFault.TheVariants as faults;
 
 use crate::brought::brought_of;
 use crate::controls::Control;
@@ -88,12 +90,14 @@ impl<'a, N: ClockName> Shared<'a, N> {
     }
 
     /// The node steps on coming back, and its join stands at the log's end: whether it may.
-    fn revive<R: Wait>(
-        &self,
-        rt: &R,
-        place: &mut Place<N>,
-        node: NodeId,
-    ) -> Result<bool, WorkFault> {
+    #[tactic(auto, using(crate::proofs::SeatLemmas::drawn_one_kept))]
+    fn revive<R: Wait>(&self, rt: &R, place: &mut Place<N>, node: NodeId) -> Result<bool, WorkFault>
+        ensures seat { IfOk result (λ made. IsSeatAfter made place.old.seat place.new.seat) }
+        ensures no_stamp { result ≡ Err faults.NoStamp → place.new.seat.spent ≡ true }
+        ensures place { (place.new.worker ≡ place.old.worker) × (place.new.turn ≡ place.old.turn) }
+        ensures asked { (place.new.begun ≡ place.old.begun) × (place.new.next ≡ place.old.next) }
+        ensures far { NODES_MAX ≤ node.0 → result ≡ Ok false }
+    {
         let Some(slot) = self.slot(node) else {
             return Ok(false);
         };
@@ -136,7 +140,13 @@ impl<'a, N: ClockName> Shared<'a, N> {
         rt: &R,
         place: &mut Place<N>,
         node: NodeId,
-    ) -> Result<bool, WorkFault> {
+    ) -> Result<bool, WorkFault>
+        ensures seat { IfOk result (λ made. IsSeatAfter made place.old.seat place.new.seat) }
+        ensures no_stamp { result ≡ Err faults.NoStamp → place.new.seat.spent ≡ true }
+        ensures place { (place.new.worker ≡ place.old.worker) × (place.new.turn ≡ place.old.turn) }
+        ensures asked { (place.new.begun ≡ place.old.begun) × (place.new.next ≡ place.old.next) }
+        ensures far { NODES_MAX ≤ node.0 → result ≡ Ok false }
+    {
         if !self.revive(rt, place, node)? {
             return Ok(false);
         }

@@ -1,6 +1,9 @@
 //! A node's letters: they are delivered, or lost with the node.
 
-ghost use Rattle.std.specs.Prelude.{◌≡◌};
+ghost use Rattle.std.specs.Prelude.{◌≡◌, ◌≢◌, ◌≤◌, true, false, Ok, Err, IfOk, OnOk};
+ghost use Rattle.object_id.specs.declared.limits.TheConstants.{NODES_MAX};
+ghost use Rattle.live_workers.specs.PlaceSeats.{HasDrawnAtMostOne};
+ghost use Rattle.live_workers.specs.declared.work_fault.WorkFault.TheVariants as faults;
 
 use crate::place::Place;
 use crate::shared::{LostRequest, Shared};
@@ -36,12 +39,18 @@ fn delivery_of<N: ClockName>(
 impl<'a, N: ClockName> Shared<'a, N> {
     /// Delivers a letter. One on which its node may not step is let go; if the node is lost, so is the letter, and a reply went as the node
     /// was lost.
+    #[tactic(auto, using(crate::proofs::SeatLemmas::drawn_none, crate::proofs::SeatLemmas::at_most_one_behind))]
     fn deliver<R: Wait>(
         &self,
         rt: &R,
         place: &mut Place<N>,
         letter: Letter<N>,
-    ) -> Result<(), WorkFault> {
+    ) -> Result<(), WorkFault>
+        ensures seat { OnOk result (HasDrawnAtMostOne place.old.seat place.new.seat) }
+        ensures no_stamp { result ≡ Err faults.NoStamp → place.new.seat.spent ≡ true }
+        ensures place { (place.new.worker ≡ place.old.worker) × (place.new.turn ≡ place.old.turn) }
+        ensures asked { (place.new.begun ≡ place.old.begun) × (place.new.next ≡ place.old.next) }
+    {
         let Some((number, input)) = delivery_of(self.alloc, &letter)? else {
             return Ok(());
         };
@@ -79,6 +88,7 @@ impl<'a, N: ClockName> Shared<'a, N> {
 
     /// Loses a request to a node that is lost, with the mark of that loss. Its sender steps on it, unless it is lost too: then worker 256
     /// makes the event.
+    #[tactic(auto, using(crate::proofs::SeatLemmas::drawn_none))]
     fn lose<R: Wait>(
         &self,
         rt: &R,
@@ -87,7 +97,12 @@ impl<'a, N: ClockName> Shared<'a, N> {
         number: u32,
         carry: Carry<N>,
         mark: Carry<N>,
-    ) -> Result<(), WorkFault> {
+    ) -> Result<(), WorkFault>
+        ensures seat { OnOk result (HasDrawnAtMostOne place.old.seat place.new.seat) }
+        ensures no_stamp { result ≡ Err faults.NoStamp → place.new.seat.spent ≡ true }
+        ensures place { (place.new.worker ≡ place.old.worker) × (place.new.turn ≡ place.old.turn) }
+        ensures asked { (place.new.begun ≡ place.old.begun) × (place.new.next ≡ place.old.next) }
+    {
         let Some(slot) = self.slot(node) else {
             return Ok(());
         };
@@ -113,7 +128,9 @@ impl<'a, N: ClockName> Shared<'a, N> {
         number: u32,
         carry: Carry<N>,
         mark: Carry<N>,
-    ) -> Result<(), WorkFault> {
+    ) -> Result<(), WorkFault>
+        ensures { result ≢ Err faults.NoStamp }
+    {
         let lost = LostRequest {
             node,
             number,
@@ -127,12 +144,20 @@ impl<'a, N: ClockName> Shared<'a, N> {
     }
 
     /// Takes a node's next letter: whether there was one.
+    #[tactic(auto, using(crate::proofs::SeatLemmas::drawn_none))]
     pub(crate) fn take_letter<R: Wait>(
         &self,
         rt: &R,
         place: &mut Place<N>,
         node: NodeId,
-    ) -> Result<bool, WorkFault> {
+    ) -> Result<bool, WorkFault>
+        ensures seat { OnOk result (HasDrawnAtMostOne place.old.seat place.new.seat) }
+        ensures no_stamp { result ≡ Err faults.NoStamp → place.new.seat.spent ≡ true }
+        ensures idle { result ≡ Ok false → place.new.seat ≡ place.old.seat }
+        ensures place { (place.new.worker ≡ place.old.worker) × (place.new.turn ≡ place.old.turn) }
+        ensures asked { (place.new.begun ≡ place.old.begun) × (place.new.next ≡ place.old.next) }
+        ensures far { NODES_MAX ≤ node.0 → result ≡ Ok false }
+    {
         let Some(inbox) = self.inboxes.get(node.0 as usize) else {
             return Ok(false);
         };

@@ -1,10 +1,10 @@
 //! What the threads of a live cluster share, and the events that its workers make.
 //!
-//! A cluster is opened by its script ([`Shared::opening`]): each node stands behind a lock with all that it did ([`Slot`], over `live_cells`),
-//! the log behind another, letters between nodes go through channels, and each worker has a place with its seat at the clock ([`Place`]). A
-//! call of a worker makes one event, if there is one to make: it takes the locks that it needs, brings what the event takes, and lets the
-//! node step, which keeps the step with its stamp, input and outputs; then it sends what the step gave. At a step of which no node has part
-//! worker 256 keeps it ([`Others`]). Locks are taken in one order: what worker 256 keeps, then a node, then the log.
+//! A cluster is opened by its script ([`Shared::opening`]): each node stands behind a lock with all that it did ([`Slot`], over
+//! `live_cells`), the log behind another, letters between nodes go through channels, and each worker has a place with its seat at the clock
+//! ([`Place`]). A call of a worker makes one event, if there is one to make: it takes the locks that it needs, brings what the event takes,
+//! and lets the node step, which keeps the step with its stamp, input and outputs; then it sends what the step gave. At a step of which no
+//! node has part worker 256 keeps it ([`Others`]). Locks are taken in one order: what worker 256 keeps, then a node, then the log.
 //!
 //! What stands behind a lock, or comes through a channel, is known by its type alone: a node's lock keeps that its cell is that node's, and
 //! the other steps that each of them is one (`specs/OtherSteps.antt`). So these hold whatever the threads do. That an event is one of the

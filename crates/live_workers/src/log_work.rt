@@ -1,8 +1,8 @@
 //! What a node does with the log, its ticks, and its first worker.
 
-ghost use Rattle.std.specs.Prelude.{◌≡◌, ◌≤◌, true, false, Ok, Err, IfOk};
+ghost use Rattle.std.specs.Prelude.{◌≡◌, ◌≤◌, true, false, Ok, Err, IfOk, OnOk};
 ghost use Rattle.object_id.specs.declared.limits.TheConstants.{NODES_MAX};
-ghost use Rattle.live_workers.specs.PlaceSeats.{IsSeatAfter};
+ghost use Rattle.live_workers.specs.PlaceSeats.{IsSeatAfter, HasDrawnAtMostOne};
 ghost use Rattle.live_workers.specs.declared.work_fault.WorkFault.TheVariants as faults;
 
 use crate::place::Place;
@@ -85,7 +85,13 @@ impl<'a, N: ClockName> Shared<'a, N> {
         rt: &R,
         place: &mut Place<N>,
         node: NodeId,
-    ) -> Result<bool, WorkFault> {
+    ) -> Result<bool, WorkFault>
+        ensures seat { IfOk result (λ made. IsSeatAfter made place.old.seat place.new.seat) }
+        ensures no_stamp { result ≡ Err faults.NoStamp → place.new.seat.spent ≡ true }
+        ensures place { (place.new.worker ≡ place.old.worker) × (place.new.turn ≡ place.old.turn) }
+        ensures asked { (place.new.begun ≡ place.old.begun) × (place.new.next ≡ place.old.next) }
+        ensures far { NODES_MAX ≤ node.0 → result ≡ Ok false }
+    {
         let Some(slot) = self.slot(node) else {
             return Ok(false);
         };
@@ -120,7 +126,13 @@ impl<'a, N: ClockName> Shared<'a, N> {
         rt: &R,
         place: &mut Place<N>,
         node: NodeId,
-    ) -> Result<bool, WorkFault> {
+    ) -> Result<bool, WorkFault>
+        ensures seat { IfOk result (λ made. IsSeatAfter made place.old.seat place.new.seat) }
+        ensures no_stamp { result ≡ Err faults.NoStamp → place.new.seat.spent ≡ true }
+        ensures place { (place.new.worker ≡ place.old.worker) × (place.new.turn ≡ place.old.turn) }
+        ensures asked { (place.new.begun ≡ place.old.begun) × (place.new.next ≡ place.old.next) }
+        ensures far { NODES_MAX ≤ node.0 → result ≡ Ok false }
+    {
         let Some(slot) = self.slot(node) else {
             return Ok(false);
         };
@@ -179,13 +191,21 @@ impl<'a, N: ClockName> Shared<'a, N> {
         Ok(self.post_sent(rt, sent)?)
     }
 
-    /// One event of a node's first worker, if there is one to make.
+    /// One event of a node's first worker, if there is one to make: whether there was. A letter on which its node may not step is one.
+    #[tactic(auto, using(crate::proofs::SeatLemmas::drawn_none, crate::proofs::SeatLemmas::drawn_behind))]
     pub fn serve<R: Wait>(
         &self,
         rt: &R,
         place: &mut Place<N>,
         node: NodeId,
-    ) -> Result<bool, WorkFault> {
+    ) -> Result<bool, WorkFault>
+        ensures seat { OnOk result (HasDrawnAtMostOne place.old.seat place.new.seat) }
+        ensures no_stamp { result ≡ Err faults.NoStamp → place.new.seat.spent ≡ true }
+        ensures idle { result ≡ Ok false → place.new.seat ≡ place.old.seat }
+        ensures place { (place.new.worker ≡ place.old.worker) × (place.new.turn ≡ place.old.turn) }
+        ensures asked { (place.new.begun ≡ place.old.begun) × (place.new.next ≡ place.old.next) }
+        ensures far { NODES_MAX ≤ node.0 → result ≡ Ok false }
+    {
         if self.take_letter(rt, place, node)? {
             return Ok(true);
         }

@@ -1,8 +1,10 @@
 //! Worker 256: what becomes of the members, and what is lost with both its ends.
 
-ghost use Rattle.std.specs.Prelude.{◌≡◌, ◌≢◌, ◌<◌, true, false, [], None, All, IfOk};
+ghost use Rattle.std.specs.Prelude.{◌≡◌, ◌≢◌, ◌<◌, true, false, [], None, Err, All, IfOk, OnOk};
 ghost use Rattle.live_workers.specs.Cells.{IsCellOf};
 ghost use Rattle.live_workers.specs.OtherSteps.{is_loss, needs_no_node, IsOther};
+ghost use Rattle.live_workers.specs.PlaceSeats.{HasDrawnOne, IsSeatAfter};
+ghost use Rattle.live_workers.specs.declared.work_fault.WorkFault.TheVariants as faults;
 
 use crate::brought::both_brought;
 use crate::controls::Control;
@@ -67,6 +69,7 @@ fn joining_cell(alloc: Global, number: u32, tries: u32) -> Result<NodeCell, NoMe
 
 impl<'a, N: ClockName> Shared<'a, N> {
     /// Keeps a step at which no node steps, above what was brought to it: its stamp, which the place's seat has seen.
+    #[tactic(auto, using(crate::proofs::SeatLemmas::drawn_one))]
     fn keep(
         &self,
         members: &mut Members,
@@ -76,7 +79,11 @@ impl<'a, N: ClockName> Shared<'a, N> {
     ) -> Result<u64, WorkFault>
         requires event { needs_no_node event ≡ true }
         requires brought { is_loss event ≡ true → brought.items ≢ [] }
-        ensures { IfOk result (λ stamp. stamp < place.new.seat.seen) }
+        ensures seen { IfOk result (λ stamp. stamp < place.new.seat.seen) }
+        ensures seat { OnOk result (HasDrawnOne place.old.seat place.new.seat) }
+        ensures no_stamp { result ≡ Err faults.NoStamp → place.new.seat.spent ≡ true }
+        ensures place { (place.new.worker ≡ place.old.worker) × (place.new.turn ≡ place.old.turn) }
+        ensures asked { (place.new.begun ≡ place.old.begun) × (place.new.next ≡ place.old.next) }
     {
         members.others.reserve()?;
         let used = stamps_of(self.alloc, brought.as_slice())?;
@@ -88,7 +95,7 @@ impl<'a, N: ClockName> Shared<'a, N> {
     }
 
     /// Keeps a step that puts an entry into the log: whether the entry may stand there.
-    #[tactic(auto, using(crate::proofs::OtherStepLemmas::no_loss))]
+    #[tactic(auto, using(crate::proofs::OtherStepLemmas::no_loss, crate::proofs::SeatLemmas::drawn_one_kept))]
     fn keep_entry(
         &self,
         members: &mut Members,
@@ -99,6 +106,10 @@ impl<'a, N: ClockName> Shared<'a, N> {
     ) -> Result<bool, WorkFault>
         requires event { needs_no_node event ≡ true }
         requires no_loss { is_loss event ≡ false }
+        ensures seat { IfOk result (λ made. IsSeatAfter made place.old.seat place.new.seat) }
+        ensures no_stamp { result ≡ Err faults.NoStamp → place.new.seat.spent ≡ true }
+        ensures place { (place.new.worker ≡ place.old.worker) × (place.new.turn ≡ place.old.turn) }
+        ensures asked { (place.new.begun ≡ place.old.begun) × (place.new.next ≡ place.old.next) }
     {
         if !log.log().may_append(&entry) {
             return Ok(false);
@@ -110,14 +121,19 @@ impl<'a, N: ClockName> Shared<'a, N> {
     }
 
     /// A node is lost, if it is up: whether it was.
-    #[tactic(auto, using(crate::proofs::OtherStepLemmas::no_loss))]
+    #[tactic(auto, using(crate::proofs::OtherStepLemmas::no_loss, crate::proofs::SeatLemmas::drawn_one_kept))]
     fn lose_node<R: Wait>(
         &self,
         rt: &R,
         members: &mut Members,
         place: &mut Place<N>,
         node: u32,
-    ) -> Result<bool, WorkFault> {
+    ) -> Result<bool, WorkFault>
+        ensures seat { IfOk result (λ made. IsSeatAfter made place.old.seat place.new.seat) }
+        ensures no_stamp { result ≡ Err faults.NoStamp → place.new.seat.spent ≡ true }
+        ensures place { (place.new.worker ≡ place.old.worker) × (place.new.turn ≡ place.old.turn) }
+        ensures asked { (place.new.begun ≡ place.old.begun) × (place.new.next ≡ place.old.next) }
+    {
         let node = NodeId(node);
         let Some(slot) = self.slot(node) else {
             return Ok(false);
@@ -139,7 +155,12 @@ impl<'a, N: ClockName> Shared<'a, N> {
         members: &mut Members,
         place: &mut Place<N>,
         node: u32,
-    ) -> Result<bool, WorkFault> {
+    ) -> Result<bool, WorkFault>
+        ensures seat { IfOk result (λ made. IsSeatAfter made place.old.seat place.new.seat) }
+        ensures no_stamp { result ≡ Err faults.NoStamp → place.new.seat.spent ≡ true }
+        ensures place { (place.new.worker ≡ place.old.worker) × (place.new.turn ≡ place.old.turn) }
+        ensures asked { (place.new.begun ≡ place.old.begun) × (place.new.next ≡ place.old.next) }
+    {
         if NODES_MAX <= node {
             return Ok(false);
         }
@@ -171,11 +192,39 @@ impl<'a, N: ClockName> Shared<'a, N> {
         place: &mut Place<N>,
         node: u32,
         vnodes: u16,
-    ) -> Result<bool, WorkFault> {
+    ) -> Result<bool, WorkFault>
+        ensures seat { IfOk result (λ made. IsSeatAfter made place.old.seat place.new.seat) }
+        ensures no_stamp { result ≡ Err faults.NoStamp → place.new.seat.spent ≡ true }
+        ensures place { (place.new.worker ≡ place.old.worker) × (place.new.turn ≡ place.old.turn) }
+        ensures asked { (place.new.begun ≡ place.old.begun) × (place.new.next ≡ place.old.next) }
+    {
         let mut log = self.log.lock(rt);
         let node = NodeId(node);
         let entry = Entry::Reweight { node, vnodes };
         self.keep_entry(members, place, &mut log, Event::Reweight { node }, entry)
+    }
+
+    /// Makes the event of a control, but for a node that comes back: whether it could be made.
+    fn make_control<R: Wait>(
+        &self,
+        rt: &R,
+        members: &mut Members,
+        place: &mut Place<N>,
+        control: Control,
+    ) -> Result<bool, WorkFault>
+        ensures seat { IfOk result (λ made. IsSeatAfter made place.old.seat place.new.seat) }
+        ensures no_stamp { result ≡ Err faults.NoStamp → place.new.seat.spent ≡ true }
+        ensures place { (place.new.worker ≡ place.old.worker) × (place.new.turn ≡ place.old.turn) }
+        ensures asked { (place.new.begun ≡ place.old.begun) × (place.new.next ≡ place.old.next) }
+    {
+        match control {
+            Control::Fail(node) => self.lose_node(rt, members, place, node),
+            Control::Join(node) => self.join_node(rt, members, place, node),
+            Control::Reweight(node, vnodes) => {
+                self.reweight_node(rt, members, place, node, vnodes)
+            }
+            Control::Back(_) => Ok(false),
+        }
     }
 
     /// Takes the next control, but for a node that comes back: whether it could be taken.
@@ -184,22 +233,20 @@ impl<'a, N: ClockName> Shared<'a, N> {
         rt: &R,
         members: &mut Members,
         place: &mut Place<N>,
-    ) -> Result<bool, WorkFault> {
+    ) -> Result<bool, WorkFault>
+        ensures seat { IfOk result (λ made. IsSeatAfter made place.old.seat place.new.seat) }
+        ensures no_stamp { result ≡ Err faults.NoStamp → place.new.seat.spent ≡ true }
+        ensures place { (place.new.worker ≡ place.old.worker) × (place.new.turn ≡ place.old.turn) }
+        ensures asked { (place.new.begun ≡ place.old.begun) × (place.new.next ≡ place.old.next) }
+    {
         let Some(control) = members.controls.front().copied() else {
             return Ok(false);
         };
-        let made = match control {
-            Control::Fail(node) => self.lose_node(rt, members, place, node)?,
-            Control::Join(node) => self.join_node(rt, members, place, node)?,
-            Control::Reweight(node, vnodes) => {
-                self.reweight_node(rt, members, place, node, vnodes)?
-            }
-            Control::Back(_) => false,
-        };
-        if made {
-            drop(members.controls.pop_front());
+        if !self.make_control(rt, members, place, control)? {
+            return Ok(false);
         }
-        Ok(made)
+        drop(members.controls.pop_front());
+        Ok(true)
     }
 
     /// A lost node leaves the members, if it is one: whether it did.
@@ -209,7 +256,12 @@ impl<'a, N: ClockName> Shared<'a, N> {
         members: &mut Members,
         place: &mut Place<N>,
         node: u32,
-    ) -> Result<bool, WorkFault> {
+    ) -> Result<bool, WorkFault>
+        ensures seat { IfOk result (λ made. IsSeatAfter made place.old.seat place.new.seat) }
+        ensures no_stamp { result ≡ Err faults.NoStamp → place.new.seat.spent ≡ true }
+        ensures place { (place.new.worker ≡ place.old.worker) × (place.new.turn ≡ place.old.turn) }
+        ensures asked { (place.new.begun ≡ place.old.begun) × (place.new.next ≡ place.old.next) }
+    {
         let node = NodeId(node);
         let Some(slot) = self.slot(node) else {
             return Ok(false);
@@ -229,7 +281,12 @@ impl<'a, N: ClockName> Shared<'a, N> {
         rt: &R,
         members: &mut Members,
         place: &mut Place<N>,
-    ) -> Result<bool, WorkFault> {
+    ) -> Result<bool, WorkFault>
+        ensures seat { IfOk result (λ made. IsSeatAfter made place.old.seat place.new.seat) }
+        ensures no_stamp { result ≡ Err faults.NoStamp → place.new.seat.spent ≡ true }
+        ensures place { (place.new.worker ≡ place.old.worker) × (place.new.turn ≡ place.old.turn) }
+        ensures asked { (place.new.begun ≡ place.old.begun) × (place.new.next ≡ place.old.next) }
+    {
         for node in 0..NODES_MAX {
             if self.leave(rt, members, place, node)? {
                 return Ok(true);
@@ -244,7 +301,12 @@ impl<'a, N: ClockName> Shared<'a, N> {
         rt: &R,
         members: &mut Members,
         place: &mut Place<N>,
-    ) -> Result<bool, WorkFault> {
+    ) -> Result<bool, WorkFault>
+        ensures seat { IfOk result (λ made. IsSeatAfter made place.old.seat place.new.seat) }
+        ensures no_stamp { result ≡ Err faults.NoStamp → place.new.seat.spent ≡ true }
+        ensures place { (place.new.worker ≡ place.old.worker) × (place.new.turn ≡ place.old.turn) }
+        ensures asked { (place.new.begun ≡ place.old.begun) × (place.new.next ≡ place.old.next) }
+    {
         let Ok(lost) = self.losses.try_recv(rt) else {
             return Ok(false);
         };
@@ -261,7 +323,12 @@ impl<'a, N: ClockName> Shared<'a, N> {
     }
 
     /// One event of worker 256, if there is one to make: whether there was.
-    pub fn change_members<R: Wait>(&self, rt: &R, place: &mut Place<N>) -> Result<bool, WorkFault> {
+    pub fn change_members<R: Wait>(&self, rt: &R, place: &mut Place<N>) -> Result<bool, WorkFault>
+        ensures seat { IfOk result (λ made. IsSeatAfter made place.old.seat place.new.seat) }
+        ensures no_stamp { result ≡ Err faults.NoStamp → place.new.seat.spent ≡ true }
+        ensures place { (place.new.worker ≡ place.old.worker) × (place.new.turn ≡ place.old.turn) }
+        ensures asked { (place.new.begun ≡ place.old.begun) × (place.new.next ≡ place.old.next) }
+    {
         let mut members = self.members.lock(rt);
         if self.take_loss(rt, &mut members, place)? {
             return Ok(true);

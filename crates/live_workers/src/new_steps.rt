@@ -1,7 +1,9 @@
 //! The steps that a live cluster made since they were last merged.
 
-ghost use Rattle.std.specs.Prelude.{◌≡◌, ◌++◌, IfOk, OnOk};
-ghost use Rattle.live_workers.specs.NewSteps.{nothing_merged};
+ghost use Rattle.std.specs.Prelude.{◌≡◌, ◌+◌, ◌++◌, length, All, IfOk, OnOk};
+ghost use Rattle.std.specs.List.Sorted.{IsNonDecreasingBy};
+ghost use Rattle.live_cells.specs.declared.step.Step.{Step as TheStep};
+ghost use Rattle.live_workers.specs.NewSteps.{nothing_merged, steps_since, IsKept};
 
 use crate::shared::Shared;
 use live_cells::{NodeCell, Step};
@@ -55,7 +57,11 @@ fn add_steps_from(
     steps: &mut Vec<Step>,
     cell: &NodeCell,
     from: usize,
-) -> Result<usize, NoMemory> {
+) -> Result<usize, NoMemory>
+    requires { All IsKept steps.old.items }
+    ensures kept { OnOk result (All IsKept steps.new.items) }
+    ensures count { IfOk result (λ count. length steps.new.items ≡ length steps.old.items + steps_since from count) }
+{
     if cell.spent() {
         return Err(NoMemory);
     }
@@ -74,7 +80,11 @@ impl<'a, N: ClockName> Shared<'a, N> {
         steps: &mut Vec<Step>,
         node: NodeId,
         merged: &mut usize,
-    ) -> Result<(), NoMemory> {
+    ) -> Result<(), NoMemory>
+        requires { All IsKept steps.old.items }
+        ensures kept { OnOk result (All IsKept steps.new.items) }
+        ensures count { OnOk result (length steps.new.items ≡ length steps.old.items + steps_since merged.old merged.new) }
+    {
         let Some(slot) = self.slot(node) else {
             return Ok(());
         };
@@ -91,7 +101,11 @@ impl<'a, N: ClockName> Shared<'a, N> {
         rt: &R,
         steps: &mut Vec<Step>,
         merged: &mut usize,
-    ) -> Result<(), NoMemory> {
+    ) -> Result<(), NoMemory>
+        requires { All IsKept steps.old.items }
+        ensures kept { OnOk result (All IsKept steps.new.items) }
+        ensures count { OnOk result (length steps.new.items ≡ length steps.old.items + steps_since merged.old merged.new) }
+    {
         let members = self.members.lock(rt);
         let all = members.others.as_slice();
         if let Some(new) = all.get(*merged..) {
@@ -102,7 +116,11 @@ impl<'a, N: ClockName> Shared<'a, N> {
     }
 
     /// Copies of all steps made since the last merge, by stamp. Costs the copies, and putting them in order.
-    pub fn new_steps<R: Wait>(&self, rt: &R, merged: &mut Merged) -> Result<Vec<Step>, NoMemory> {
+    pub fn new_steps<R: Wait>(&self, rt: &R, merged: &mut Merged) -> Result<Vec<Step>, NoMemory>
+        // They are steps of nodes, or such at which no node stepped.
+        ensures kept { IfOk result (λ steps. All IsKept steps.items) }
+        ensures ascending { IfOk result (λ steps. IsNonDecreasingBy (λ (step : TheStep). step.stamp) steps.items) }
+    {
         let mut steps = Vec::new(self.alloc);
         for node in 0..NODES_MAX {
             if let Some(count) = merged.cells.get_mut(node as usize) {

@@ -1,6 +1,7 @@
 //! The cluster as its script opens it, behind locks.
 
-ghost use Rattle.std.specs.Prelude.{◌≡◌, ◌≤◌, Ok, length, All, IfOk, OnOk};
+ghost use Rattle.std.specs.Prelude.{◌≡◌, ◌≤◌, Ok, None, map, length, All, IfOk, OnOk};
+ghost use Rattle.std.specs.List.{range_with_len};
 ghost use Rattle.live_workers.specs.Cells.{IsCellOf};
 ghost use Rattle.live_workers.specs.PlaceSeats.{HasDrawnOne, HasDrawnOneAt};
 
@@ -87,12 +88,16 @@ fn opening_cell(
 /// The workers' places, each with its seat.
 fn places_of<N: ClockName>(alloc: Global, seats: Vec<Seat>) -> Result<Vec<Place<N>>, NoMemory>
     requires { All (λ seat. seat.clock ≡ N.clock) seats.items }
+    ensures workers { IfOk result (λ places. map (λ place. place.worker) places.items ≡ range_with_len 0 (length seats.items)) }
+    ensures seats { IfOk result (λ places. map (λ place. place.seat) places.items ≡ seats.items) }
+    ensures new { IfOk result (λ places. All (λ place. (place.turn ≡ 0) × (place.begun ≡ 0) × (place.next ≡ None)) places.items) }
 {
     let mut places = Vec::with_capacity(alloc, seats.len())?;
-    let mut worker = 0u32;
     for seat in seats {
+        let Ok(worker) = u32::try_from(places.len()) else {
+            return Err(NoMemory);
+        };
         places.push(Place::new(worker, seat))?;
-        worker = worker.saturating_add(1);
     }
     Ok(places)
 }
@@ -147,6 +152,7 @@ impl<'a, N: ClockName> Shared<'a, N> {
     }
 
     /// The cluster as its script opens it, and the places of its workers. The first stamp is that of the log's first entry.
+    #[tactic(auto, using(crate::proofs::PlaceLists::drawn_at_kept))]
     pub fn opening<R: Wait>(
         rt: &R,
         alloc: Global,
@@ -157,6 +163,11 @@ impl<'a, N: ClockName> Shared<'a, N> {
         requires clock { clock.id ≡ N.clock }
         requires seats { All (λ seat. seat.clock ≡ N.clock) seats.items }
         ensures script { IfOk result (λ opened. opened.0.script.now ≡ script.now) }
+        // There is a place for each seat, by its worker's number, from 0.
+        ensures workers { IfOk result (λ opened. map (λ place. place.worker) opened.1.items ≡ range_with_len 0 (length seats.items)) }
+        ensures new { IfOk result (λ opened. All (λ place. (place.turn ≡ 0) × (place.begun ≡ 0) × (place.next ≡ None)) opened.1.items) }
+        // Worker 256 drew the first stamp, and the others' seats are as they were.
+        ensures seats { IfOk result (λ opened. HasDrawnOneAt MEMBERS_WORKER seats.items (map (λ place. place.seat) opened.1.items)) }
     {
         let mut seats = seats;
         let log = log_by_seats(alloc, script, &clock, &mut seats)?;

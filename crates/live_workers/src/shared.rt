@@ -102,7 +102,8 @@ impl<'a, N: ClockName> Shared<'a, N> {
 
     /// The lock of a node; none where there may be no such node.
     pub(crate) fn slot(&self, node: NodeId) -> Option<&Mutex<Slot<N>>>
-        ensures { NODES_MAX ≤ node.0 → result ≡ None }
+        ensures far { NODES_MAX ≤ node.0 → result ≡ None }
+        ensures near { result ≡ None → NODES_MAX ≤ node.0 }
     {
         self.slots.get(node.0 as usize)
     }

@@ -1,10 +1,11 @@
 //! What stands behind a node's lock.
 
-ghost use Rattle.std.specs.Prelude.{◌≡◌, ◌<◌, true, Err, IfOk, IfSome};
-ghost use Rattle.std.specs.Option.{is_some};
+ghost use Rattle.std.specs.Prelude.{◌≡◌, ◌<◌, ℕ, true, false, Ok, Err, IfOk, IfSome, OnOk};
+ghost use Rattle.std.specs.Option.{is_some, option_copied};
 ghost use Rattle.std.proofs.Props.{props};
-ghost use Rattle.live_workers.specs.Cells.{IsCellOf};
-ghost use Rattle.live_workers.specs.PlaceSeats.{IsSeatAfter};
+ghost use Rattle.live_cells.specs.Brought.{takes_brought};
+ghost use Rattle.live_workers.specs.Cells.{IsCellOf, may_step};
+ghost use Rattle.live_workers.specs.PlaceSeats.{IsSeatAfter, HasDrawnAtMostOne};
 ghost use Rattle.live_workers.specs.declared.work_fault.WorkFault.TheVariants as faults;
 
 use crate::brought::{both_brought, brought_of};
@@ -60,7 +61,9 @@ impl<N: ClockName> Slot<N> {
     }
 
     /// The node's cell, unless there is none or the node is lost.
-    pub(crate) fn live_cell(&self) -> Option<&NodeCell> {
+    pub(crate) fn live_cell(&self) -> Option<&NodeCell>
+        ensures { is_some result ≡ true → option_copied result ≡ self.now.cell }
+    {
         if self.loss.is_some() {
             return None;
         }
@@ -73,7 +76,10 @@ impl<N: ClockName> Slot<N> {
     }
 
     /// Whether the node exists, isn't lost, and may step on an input.
-    pub(crate) fn may(&self, input: &Input) -> Result<bool, NoMemory> {
+    #[tactic(auto, using(crate::proofs::CellNumbers::may_of_cell))]
+    pub(crate) fn may(&self, input: &Input) -> Result<bool, NoMemory>
+        ensures { result ≡ Ok true → may_step input.now self.now.cell ≡ true }
+    {
         match self.live_cell() {
             Some(cell) => {
                 if cell.spent() {
@@ -110,6 +116,7 @@ impl<N: ClockName> Slot<N> {
         requires clock { clock.now.id ≡ N.clock }
         requires seat { seat.old.clock ≡ N.clock }
         ensures seen { IfOk result (λ made. IfSome made (λ stamp. stamp < seat.new.seen)) }
+        ensures made { takes_brought event ≡ false → IfOk result (λ made. is_some made ≡ may_step input self.old.cell) }
         ensures seat { IfOk result (λ made. IsSeatAfter (is_some made) seat.old seat.new) }
         ensures no_stamp { result ≡ Err faults.NoStamp → seat.new.spent ≡ true }
         ensures clock { seat.new.clock ≡ N.clock }
@@ -161,6 +168,7 @@ impl<N: ClockName> Slot<N> {
     ) -> Result<Option<Vec<Letter<N>>>, WorkFault>
         requires clock { clock.now.id ≡ N.clock }
         requires seat { seat.old.clock ≡ N.clock }
+        ensures made { takes_brought event ≡ false → IfOk result (λ sent. is_some sent ≡ may_step input self.old.cell) }
         ensures seat { IfOk result (λ sent. IsSeatAfter (is_some sent) seat.old seat.new) }
         ensures no_stamp { result ≡ Err faults.NoStamp → seat.new.spent ≡ true }
         ensures clock { seat.new.clock ≡ N.clock }
@@ -181,7 +189,9 @@ impl<N: ClockName> Slot<N> {
         }
     }
 
-    /// A message comes to the node. One on which the node may not step is let go; if it is lost, so is the message.
+    /// A message comes to the node. One on which the node may not step is let go; if it is lost, so is the message, and its carry is given
+    /// back.
+    #[tactic(auto, using(crate::proofs::SeatLemmas::drawn_none, crate::proofs::SeatLemmas::drawn_after))]
     pub(crate) fn take(
         &mut self,
         alloc: Global,
@@ -194,7 +204,10 @@ impl<N: ClockName> Slot<N> {
     ) -> Result<Taken<N>, WorkFault>
         requires clock { clock.now.id ≡ N.clock }
         requires seat { seat.old.clock ≡ N.clock }
-        ensures { seat.new.clock ≡ N.clock }
+        ensures seat { OnOk result (HasDrawnAtMostOne seat.old seat.new) }
+        ensures lost { (given mark : ℕ) → result ≡ Ok (Taken.Lost given mark) → (given ≡ carry) × (seat.new ≡ seat.old) }
+        ensures no_stamp { result ≡ Err faults.NoStamp → seat.new.spent ≡ true }
+        ensures clock { seat.new.clock ≡ N.clock }
     {
         if let Some(mark) = self.mark(clock) {
             return Ok(Taken::Lost { carry, mark });
@@ -205,6 +218,7 @@ impl<N: ClockName> Slot<N> {
     }
 
     /// A request of the node is lost with its receiver, which has this mark of it. If the node is lost too, both carries are given back.
+    #[tactic(auto, using(crate::proofs::SeatLemmas::drawn_none, crate::proofs::SeatLemmas::drawn_after))]
     pub(crate) fn take_loss(
         &mut self,
         alloc: Global,
@@ -216,7 +230,11 @@ impl<N: ClockName> Slot<N> {
     ) -> Result<Taken<N>, WorkFault>
         requires clock { clock.now.id ≡ N.clock }
         requires seat { seat.old.clock ≡ N.clock }
-        ensures { seat.new.clock ≡ N.clock }
+        ensures seat { OnOk result (HasDrawnAtMostOne seat.old seat.new) }
+        ensures lost { (given marked : ℕ) → result ≡ Ok (Taken.Lost given marked)
+            → (given ≡ carry) × (marked ≡ mark) × (seat.new ≡ seat.old) }
+        ensures no_stamp { result ≡ Err faults.NoStamp → seat.new.spent ≡ true }
+        ensures clock { seat.new.clock ≡ N.clock }
     {
         if !self.is_live() {
             return Ok(Taken::Lost { carry, mark });

@@ -2,6 +2,7 @@
 
 ghost use Rattle.std.specs.Prelude.{◌≡◌, ◌<◌, ℕ, false, true, None, Ok, Err, IfOk, IfSome, OnOk};
 ghost use Rattle.std.specs.Option.{is_some};
+ghost use Rattle.sheep_node.specs.MayTests.{may};
 ghost use Rattle.live_cells.specs.Brought.{takes_brought};
 ghost use Rattle.live_cells.specs.Cell.{cell_after};
 ghost use Rattle.live_workers.specs.Cells.{IsCellOf};
@@ -33,7 +34,7 @@ fn takes_brought(event: Event) -> bool
 }
 
 /// The node steps on an input, if it may: the step's stamp, which the seat has seen.
-#[tactic(auto, using(crate::proofs::CellNumbers::spent_cell, crate::proofs::CellNumbers::same_cell, crate::proofs::CellNumbers::stepped_cell, crate::proofs::SeatLemmas::drawn_one))]
+#[tactic(auto, using(crate::proofs::CellNumbers::step_rules, crate::proofs::SeatLemmas::drawn_one))]
 pub(crate) fn act<N: ClockName>(
     cell: &mut NodeCell,
     event: Event,
@@ -46,6 +47,8 @@ pub(crate) fn act<N: ClockName>(
     requires seat { seat.old.clock ≡ N.clock }
     ensures step { IfOk result (λ made. IfSome made (λ stamp. cell.new ≡ cell_after stamp event input brought.items cell.old)) }
     ensures seen { IfOk result (λ made. IfSome made (λ stamp. stamp < seat.new.seen)) }
+    // Where nothing need be brought, the node steps just where it may.
+    ensures made { takes_brought event ≡ false → IfOk result (λ made. is_some made ≡ may input cell.old.node) }
     ensures seat { IfOk result (λ made. IsSeatAfter (is_some made) seat.old seat.new) }
     ensures no_stamp { result ≡ Err faults.NoStamp → seat.new.spent ≡ true }
     ensures live { OnOk result (cell.new.spent ≡ false) }
