@@ -84,7 +84,7 @@ unread_more log node entry front =
     (ap (λ (all : List Entry). all ++ entry ∷ []) front.is ∙ append_assoc node.peer.entries front.rest (entry ∷ []))
     ∙ ap (λ (rest : List Entry). rest ++ entry ∷ []) (sym (unread_is node.peer.entries front.rest log front.is))
 
-unread_goes : (script : List Statement) (world : World) (n : ℕ) (host : Host) (cause : NodeCause) → IsCause script world n host cause
+pub unread_goes : (script : List Statement) (world : World) (n : ℕ) (host : Host) (cause : NodeCause) → IsCause script world n host cause
     → IsFront host.node.peer.entries world.log
     → UnreadGoes (input_of_cause cause) host.node (unread_of world.log host.node)
     (drop (length (read_after (input_of_cause cause) host.node.peer.entries)) (log_after_cause cause world.log))

@@ -46,7 +46,7 @@ use Rattle.overlap_law.proofs.WorksAtCourses.{IsAt, AtSoFar, IsOutcomeAt, StepsK
 abbrev pub IsBackStage : OpStage → Type 0
 IsBackStage stage = (vid : Vid) × (inode : Content) × (stage ≡ Working vid (WritingBack inode))
 
-no_back : IsNoneAtFirst IsBackStage
+pub no_back : IsNoneAtFirst IsBackStage
 no_back = record {
   asked = λ entry is. let same = is.2 in cc (same);
   answered = λ change is. let same = is.2 in cc (same);
@@ -57,12 +57,12 @@ no_back = record {
 }
 
 -- it read the inode just now
-record HasRead (op : Op) (bytes : List ℕ) (step : OpStep) (vid : Vid) (inode : Content) : Type 0 where
-  ids : List ℕ
-  header : Header
-  at : op.stage ≡ Working vid (Opening false ids header)
-  same : inode_by header vid.0 (table_in ids header.spec bytes) ≡ inode
-  act : step.act ≡ op_acts.Work (write_back (inode_by header vid.0 (table_in ids header.spec bytes)) bytes)
+pub record HasRead (op : Op) (bytes : List ℕ) (step : OpStep) (vid : Vid) (inode : Content) : Type 0 where
+  pub ids : List ℕ
+  pub header : Header
+  pub at : op.stage ≡ Working vid (Opening false ids header)
+  pub same : inode_by header vid.0 (table_in ids header.spec bytes) ≡ inode
+  pub act : step.act ≡ op_acts.Work (write_back (inode_by header vid.0 (table_in ids header.spec bytes)) bytes)
 
 module _ (op : Op) (bytes : List ℕ) (step : OpStep) (vid : Vid) (inode : Content) where
   read_task : (of : Vid) (task : Task) → op.stage ≡ Working of task → task_done op of bytes task ≡ step
@@ -84,7 +84,7 @@ module _ (op : Op) (bytes : List ℕ) (step : OpStep) (vid : Vid) (inode : Conte
   read_task of (Copying ids header) at is stage = absurd (cc (stage))
   read_task of (Making entry made) at is stage = absurd (cc (stage))
 
-  has_read : op_on_done bytes op ≡ Some step → step.op.stage ≡ Working vid (WritingBack inode) → HasRead op bytes step vid inode
+  pub has_read : op_on_done bytes op ≡ Some step → step.op.stage ≡ Working vid (WritingBack inode) → HasRead op bytes step vid inode
   unfolding op_on_done
   has_read next stage = by_stage op.stage refl next
     where

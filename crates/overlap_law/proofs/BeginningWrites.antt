@@ -51,7 +51,7 @@ use Rattle.overlap_law.proofs.WritesTold.{IsOnDisks, on_begins}
 
 -- ---- blocks of a disk
 
-has_one : (found : Option histories.Disk) (many block : ℕ) → blocks_in found ≡ Some many → block < many → has_block found block ≡ true
+pub has_one : (found : Option histories.Disk) (many block : ℕ) → blocks_in found ≡ Some many → block < many → has_block found block ≡ true
 has_one None many block is below = absurd (cc (is))
 has_one (Some disk) many block is below =
     let same : disk.blocks ≡ many = same_Some disk.blocks many is in

@@ -2,9 +2,9 @@
 -- does, and if what works make may be read.
 use Rattle.std.proofs.Common.{◌≡◌, ◌≢◌, ◌⊎◌, inl, inr, ⊎_elim, arith, ℕ, ◌<◌, ◌≤◌, Bool, true, false, List, [], ◌∷◌, ◌++◌, All, fold, length, Option, Some, None, slice_get, get_or, refl, sym, ap, subst, ◌∙◌}
 use Rattle.std.proofs.lemmas.Bool.{both_ways, false_from_ne_true}
-use Rattle.std.proofs.lemmas.List.{length-map}
 use Rattle.std.proofs.lemmas.List.Sums.{fold-append}
-use Rattle.std.proofs.lemmas.Option.{same_Some, slice_get_cases, slice_get_within}
+use Rattle.std.proofs.lemmas.Option.{same_Some, slice_get_cases}
+use Rattle.object_id.specs.declared.entry.Entry.{Entry}
 use Rattle.object_id.specs.declared.entry.VdiSpec.{VdiSpec}
 use Rattle.object_id.specs.declared.limits.TheConstants.{BLOCK_BYTES, OBJECTS_MAX}
 use Rattle.object_id.specs.Fields.{zeros}
@@ -15,32 +15,29 @@ use Rattle.disk_history.specs.Ledger.{Item, Disk, Ledger, empty_ledger, ledger_a
 use Rattle.cluster_script.specs.declared.statement.Statement.{Statement}
 use Rattle.vdi_directory.specs.declared.effect.Effect.{Effect}
 use Rattle.vdi_directory.specs.Chains.{is_above}
+use Rattle.vdi_directory.specs.Dead.{is_dead}
 use Rattle.vdi_directory.specs.Decisions.{log_effects}
-use Rattle.vdi_directory.specs.States.{state_of, is_live_state}
 use Rattle.vdi_directory.proofs.DeadLemmas.{chained, chain-used}
 use Rattle.peer_proto.specs.declared.work.ObjWork.{ObjWork}
 use Rattle.peer_proto.specs.Work.{oid_of}
-use Rattle.message_wire.specs.declared.packet.Packet.TheVariants.{Request, Reply}
-use Rattle.peer_proto.specs.declared.ask.PeerReq.{PeerReq}
-use Rattle.object_id.specs.declared.node.NodeId.{NodeId}
 use Rattle.sheep_node.specs.declared.event.Event.{Event}
 use Rattle.sheep_world.specs.Began.{Began}
-use Rattle.overlap_law.specs.Attempts.{AttemptRecord, MessageFate, attempt_with_fate, attempts_with_fate, object_of}
+use Rattle.overlap_law.specs.Attempts.{AttemptRecord, MessageFate, object_of}
 use Rattle.overlap_law.specs.Grants.{writer_of}
+use Rattle.overlap_law.specs.Each.{spec_in}
 use Rattle.overlap_law.specs.Headline.{ledger_of}
 use Rattle.overlap_law.specs.MomentChanges.{MomentChange, MomentTrail, Then, RunsAreInRange}
-use Rattle.overlap_law.specs.Packets.{Wire}
 use Rattle.overlap_law.specs.Past.{MomentWithPast, run_with_past}
 use Rattle.overlap_law.specs.ShapedAttempts.{AreShaped}
-use Rattle.overlap_law.specs.StayingBlocks.{WasServed, Stays, MayStay, IsHomeToCome, BlocksStayWritten, WorksMayStay, HasEntryOf, EntersWhatMayCome, GrowsKeeping, DisksAreLive, InodesAreLive}
+use Rattle.overlap_law.specs.StayingBlocks.{IsBlockOfAnyDisk, WasServed, Stays, MayStay, IsHomeToCome, BlocksStayWritten, WorksMayStay, HasEntryOf, EntersWhatMayCome, GrowsKeeping, DisksArePublished, InodesAreLive}
 use Rattle.overlap_law.specs.Tables.{entry_by, EntriesAreMade}
 use Rattle.overlap_law.specs.TiedAttempts.{IsTied}
 use Rattle.overlap_law.specs.ToCome.{IsToCome, IsEntryToCome}
-use Rattle.overlap_law.specs.Traffic.{Traffic, IsBegunBy, NothingMoves, MessageIsLost, ReplyIsReceived, RequestIsAnswered, RequestsAreSent, AttemptBegins, RepliesGo}
+use Rattle.overlap_law.specs.Traffic.{Traffic}
 use Rattle.overlap_law.specs.Units.{covers_by}
 use Rattle.overlap_law.specs.Words.{Hosts, is_mute, bytes_by}
-use Rattle.overlap_law.specs.WrittenBlocks.{IsBlockOfDisk, items_at, is_torn_here}
-use Rattle.overlap_law.proofs.AttemptLists.{got_more}
+use Rattle.overlap_law.specs.WrittenBlocks.{items_at, is_torn_here}
+use Rattle.overlap_law.proofs.AttemptsBegin.{IsNew, old_or_new}
 use Rattle.overlap_law.proofs.ClosedSnapshots.{snapped-no_writer}
 use Rattle.overlap_law.proofs.FinishedInMoments.{TermsHold, kept_terms}
 use Rattle.overlap_law.proofs.GrantedAttempts.{only_writer-in_run}
@@ -55,56 +52,15 @@ use Rattle.overlap_law.proofs.ItemsStayOpen.{items_open}
 use Rattle.overlap_law.proofs.ReadingLaws.{AttemptsGrow}
 use Rattle.overlap_law.proofs.RunsByChanges.{on_the_way}
 use Rattle.overlap_law.proofs.ShapedAttempts.{kept_shaped}
-use Rattle.overlap_law.proofs.SnapshotChains.{chain_snapped}
+use Rattle.overlap_law.proofs.PublishedChains.{chain_was_snapped, published_used, published_later}
+use Rattle.overlap_law.proofs.PublishedInodes.{was_published}
 use Rattle.overlap_law.proofs.TiedInRuns.{kept_tied}
 use Rattle.overlap_law.proofs.ToComeStays.{might_before}
 use Rattle.overlap_law.proofs.TrafficOfChanges.{traffic}
-use Rattle.overlap_law.proofs.LiveIds.{used_vid, live_real, few_objects, spec_then}
-
--- ---- the attempt that begins
-
--- one begins, or there are as many as before
-pub record Begins (hosts hosts_after : Hosts) (attempts after : List AttemptRecord) : Type 0 where
-  pub n : ℕ
-  pub sends : List (NodeId × PeerReq)
-  pub attempt : AttemptRecord
-  pub begun : IsBegunBy hosts hosts_after n sends attempt
-  pub is : after ≡ attempts ++ attempt ∷ []
-
-marked_long : (told : MessageFate) (sender : NodeId) (number : ℕ) (attempts : List AttemptRecord)
-    → length (attempts_with_fate told sender number attempts) ≡ length attempts
-unfolding attempts_with_fate
-marked_long told sender number attempts = length-map attempts (attempt_with_fate told sender number)
-
-begins_or_long : (hosts hosts_after : Hosts) (wire later : Wire) (attempts after : List AttemptRecord)
-    → Traffic hosts hosts_after wire attempts later after → Begins hosts hosts_after attempts after ⊎ (length after ≡ length attempts)
-begins_or_long hosts hosts_after wire later attempts after NothingMoves = inr refl
-begins_or_long hosts hosts_after wire later attempts after (MessageIsLost name (Request to bytes) there) = inr (marked_long _ _ _ attempts)
-begins_or_long hosts hosts_after wire later attempts after (MessageIsLost name (Reply from bytes) there) = inr refl
-begins_or_long hosts hosts_after wire later attempts after (ReplyIsReceived name from bytes there) = inr refl
-begins_or_long hosts hosts_after wire later attempts after (RequestIsAnswered name to bytes up rsp there answer) =
-    inr (marked_long _ _ _ attempts)
-begins_or_long hosts hosts_after wire later attempts after (RequestsAreSent n sends by nothing) = inr refl
-begins_or_long hosts hosts_after wire later attempts after (AttemptBegins n sends attempt begun) =
-    inl (record { n = n; sends = sends; attempt = attempt; begun = begun; is = refl })
-begins_or_long hosts hosts_after wire later attempts after (RepliesGo n) = inr refl
-
--- an attempt behind the change was there, or is the one that begins
-pub record IsNew (hosts hosts_after : Hosts) (attempts after : List AttemptRecord) (attempt : AttemptRecord) : Type 0 where
-  pub begins : Begins hosts hosts_after attempts after
-  pub same : begins.attempt ≡ attempt
-
-module _ (hosts hosts_after : Hosts) (wire later : Wire) (attempts after : List AttemptRecord)
-    (kind : Traffic hosts hosts_after wire attempts later after) (j : ℕ) (attempt : AttemptRecord)
-    (at : slice_get after j ≡ Some attempt) where
-  old_or_new : (j < length attempts) ⊎ IsNew hosts hosts_after attempts after attempt
-  old_or_new = ⊎_elim
-      (λ (begins : Begins hosts hosts_after attempts after). ⊎_elim
-      (λ (old : slice_get attempts j ≡ Some attempt). inl (slice_get_within attempts j attempt old))
-      (λ (new : (j ≡ length attempts) × (begins.attempt ≡ attempt)). inr (record { begins = begins; same = new.1 }))
-      (got_more attempts begins.attempt j attempt (ap (λ (list : List AttemptRecord). slice_get list j) (sym begins.is) ∙ at)))
-      (λ (long : length after ≡ length attempts). let below = slice_get_within after j attempt at in inl (omega (arith, long, below)))
-      (begins_or_long hosts hosts_after wire later attempts after kind)
+use Rattle.overlap_law.proofs.CreatedInodes.{header_is}
+use Rattle.overlap_law.proofs.DraftsOfLogs.{spec_was}
+use Rattle.overlap_law.proofs.LiveIds.{used_vid, few_objects}
+use Rattle.overlap_law.proofs.StayingRows.{dead_later}
 
 -- ---- a change
 
@@ -175,7 +131,7 @@ module _ (script : List Statement) (range : RunsAreInRange script) (events : Lis
     pub work : was.work ≡ now.work
     pub req : was.req ≡ now.req
 
-  might : (oid unit j : ℕ) (now : AttemptRecord) → IsToCome hosts attempts oid unit j now → j < length before.past.attempts
+  pub might : (oid unit j : ℕ) (now : AttemptRecord) → IsToCome hosts attempts oid unit j now → j < length before.past.attempts
       → Might oid unit j now
   might oid unit j now comes below = by_cases (slice_get_cases before.past.attempts j).1
     where
@@ -200,24 +156,26 @@ module _ (script : List Statement) (range : RunsAreInRange script) (events : Lis
       by_cases (inr (far, none)) = absurd (omega (arith, far, below))
 
   module _ (good_id : ℕ → Bool)
-      (live_disks : DisksAreLive (ledger_of before.past.history) (log_effects before.world.log))
+      (were_published : DisksArePublished (ledger_of before.past.history) (log_effects before.world.log))
+      (are_published : DisksArePublished (ledger_of after.past.history) (log_effects after.world.log))
       (enters : EntersWhatMayCome good_id before after)
       (written : BlocksStayWritten (ledger_of before.past.history)
       (log_effects before.world.log) good_id before.world.hosts before.past.attempts)
     where
-      abbrev HomeBefore : ℕ → ℕ → ℕ → Type 0
+      abbrev pub HomeBefore : ℕ → ℕ → ℕ → Type 0
       HomeBefore vid index home = IsHomeToCome before.world.hosts before.past.attempts vid index home
 
       -- an entry that may come is the own one, or might come before
-      entry_before : (vid index j : ℕ) (entry : AttemptRecord) → HasEntryOf effects good_id vid index
-          → IsEntryToCome hosts attempts vid index j entry → HomeBefore vid index (entry_by index entry)
-      entry_before vid index j entry has comes = ⊎_elim
+      pub entry_before : (vid index j : ℕ) (entry : AttemptRecord) → was_published after.world.log vid ≡ true
+          → HasEntryOf effects good_id vid index → IsEntryToCome hosts attempts vid index j entry
+          → HomeBefore vid index (entry_by index entry)
+      entry_before vid index j entry published has comes = ⊎_elim
           (λ (old : j < length before.past.attempts).
           let was = might _ _ j entry comes old in
           inl (j, was.was, was.comes, ap (λ (w : ObjWork). entry_by index (record entry { work = w })) was.work))
           (λ (new : IsNew before.world.hosts hosts before.past.attempts attempts entry).
-          by_entry (enters.enters entry (new.begins.is ∙ ap (λ (a : AttemptRecord). before.past.attempts ++ a ∷ []) new.same) vid index has
-          comes.object comes.covers))
+          by_entry (enters.enters entry (new.begins.is ∙ ap (λ (a : AttemptRecord). before.past.attempts ++ a ∷ []) new.same) vid index
+          published has comes.object comes.covers))
           (old_or_new before.world.hosts hosts before.world.wire after.world.wire before.past.attempts attempts kind j entry comes.there)
         where
           by_entry : (entry_by index entry ≡ vid)
@@ -226,39 +184,70 @@ module _ (script : List Statement) (range : RunsAreInRange script) (events : Lis
           by_entry (inl own) = inr own
           by_entry (inr found) = inl found
 
-      home_before : (vid index home : ℕ) → HasEntryOf effects good_id vid index → IsHomeToCome hosts attempts vid index home
-          → HomeBefore vid index home
-      home_before vid index home has (inl (j, entry, comes, is)) =
-          subst (HomeBefore vid index) is (entry_before vid index j entry has comes)
-      home_before vid index home has (inr is) = inr is
+      pub home_before : (vid index home : ℕ) → was_published after.world.log vid ≡ true → HasEntryOf effects good_id vid index
+          → IsHomeToCome hosts attempts vid index home → HomeBefore vid index home
+      home_before vid index home published has (inl (j, entry, comes, is)) =
+          subst (HomeBefore vid index) is (entry_before vid index j entry published has comes)
+      home_before vid index home published has (inr is) = inr is
 
-      has_entry : (ledger : Ledger) (vid index unit : ℕ) (disk : Disk) (spec : VdiSpec)
-          → IsBlockOfDisk ledger effects good_id vid disk spec index unit
+      pub has_entry : (ledger : Ledger) (vid index unit : ℕ) (disk : Disk) (spec : VdiSpec)
+          → IsBlockOfAnyDisk ledger effects good_id vid disk spec index unit
           → HasEntryOf effects good_id vid index
       has_entry ledger vid index unit disk spec block = record {
-        live = block.live;
+        alive = block.alive;
         good = block.good;
         spec = spec;
         made_with = block.made_with;
         object = block.object;
       }
 
-      real : (vid : ℕ) → is_live_state (state_of effects vid) ≡ true → vid ≢ 0
-      real = live_real after.world.log reservable
+      pub real : (vid : ℕ) (spec : VdiSpec) → spec_in effects vid ≡ Some spec → vid ≢ 0
+      real vid spec made = let some = (header_is after.world.log reservable vid spec made).0.0 in λ none. omega (arith, some, none)
 
       abbrev Written : Ledger → Type 0
-      Written = AreWritten effects good_id hosts attempts (length before.past.attempts) real
+      Written = AreWritten effects good_id hosts attempts (λ spec j. j < length before.past.attempts) attempts (λ req was. was) real
+
+      -- a disk that the history had was published, and its blocks were so before
+      module _ (vid : ℕ) (disk : Disk) (spec : VdiSpec) (index unit : ℕ)
+          (block : IsBlockOfAnyDisk (ledger_of before.past.history) effects good_id vid disk spec index unit) where
+        was : was_published before.world.log vid ≡ true
+        was = were_published.each vid disk block.there
+
+        pub published_then : was_published after.world.log vid ≡ true
+        published_then =
+            ap (λ (log : List Entry). was_published log vid) (log_grows script change).is
+            ∙ published_later before.world.log (log_grows script change).rest vid was
+
+        alive_then : is_dead (log_effects before.world.log) vid ≡ false
+        alive_then = false_from_ne_true (is_dead (log_effects before.world.log) vid) (λ dead.
+            let still : is_dead effects vid ≡ true
+            = ap (λ (log : List Entry). is_dead (log_effects log) vid) (log_grows script change).is
+            ∙ dead_later before.world.log (log_grows script change).rest vid dead in
+            both_ways (is_dead effects vid) block.alive still)
+
+        pub block_before : IsBlockOfAnyDisk (ledger_of before.past.history) (log_effects before.world.log) good_id vid disk spec index unit
+        block_before = record {
+          there = block.there;
+          alive = alive_then;
+          good = block.good;
+          made_with = spec_was before.world.log (log_grows script change).rest vid spec (published_used before.world.log vid was)
+              (ap (λ (log : List Entry). spec_in (log_effects log) vid) (sym (log_grows script change).is) ∙ block.made_with);
+          object = block.object;
+          inside = block.inside;
+          block = block.block;
+        }
 
       -- before the history grows
       first : Written (ledger_of before.past.history)
       first vid disk spec index unit block = record {
-        holes = λ j entry comes hole. hole_before (subst (HomeBefore vid index) hole (entry_before vid index j entry has comes));
+        holes = λ j entry comes hole. hole_before (subst (HomeBefore vid index) hole (entry_before vid index j entry published has comes));
         each = λ whole home to_come some j attempt comes below.
             let was = might (object_number home index) unit j attempt comes below in
             subst (λ (q : ℕ). MayStay attempts items (Some q) (bytes_by unit attempt.work)) was.req
             (subst (λ (w : ObjWork). MayStay attempts items (Some was.was.req) (bytes_by unit w)) was.work
             (may_still items (Some was.was.req) (bytes_by unit was.was.work)
-            (written.each vid index unit disk spec then whole home (home_before vid index home has to_come) some j was.was was.comes)));
+            (written.each vid index unit disk spec then whole home (home_before vid index home published has to_come) some j was.was
+            was.comes)));
       }
         where
           items : List Item
@@ -267,30 +256,20 @@ module _ (script : List Statement) (range : RunsAreInRange script) (events : Lis
           has : HasEntryOf effects good_id vid index
           has = has_entry (ledger_of before.past.history) vid index unit disk spec block
 
-          live : is_live_state (state_of (log_effects before.world.log) vid) ≡ true
-          live = live_disks.each vid disk block.there block.kept
+          published : was_published after.world.log vid ≡ true
+          published = published_then vid disk spec index unit block
 
-          then : IsBlockOfDisk (ledger_of before.past.history) (log_effects before.world.log) good_id vid disk spec index unit
-          then = record {
-            there = block.there;
-            kept = block.kept;
-            live = live;
-            good = block.good;
-            made_with = spec_then before.world.log (log_grows script change).rest after.world.log (log_grows script change).is vid spec live
-                block.made_with;
-            object = block.object;
-            inside = block.inside;
-            block = block.block;
-          }
+          then : IsBlockOfAnyDisk (ledger_of before.past.history) (log_effects before.world.log) good_id vid disk spec index unit
+          then = block_before vid disk spec index unit block
 
           hole_before : HomeBefore vid index 0 → MayStay attempts items None (zeros BLOCK_BYTES)
           hole_before (inl (i, other, comes, is)) =
               may_still items None (zeros BLOCK_BYTES) (written.holes vid index unit disk spec then i other comes is)
-          hole_before (inr own) = absurd (real vid block.live (sym own))
+          hole_before (inr own) = absurd (real vid spec block.made_with (sym own))
 
       module _ (grows_so : GrowsKeeping effects good_id hosts attempts before.past.history after.past.history) where
         -- what is added stands behind
-        ledger_so : (v : ℕ) → (ledger_of after.past.history).disks v
+        pub ledger_so : (v : ℕ) → (ledger_of after.past.history).disks v
             ≡ (fold ledger_after (ledger_of before.past.history) grows_so.added).disks v
         ledger_so v =
             ap (λ (history : List HistEvent). (ledger_of history).disks v) grows_so.now
@@ -304,17 +283,35 @@ module _ (script : List Statement) (range : RunsAreInRange script) (events : Lis
 
         old_written : Written (ledger_of after.past.history)
         old_written =
-            alike_written effects good_id hosts attempts (length before.past.attempts) real
+            alike_written effects good_id hosts attempts (λ spec j. j < length before.past.attempts) attempts (λ req was. was) real
             (fold ledger_after (ledger_of before.past.history) grows_so.added) (ledger_of after.past.history) ledger_so
-            (events_hold effects good_id hosts attempts (length before.past.attempts) real grows_so.added (ledger_of before.past.history)
+            (events_hold effects good_id hosts attempts (λ spec j. j < length before.past.attempts) attempts (λ req was. was) real grows_so.added (ledger_of before.past.history)
             (items_open before.past.history) grows_so.keep first)
+
+        -- a hole may be read as zeros
+        pub holes_stay : (vid index unit : ℕ) (disk : Disk) (spec : VdiSpec)
+            → IsBlockOfAnyDisk (ledger_of after.past.history) effects good_id vid disk spec index unit → (j : ℕ) (entry : AttemptRecord)
+            → IsEntryToCome hosts attempts vid index j entry → entry_by index entry ≡ 0
+            → MayStay attempts (items_at disk spec index unit) None (zeros BLOCK_BYTES)
+        holes_stay vid index unit disk spec block = (old_written vid disk spec index unit block).holes
+
+        -- and what was there before may be
+        pub old_stays : (vid index unit : ℕ) (disk : Disk) (spec : VdiSpec)
+            → IsBlockOfAnyDisk (ledger_of after.past.history) effects good_id vid disk spec index unit
+            → is_torn_here spec (items_at disk spec index unit) ≡ false → (home : ℕ) → IsHomeToCome hosts attempts vid index home
+            → home ≢ 0 → (j : ℕ) (attempt : AttemptRecord) → IsToCome hosts attempts (object_number home index) unit j attempt
+            → j < length before.past.attempts → MayStay attempts (items_at disk spec index unit) (Some attempt.req) (bytes_by unit attempt.work)
+        old_stays vid index unit disk spec block = (old_written vid disk spec index unit block).each
 
         module _ (live : ℕ → Bool) (inodes : InodesAreLive effects live good_id) (made : EntriesAreMade effects live good_id attempts)
             (works : WorksMayStay (ledger_of after.past.history) effects good_id hosts attempts) where
           module _ (vid index unit : ℕ) (disk : Disk) (spec : VdiSpec)
-              (block : IsBlockOfDisk (ledger_of after.past.history) effects good_id vid disk spec index unit)
+              (block : IsBlockOfAnyDisk (ledger_of after.past.history) effects good_id vid disk spec index unit)
               (whole : is_torn_here spec (items_at disk spec index unit) ≡ false) (j : ℕ) (attempt : AttemptRecord)
               (new : IsNew before.world.hosts hosts before.past.attempts attempts attempt) where
+            published : was_published after.world.log vid ≡ true
+            published = are_published.each vid disk block.there
+
             few : index < OBJECTS_MAX
             few = few_objects after.world.log reservable vid index spec block.made_with block.object
 
@@ -330,15 +327,15 @@ module _ (script : List Statement) (range : RunsAreInRange script) (events : Lis
                 ∙ ap (λ (a : AttemptRecord). vid_of (object_of a)) new.same ∙ ap vid_of object
                 ∙ vid-of_object home index (used_vid after.world.log reservable home
                 (chain-used effects (chained after.world.log) home vid above).0) few in
-                snapped-no_writer after.world.log home _ (chain_snapped after.world.log home vid above block.live)
+                snapped-no_writer after.world.log home _ (chain_was_snapped after.world.log home vid published above)
                 (ap (λ (v : ℕ). writer_of effects v) (sym on) ∙ writer)
 
             own_home : (home : ℕ) → object_of attempt ≡ object_number home index → IsHomeToCome hosts attempts vid index home → home ≢ 0
                 → home ≡ vid
             own_home home object (inr is) some = is
             own_home home object (inl (i, entry, comes, is)) some =
-                let stands = made.each i entry comes.there vid index comes.object (inodes.each vid block.live block.good) block.good few
-                comes.covers (λ none. some (sym is ∙ none)) in
+                let stands = made.each i entry comes.there vid index comes.object
+                (inodes.each vid published block.alive block.good) block.good few comes.covers (λ none. some (sym is ∙ none)) in
                 ⊎_elim
                 (λ (own : entry_by index entry ≡ vid). sym is ∙ own)
                 (λ (above : is_above effects (entry_by index entry) vid ≡ true).
@@ -363,11 +360,10 @@ module _ (script : List Statement) (range : RunsAreInRange script) (events : Lis
 
           pub blocks_stay : BlocksStayWritten (ledger_of after.past.history) effects good_id hosts attempts
           blocks_stay = record {
-            holes = λ vid index unit disk spec block j entry comes hole.
-                (old_written vid disk spec index unit block).holes j entry comes hole;
+            holes = holes_stay;
             each = λ vid index unit disk spec block whole home to_come some j attempt comes. ⊎_elim
                 (λ (old : j < length before.past.attempts).
-                (old_written vid disk spec index unit block).each whole home to_come some j attempt comes old)
+                old_stays vid index unit disk spec block whole home to_come some j attempt comes old)
                 (λ (new : IsNew before.world.hosts hosts before.past.attempts attempts attempt).
                 new_may vid index unit disk spec block whole j attempt new home to_come some comes)
                 (old_or_new before.world.hosts hosts before.world.wire after.world.wire before.past.attempts attempts kind j attempt

@@ -52,7 +52,7 @@ use Rattle.overlap_law.proofs.RunsByEvents.{KeptByEvents, run-kept_by_events}
 use Rattle.overlap_law.proofs.SourceSpecs.{snapshot_spec}
 
 -- each disk of a ledger has the blocks that a log says
-abbrev AllHave : List Entry → Ledger → Type 0
+abbrev pub AllHave : List Entry → Ledger → Type 0
 AllHave log ledger = (vid blocks : ℕ) → blocks_in (ledger.disks vid) ≡ Some blocks → HasItsBlocks log vid blocks
 
 -- more of the log says no other
@@ -131,7 +131,7 @@ module _ (log : List Entry) (reservable : All IsReservable log) (ledger : Ledger
       λ vid blocks so. all vid blocks (sym (blocks_stay vid 0 ledger (Delete id.0) refl) ∙ so)
   granted_have entry id is = all
 
-  entry_have : (entry : Entry) → AllHave log (fold ledger_after ledger (entry_adds log entry))
+  pub entry_have : (entry : Entry) → AllHave log (fold ledger_after ledger (entry_adds log entry))
   unfolding entry_adds
   entry_have entry = by_decision (decision_after log entry) refl
     where

@@ -23,17 +23,16 @@ use Rattle.overlap_law.proofs.EndTargets.{carried_to_the_end}
 use Rattle.overlap_law.proofs.EndTests.{speaks, lived, was_good}
 use Rattle.overlap_law.proofs.FewerObjects.{rows_of_fewer, searches_of_fewer}
 use Rattle.overlap_law.proofs.HeldLevels.{has_made}
-use Rattle.overlap_law.proofs.KeptInRuns.{kept_at_events}
 use Rattle.overlap_law.proofs.KeptSoFar.{kept_so_far}
 use Rattle.overlap_law.proofs.KeptTogether.{complete_after, nothing_missing, there_after, kept_rows_after}
 use Rattle.overlap_law.proofs.LevelsAskedInRuns.{levels_asked-on_the_way}
 use Rattle.overlap_law.proofs.LogsInMoments.{log_grows}
-use Rattle.overlap_law.proofs.MomentTrails.{event_trail}
 use Rattle.overlap_law.proofs.OpeningOverlap.{overlap_opens}
 use Rattle.overlap_law.proofs.PassedInRuns.{passed-on_the_way}
 use Rattle.overlap_law.proofs.SinceKept.{since_kept}
 use Rattle.overlap_law.proofs.StayingRows.{alive_before, not_dead}
 use Rattle.overlap_law.proofs.ToldSinceInRuns.{told_since-on_the_way}
+use Rattle.overlap_law.proofs.KeptToTheEnd.{BeginsToTheEnd, IsKeptToTheEnd, to_the_end-in_run, to_the_end-on_the_way}
 
 -- what is carried of a moment, of the objects that a test calls good
 pub record CarriesRows (good : ℕ → Bool) (moment : MomentWithPast) : Type 0 where
@@ -124,75 +123,64 @@ module _ (script : List Statement) (range : RunsAreInRange script) where
 
   module _ (first : (events : List Event) (start moment : MomentWithPast) → run_with_past script events ≡ Some start
       → MomentTrail script start moment → CreatesComeFirst moment.past.attempts) where
-    module _ (events : List Event) (event : Event) (start end : MomentWithPast) (run : run_with_past script events ≡ Some start)
-        (happens : next_moment script event start ≡ Some end) where
-      -- by the test of the end
-      begins : CarriesRows (good_at start) start → CarriesRows (good_at end) start
-      begins carries =
-          let speaks_so = speaks script range events event start end run happens
-          (of_the_born start.past.attempts (first events start start run Still)) in
-          let rows = rows_of_fewer (IsBorn start.past.attempts) (lived script event start end happens) (was_good script event start end happens)
-          speaks_so (rows_kept events start run carries) in
-          let searches = searches_of_fewer (IsBorn start.past.attempts) (lived script event start end happens)
-          (was_good script event start end happens) speaks_so (searches_kept events start run carries) in
-          record {
-            since = rows.since;
-            kept = rows.kept;
-            carried = rows.carried;
-            complete = searches.complete;
-            has = searches.has;
-            row_told_since = searches.row_told_since;
-            not_missing = searches.not_missing;
-          }
+    -- by the test of the end
+    begins : BeginsToTheEnd script (λ (end moment : MomentWithPast). CarriesRows (good_at end) moment)
+    begins events event start end run happens carries =
+        let speaks_so = speaks script range events event start end run happens
+        (of_the_born start.past.attempts (first events start start run Still)) in
+        let rows = rows_of_fewer (IsBorn start.past.attempts) (lived script event start end happens)
+        (was_good script event start end happens) speaks_so (rows_kept events start run carries) in
+        let searches = searches_of_fewer (IsBorn start.past.attempts) (lived script event start end happens)
+        (was_good script event start end happens) speaks_so (searches_kept events start run carries) in
+        record {
+          since = rows.since;
+          kept = rows.kept;
+          carried = rows.carried;
+          complete = searches.complete;
+          has = searches.has;
+          row_told_since = searches.row_told_since;
+          not_missing = searches.not_missing;
+        }
 
-      goes_on : (before after : MomentWithPast) → IsOnTheWay script events event start end before after → CarriesRows (good_at end) before
-          → CarriesRows (good_at end) after
-      goes_on before after way carries =
-          record {
-            since = since_kept script range events start run way.behind way.change (good_at end) (record {
-              has = has_made script range events start before run way.behind (good_at end) alive_before_it carries.kept carries.carried;
-              passed = passed-on_the_way script range events start before run way.behind (good_at end);
-              since = carries.since;
-              told = carries.row_told_since;
-            });
-            kept =
-                kept_rows_after script range events start before after run way.behind way.change (good_at end) alive carries.carried carried
-                carries.kept carries.complete carries.has carries.not_missing;
-            carried = carried;
-            complete =
-                complete_after script range events start before after run way.behind way.change (good_at end) alive carries.carried carried
-                carries.kept carries.complete carries.has carries.not_missing;
-            has =
-                there_after script range events start before after run way.behind way.change (good_at end) alive carries.carried carried
-                carries.kept carries.complete carries.has carries.not_missing;
-            row_told_since = told_since-on_the_way script range events start before after run way.behind way.change (good_at end) carries.since
-                carries.row_told_since;
-            not_missing =
-                nothing_missing script range events start before after run way.behind way.change (good_at end) alive carries.carried carried
-                carries.kept carries.complete carries.has carries.not_missing;
-          }
-        where
-          alive : (oid : ℕ) → good_at end oid ≡ true → is_dead_by_log after.world.log oid ≡ false
-          alive = alive_on_the_way script way.left
+    goes_on : (events : List Event) (event : Event) (start end before after : MomentWithPast)
+        → IsOnTheWay script events event start end before after → CarriesRows (good_at end) before → CarriesRows (good_at end) after
+    goes_on events event start end before after way carries =
+        record {
+          since = since_kept script range events start way.run way.behind way.change (good_at end) (record {
+            has = has_made script range events start before way.run way.behind (good_at end) alive_before_it carries.kept carries.carried;
+            passed = passed-on_the_way script range events start before way.run way.behind (good_at end);
+            since = carries.since;
+            told = carries.row_told_since;
+          });
+          kept =
+              kept_rows_after script range events start before after way.run way.behind way.change (good_at end) alive
+              carries.carried carried carries.kept carries.complete carries.has carries.not_missing;
+          carried = carried;
+          complete =
+              complete_after script range events start before after way.run way.behind way.change (good_at end) alive
+              carries.carried carried carries.kept carries.complete carries.has carries.not_missing;
+          has =
+              there_after script range events start before after way.run way.behind way.change (good_at end) alive carries.carried carried
+              carries.kept carries.complete carries.has carries.not_missing;
+          row_told_since =
+              told_since-on_the_way script range events start before after way.run way.behind way.change (good_at end) carries.since
+              carries.row_told_since;
+          not_missing =
+              nothing_missing script range events start before after way.run way.behind way.change (good_at end) alive
+              carries.carried carried carries.kept carries.complete carries.has carries.not_missing;
+        }
+      where
+        alive : (oid : ℕ) → good_at end oid ≡ true → is_dead_by_log after.world.log oid ≡ false
+        alive = alive_on_the_way script way.left
 
-          alive_before_it : (oid : ℕ) → good_at end oid ≡ true → is_dead_by_log before.world.log oid ≡ false
-          alive_before_it = alive_on_the_way script (Next way.change way.left)
+        alive_before_it : (oid : ℕ) → good_at end oid ≡ true → is_dead_by_log before.world.log oid ≡ false
+        alive_before_it = alive_on_the_way script (Next way.change way.left)
 
-          carried : AttemptsAreCarried (targets_by after.world.log) after.world.log (log_effects after.world.log) (good_at end)
-              after.world.hosts after.past.attempts
-          carried =
-              carried_to_the_end script range events event start end before after way
-              (first events start after run (Then way.behind way.change)) carries.carried
-
-      along : {moment : MomentWithPast} → MomentTrail script start moment → TrailLeft script start moment end → CarriesRows (good_at end) start
-          → CarriesRows (good_at end) moment
-      along Still left carries = carries
-      along (Then {moment} {next} trail change) left carries =
-          goes_on moment next (record { run = run; happens = happens; behind = trail; change = change; left = left })
-          (along trail (Next change left) carries)
-
-      event_keeps : CarriesRows (good_at start) start → CarriesRows (good_at end) end
-      event_keeps carries = along (event_trail script event start end happens) AtEnd (begins carries)
+        carried : AttemptsAreCarried (targets_by after.world.log) after.world.log (log_effects after.world.log) (good_at end)
+            after.world.hosts after.past.attempts
+        carried =
+            carried_to_the_end script range events event start end before after way
+            (first events start after way.run (Then way.behind way.change)) carries.carried
 
     -- ---- in every run
 
@@ -209,11 +197,12 @@ module _ (script : List Statement) (range : RunsAreInRange script) where
           not_missing = at_first.searches.not_missing;
         }
 
+    kept : IsKeptToTheEnd script (λ (end moment : MomentWithPast). CarriesRows (good_at end) moment)
+    kept = record { opens = opens; begins = begins; keeps = goes_on }
+
     carried-in_run : (events : List Event) (moment : MomentWithPast) → run_with_past script events ≡ Some moment
         → CarriesRows (good_at moment) moment
-    carried-in_run =
-        kept_at_events script (λ (moment : MomentWithPast). CarriesRows (good_at moment) moment) opens
-        (λ events event start end run then happens carries. event_keeps events event start end run happens carries)
+    carried-in_run = to_the_end-in_run script (λ (end moment : MomentWithPast). CarriesRows (good_at end) moment) kept
 
     -- on the way of an event rows have what they owe, by the test of the end
     pub since-on_the_way : (events : List Event) (event : Event) (start end : MomentWithPast) → run_with_past script events ≡ Some start
@@ -221,8 +210,8 @@ module _ (script : List Statement) (range : RunsAreInRange script) where
         → TrailLeft script start moment end
         → RowsAreSince (log_effects moment.world.log) (good_at end) moment.world.hosts moment.past.attempts
     since-on_the_way events event start end run happens trail left =
-        (along events event start end run happens trail left
-        (begins events event start end run happens (carried-in_run events start run))).since
+        (to_the_end-on_the_way script (λ (last now : MomentWithPast). CarriesRows (good_at last) now) kept events event start end run
+        happens trail left).since
 
     pub rows-in_run : (events : List Event) (moment : MomentWithPast) → run_with_past script events ≡ Some moment
         → RowsAreKept (targets_by moment.world.log) moment.world.log (log_effects moment.world.log) (live_at moment) (good_at moment)

@@ -10,7 +10,7 @@ use Rattle.proof_tools.proofs.FiniteMaps.{get-remove_same, get-remove_other}
 use Rattle.object_id.specs.declared.cause.Cause.{Cause}
 use Rattle.object_id.specs.declared.cause.Cause.TheVariants.{Halt}
 use Rattle.object_id.specs.declared.entry.Entry.{Entry}
-use Rattle.object_id.specs.declared.entry.Entry.TheVariants.{Format, Join, Leave, Reweight, Recovered, Reserve, Publish, Clone, Snapshot, Delete, Lock, Unlock}
+use Rattle.object_id.specs.declared.entry.Entry.TheVariants.{Recovered}
 use Rattle.object_id.specs.declared.node.NodeId.{NodeId}
 use Rattle.object_id.specs.declared.oid.Vid.{Vid}
 use Rattle.epoch_log.specs.Epochs.{epoch_of}
@@ -55,6 +55,7 @@ use Rattle.overlap_law.proofs.CountedEntries.{times}
 use Rattle.overlap_law.proofs.KeptIds.{lock-writer, reservation-writer, lock_with, lock_yet}
 use Rattle.overlap_law.proofs.OpenDiskChanges.{AreOpenSoFar, one_alike as one_open, next_open, change_open}
 use Rattle.overlap_law.proofs.WriterChanges.{found_reserved}
+use Rattle.overlap_law.proofs.MakingEntries.{making_reserved}
 
 -- what is reserved isn't what is locked
 pub reserved_apart : (log outbox : List Entry) (me : NodeId) (session epoch vid later held : ℕ) → HasReservation log outbox me session epoch vid
@@ -144,18 +145,8 @@ module _ (read unread : List Entry) (input : Input) (node : Node) (meets : Meets
     made_reserved : (entry : Entry) (made : Option Content)
         → IsMakingKept log so_far.node.outbox read from node.me session (opened_in session so_far.node.sessions) vid entry made
         → HasReservation log so_far.node.outbox node.me session (epoch_of read) vid.0
-    made_reserved (Format members) made is = absurd is
-    made_reserved (Join of zone vnodes) made is = absurd is
-    made_reserved (Leave of) made is = absurd is
-    made_reserved (Reweight of vnodes) made is = absurd is
-    made_reserved (Recovered of epoch) made is = absurd is
-    made_reserved (Reserve by of name origin) made is = absurd is
-    made_reserved (Publish by of) made is = is.1
-    made_reserved (Clone by of) made is = is.1
-    made_reserved (Snapshot by old of) made is = is.1.has
-    made_reserved (Delete by of name tag) made is = absurd is
-    made_reserved (Lock by of name tag) made is = absurd is
-    made_reserved (Unlock by of id) made is = absurd is
+    made_reserved =
+        making_reserved log so_far.node.outbox read from node.me session (opened_in session so_far.node.sessions) vid
 
     may_unlock : (task : Task) → IsTaskKept log so_far.node.outbox read from node.me session (opened_in session so_far.node.sessions) vid task
         → IsUnlockKept log node.me session vid.0 (times (unlock_of node.me session vid.0) so_far.node.outbox + 1)

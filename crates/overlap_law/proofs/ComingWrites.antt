@@ -16,7 +16,7 @@ use Rattle.sheep_node.specs.declared.course.Course.TheVariants.{Checking}
 use Rattle.sheep_node.specs.declared.course.Request.{Request}
 use Rattle.sheep_node.specs.State.{Node}
 use Rattle.sheep_node.specs.CheckWrites.{check_write_on, write_after_work, write_of_course, write_of_check, write_of_value}
-use Rattle.overlap_law.proofs.WritingChecks.{if_fits}
+use Rattle.overlap_law.proofs.RepliesToChecks.{if_fits}
 
 -- the node has the check of the write's request, and what came for it makes the write
 pub record IsComing (write : CheckWrite) (node : Node) : Type 0 where

@@ -4,17 +4,13 @@ use Rattle.std.specs.Ordering.{nat_cmp}
 use Rattle.std.specs.FinMap as tree
 use Rattle.std.proofs.lemmas.Option.{same_Some}
 use Rattle.object_id.specs.declared.cause.Cause.{Cause}
-use Rattle.object_id.specs.declared.cause.Cause.TheVariants.{Halt}
 use Rattle.inode.specs.Layout.{Content}
 use Rattle.peer_proto.specs.declared.guest.VdiAsk.TheVariants as disk_commands
-use Rattle.peer_proto.specs.declared.work.ObjWork.{ObjWork}
 use Rattle.peer_service.specs.State.{effects_of}
 use Rattle.peer_service.specs.LogReading.{decision_on}
-use Rattle.gateway.specs.Work.{zones_for}
-use Rattle.gateway.specs.State.{Work}
 use Rattle.guest_driver.specs.declared.disk.Disk.{Disk}
 use Rattle.guest_driver.specs.Driver.{begin_driver}
-use Rattle.guest_driver.specs.InodeQueue.{queue_with_open, queue_with_waiting, queue_after_end}
+use Rattle.guest_driver.specs.InodeQueue.{queue_after_end}
 use Rattle.disk_check.specs.Check.{begin_check}
 use Rattle.vdi_ops.specs.Entries.{command_refusal}
 use Rattle.sheep_node.specs.declared.ask.Ask.{Ask}
@@ -29,11 +25,9 @@ use Rattle.sheep_node.specs.Courses.{inode_open}
 use Rattle.sheep_node.specs.Guests.{queued_as, seen_by_command}
 use Rattle.sheep_node.specs.May.{May}
 use Rattle.sheep_node.specs.SessionQueues.{QueuesAreDiskRequests, CommandsAreAlone}
-use Rattle.sheep_node.specs.Changes as changes
-use Rattle.sheep_node.specs.Changes.{Arrival, Outcome, ToWork, ToEntry, ToReply, outcome_of_check, without_ended_work, without_denied_work, zones_of_members, RequestSteps, DiskBegins, DiskGoesOn, CommandBegins, CommandGoesOn, CommandDecided, CheckBegins, CheckGoesOn, ObjectBegins, ObjectIsDone, EntryBegins, EntryDecided, WorkIsNext, AtOnce, InTurn, Again, AgainAlone, input_received, Change, Leads}
+use Rattle.sheep_node.specs.Changes.{Arrival, Outcome, ToWork, ToEntry, ToReply, without_ended_work, RequestSteps, DiskBegins, DiskGoesOn, CommandBegins, CommandGoesOn, CommandDecided, CheckBegins, CheckGoesOn, ObjectBegins, ObjectIsDone, EntryBegins, EntryDecided, input_received, Change, Leads}
 use Rattle.sheep_node.proofs.OneWorkParts.{Requests, Sessions}
 use Rattle.sheep_node.proofs.ReceivedInputs.{received_keeps}
-use Rattle.sheep_node.proofs.RefusedCourses.{course_refused-keeps, request_refused-keeps}
 use Rattle.sheep_node.proofs.SessionViews.{same_seen, own_seen}
 use Rattle.sheep_node.proofs.SoleCommands.{free, change_keeps_alone, received_alone}
 use Rattle.sheep_node.proofs.SoleParts.{CommandsAre, same_command, command_is_free}
@@ -42,6 +36,9 @@ use Rattle.sheep_node.proofs.WantedSteps.{driver_begins-wanted, driver_goes_on-w
 use Rattle.overlap_law.specs.RequestsOfScript.{IsDriverOf, IsOnDisk}
 use Rattle.overlap_law.proofs.CoursesOfAsks.{disk_in, id_of_disk, IsOfSession, check_working, IsPlacedAt, IsPlacedIn, ArePlaced, PlacedSoFar, IsBrought, session_placed, all_placed, moved_others, freed_placed, others_ended, ended_placed, course_placed, HasMoved, driven_placed, commanded_placed, checked_placed}
 use Rattle.overlap_law.proofs.StepsOfAsks.{IsCheckAsked, driver_begins-asked, driver_goes_on-asked, check_begins-asked, check_goes_on-asked, command_begins-asked, command_goes_on-asked, command_decided-asked}
+use Rattle.overlap_law.proofs.ChangeWalk.{ComesNext, IsKeptByParts, change_holds}
+use Rattle.guest_driver.specs.InodeQueue.{InodeQueue}
+use Rattle.sheep_node.specs.SessionQueues.{session_among}
 
 -- a check that isn't refused is of the working disk that is open
 pub record IsOnWorking (opened : Option Disk) (inode : Content) : Type 0 where
@@ -142,65 +139,41 @@ module _ (asked : ℕ → Option Ask) (Began : ℕ → Option ℕ → Type 0) {i
   steps_placed so_far session req next moved (EntryDecided entry wanted from read there waits) all =
       absurd (course_placed asked Began session req (AwaitingDecision wanted) so_far there all.1).2
 
-  work_placed : (so_far : StepState) (session req : ℕ) (work : ObjWork) (moved : StepState)
-      → RequestSteps input node so_far session req (ToWork work) moved → AreInPlace so_far → Placed moved
-  work_placed so_far session req work moved steps all =
-      let now = steps_placed so_far session req (ToWork work) moved steps all in
-      all_placed asked Began req moved.node.requests moved.node.sessions now.0 now.1
-
-  next_placed : (so_far : StepState) (session req : ℕ) (one : Work) (lined : StepState) → WorkIsNext input node so_far session req one lined
-      → AreInPlace so_far → Placed lined
-  next_placed so_far session req one lined (AtOnce work moved steps begins) all =
-      session_placed asked Began moved.node.requests moved.node.sessions session
-      (record (session_in session moved) { inode_queue = queue_with_open (session_in session moved).inode_queue req work }) refl
-      (work_placed so_far session req work moved steps all)
-  next_placed so_far session req one lined (InTurn work later none is) all =
-      session_placed asked Began so_far.node.requests so_far.node.sessions session
-      (record (session_in session so_far) { inode_queue = record { current = Some req; waiting = later } }) refl all.1
-  next_placed so_far session req one lined (Again work course from next there request) all = all.1
-  next_placed so_far session req one lined (AgainAlone work from next there none) all = all.1
-
   change_keeps_placed : (so_far next : StepState) → Change input node so_far next → AreInPlace so_far → Placed next
-  change_keeps_placed so_far next (changes.Marks req number work attempt status learns over) all = all.1
-  change_keeps_placed so_far next (changes.Fails session req number work attempt status course ends done why) all = all.1
-  change_keeps_placed so_far next (changes.Stops session req number work attempt status course bytes ends over) all =
-      freed_placed asked Began session req work status so_far all.1
-  change_keeps_placed so_far next (changes.Refuses session req number work attempt status course cause ends done why) all =
-      course_refused-keeps Placed (ended_placed asked Began) (λ entry before now. now) session req cause course
-      (without_ended_work session req work status so_far) (freed_placed asked Began session req work status so_far all.1)
-  change_keeps_placed so_far next (changes.Opens session req one lined comes short) all = next_placed so_far session req one lined comes all
-  change_keeps_placed so_far next (changes.Holds session req one lined comes short touched) all =
-      next_placed so_far session req one lined comes all
-  change_keeps_placed so_far next (changes.Denies session req one lined request comes short untouched there own) all =
-      request_refused-keeps Placed (ended_placed asked Began) (λ entry before now. now) req
-      (Halt (zones_of_members lined.node) (zones_for one.work)) request (without_denied_work session req one lined)
-      (session_placed asked Began lined.node.requests lined.node.sessions session
-      (record (session_in session lined) { inode_queue = queue_after_end (session_in session lined).inode_queue one.work }) refl
-      (next_placed so_far session req one lined comes all))
-  change_keeps_placed so_far next (changes.Strays req work gateway there none apart) all = all.1
-  change_keeps_placed so_far next (changes.Lines session req work moved steps waits) all =
-      session_placed asked Began moved.node.requests moved.node.sessions session
-      (record (session_in session moved) { inode_queue = queue_with_waiting (session_in session moved).inode_queue req work }) refl
-      (work_placed so_far session req work moved steps all)
-  change_keeps_placed so_far next (changes.Appends session req entry moved steps) all =
-      let now = steps_placed so_far session req (ToEntry entry) moved steps all in
-      all_placed asked Began req moved.node.requests moved.node.sessions now.0 now.1
-  change_keeps_placed so_far next (changes.Replies session req reply moved steps) all =
-      others_ended asked Began session req reply moved (steps_placed so_far session req (ToReply reply) moved steps all).0
-  change_keeps_placed so_far next (changes.Arrives session req ask disk arrival on) all =
-      let here = brings so_far session req (asks.Disk ask) None arrival in
-      let after : Session
-      = record (session_in session so_far) { queue = (session_in session so_far).queue ++ queued_as disk.inode.spec.shift req ask ∷ [] } in
-      let began : id_of_disk (session_in session so_far).disk ≡ Some disk.inode.vid = ap id_of_disk on in
-      all_placed asked Began req (tree.insert so_far.node.requests req (record { session = session; course = Waiting ask }))
-      (tree.insert so_far.node.sessions session after)
-      (moved_others asked Began req session (Waiting ask) after so_far
-      (λ q other. same_seen disk_in (IsPlacedAt asked Began q) so_far.node.sessions session after refl (tree.get so_far.node.requests q)
-      (all.1 q)))
-      (own_seen disk_in (IsPlacedAt asked Began req) so_far.node.sessions session after req (Waiting ask) so_far.node.requests
-      (id_of_disk (session_in session so_far).disk, here.2, (here.1, record { disk = disk; there = on; same = began })))
-  change_keeps_placed so_far next (changes.Rejects session req ask cause arrival) all = all.1
-  change_keeps_placed so_far next (changes.Recovers due) all = all.1
+  change_keeps_placed so_far next change all = change_holds (ArePlaced asked Began) lined so_far parts all.1 next change
+    where
+      lined : (requests : Requests) (sessions : Sessions) (number : ℕ) (queue : InodeQueue) → ArePlaced asked Began requests sessions
+          → ArePlaced asked Began requests (tree.insert sessions number (record (session_among number sessions) { inode_queue = queue }))
+      lined requests sessions number queue =
+          session_placed asked Began requests sessions number (record (session_among number sessions) { inode_queue = queue }) refl
+
+      comes : ComesNext (ArePlaced asked Began) lined input node so_far
+      comes session req ask disk arrival on =
+          let here = brings so_far session req (asks.Disk ask) None arrival in
+          let after : Session
+          = record (session_in session so_far) { queue = (session_in session so_far).queue ++ queued_as disk.inode.spec.shift req ask ∷ [] } in
+          let began : id_of_disk (session_in session so_far).disk ≡ Some disk.inode.vid = ap id_of_disk on in
+          all_placed asked Began req (tree.insert so_far.node.requests req (record { session = session; course = Waiting ask }))
+          (tree.insert so_far.node.sessions session after)
+          (moved_others asked Began req session (Waiting ask) after so_far
+          (λ q other. same_seen disk_in (IsPlacedAt asked Began q) so_far.node.sessions session after refl (tree.get so_far.node.requests q)
+          (all.1 q)))
+          (own_seen disk_in (IsPlacedAt asked Began req) so_far.node.sessions session after req (Waiting ask) so_far.node.requests
+          (id_of_disk (session_in session so_far).disk, here.2, (here.1, record { disk = disk; there = on; same = began })))
+
+      parts : IsKeptByParts (ArePlaced asked Began) lined input node so_far
+      parts = record {
+        works = λ session req work moved takes.
+            let now = steps_placed so_far session req (ToWork work) moved takes all in
+            all_placed asked Began req moved.node.requests moved.node.sessions now.0 now.1;
+        entries = λ session req entry moved takes.
+            let now = steps_placed so_far session req (ToEntry entry) moved takes all in
+            all_placed asked Began req moved.node.requests moved.node.sessions now.0 now.1;
+        replies = λ session req reply moved takes.
+            others_ended asked Began session req reply moved (steps_placed so_far session req (ToReply reply) moved takes all).0;
+        ended = ended_placed asked Began;
+        comes = comes;
+      }
 
   change_keeps_place : (so_far next : StepState) → Change input node so_far next → AreInPlace so_far → AreInPlace next
   change_keeps_place so_far next change all =

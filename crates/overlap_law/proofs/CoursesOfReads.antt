@@ -1,13 +1,11 @@
 -- Each change of a node leaves its reads where they stand, and tells those that it replies to as they may be read: if what comes of a piece
 -- may be read of it, and zeros of holes.
-use Rattle.std.proofs.Common.{◌≡◌, ◌≢◌, ⊎_elim, ℕ, Bool, List, [], ◌∷◌, ◌++◌, Option, Some, None, refl, sym, ap, subst, ◌∙◌}
+use Rattle.std.proofs.Common.{◌≡◌, ◌≢◌, ℕ, Bool, List, [], ◌∷◌, ◌++◌, Option, Some, None, refl, sym, ap, subst, ◌∙◌}
 use Rattle.std.specs.Prelude.{IsTrue, unwrap_or}
 use Rattle.std.specs.FinMap as tree
-use Rattle.std.proofs.lemmas.Bool.{cases_eq}
 use Rattle.std.proofs.lemmas.Option.{same_Some}
-use Rattle.proof_tools.proofs.FiniteMaps.{get-insert_other, get-insert_same, get-remove_other, get-remove_same}
+use Rattle.proof_tools.proofs.FiniteMaps.{get-insert_same}
 use Rattle.object_id.specs.declared.cause.Cause.{Cause}
-use Rattle.object_id.specs.declared.cause.Cause.TheVariants.{Halt}
 use Rattle.disk_history.specs.Ledger.{Ledger}
 use Rattle.vdi_directory.specs.declared.effect.Effect.{Effect}
 use Rattle.peer_proto.specs.declared.guest.DiskAsk.{DiskAsk}
@@ -16,14 +14,13 @@ use Rattle.peer_proto.specs.declared.guest.GuestRsp.{GuestRsp}
 use Rattle.peer_proto.specs.declared.guest.VdiAsk.TheVariants as commands
 use Rattle.disk_check.specs.Check.{begin_check}
 use Rattle.gateway.specs.declared.message.Status.{Status}
-use Rattle.gateway.specs.Work.{zones_for}
 use Rattle.gateway.specs.State.{Work}
 use Rattle.gateway_queue.specs.Queue.{queue_without}
 use Rattle.guest_driver.specs.declared.act.DriverAct.{DriverAct}
 use Rattle.guest_driver.specs.declared.act.DriverAct.TheVariants as driver_acts
 use Rattle.guest_driver.specs.declared.disk.Disk.{Disk}
 use Rattle.guest_driver.specs.Driver.{Driver, DriverStep, begin_driver}
-use Rattle.guest_driver.specs.InodeQueue.{queue_with_open, queue_with_waiting, queue_after_end}
+use Rattle.guest_driver.specs.InodeQueue.{queue_after_end}
 use Rattle.guest_driver.specs.Pieces.{is_ask}
 use Rattle.vdi_ops.specs.Op.{OpStep, disk_change}
 use Rattle.sheep_node.specs.declared.ask.Ask.{Ask}
@@ -39,19 +36,23 @@ use Rattle.sheep_node.specs.StepState.{StepState, session_in, request_ended, wit
 use Rattle.sheep_node.specs.Courses.{after_driver_step, disk_after, after_command_step}
 use Rattle.sheep_node.specs.Guests.{queued_as}
 use Rattle.sheep_node.specs.May.{May}
-use Rattle.sheep_node.specs.SessionQueues.{session_among, QueuesAreDiskRequests, CommandsAreAlone}
-use Rattle.sheep_node.specs.Changes as changes
-use Rattle.sheep_node.specs.Changes.{HasRequest, Arrival, EndsWork, Outcome, ToWork, ToEntry, ToReply, outcome_of_driver, without_ended_work, without_denied_work, zones_of_members, RequestSteps, DiskBegins, DiskGoesOn, CommandBegins, CommandGoesOn, CommandDecided, CheckBegins, CheckGoesOn, ObjectBegins, ObjectIsDone, EntryBegins, EntryDecided, WorkIsNext, AtOnce, InTurn, Again, AgainAlone, Change}
+use Rattle.sheep_node.specs.SessionQueues.{QueuesAreDiskRequests, CommandsAreAlone}
+use Rattle.sheep_node.specs.Changes.{HasRequest, Arrival, EndsWork, Outcome, ToReply, outcome_of_driver, without_ended_work, RequestSteps}
+use Rattle.sheep_node.specs.Changes.{DiskBegins, DiskGoesOn, CommandBegins, CommandGoesOn, CommandDecided, CheckBegins, CheckGoesOn}
+use Rattle.sheep_node.specs.Changes.{ObjectBegins, ObjectIsDone, EntryBegins, EntryDecided, Change}
 use Rattle.sheep_node.proofs.OneWorkParts.{Requests, Sessions}
-use Rattle.sheep_node.proofs.RefusedCourses.{course_refused-keeps, request_refused-keeps}
 use Rattle.sheep_node.proofs.SoleParts.{CommandsAre, IsFreeFor, command_is_free}
 use Rattle.sheep_node.proofs.SoleCommands.{free}
-use Rattle.sheep_node.proofs.SessionViews.{IsSeen, same_seen, alike_seen, free_seen, own_seen}
+use Rattle.sheep_node.proofs.SessionViews.{IsSeen, same_seen, alike_seen, free_seen}
 use Rattle.sheep_node.proofs.WantedSteps.{driver_begins-wanted, driver_goes_on-wanted}
 use Rattle.overlap_law.specs.StandingReads.{IsNoDiskAsk, IsCourseStanding, ReadsStand, IsToldAll, ReadsMayGoOn}
 use Rattle.overlap_law.specs.ToldReads.{Reading}
 use Rattle.overlap_law.proofs.CoursesOfAsks.{disk_in}
 use Rattle.overlap_law.proofs.LedReads.{IsLed, begins_led, course_alike, goes_led}
+use Rattle.overlap_law.proofs.SeenCourses.{AreSeen, moved_seen, gone_seen, course_seen, lined_seen}
+use Rattle.overlap_law.proofs.ChangeWalk.{ComesNext, freed_holds, kept_by_steps, change_holds}
+use Rattle.guest_driver.specs.InodeQueue.{InodeQueue}
+use Rattle.sheep_node.specs.SessionQueues.{session_among}
 
 module _ (May_be : Reading) (ledger : Ledger) (effects : List Effect) (good_id : ℕ → Bool) (asked : ℕ → Option Ask) where
   abbrev Q : ℕ → Option Disk → Course → Type 0
@@ -59,62 +60,36 @@ module _ (May_be : Reading) (ledger : Ledger) (effects : List Effect) (good_id :
 
   -- each request stands
   abbrev pub AreSo : Requests → Sessions → Type 0
-  AreSo requests sessions = (req : ℕ) → IsSeen disk_in (Q req) sessions (tree.get requests req)
+  AreSo = AreSeen disk_in (λ (req : ℕ). IsCourseStanding May_be ledger effects good_id (asked req))
 
   abbrev pub AreSoFar : StepState → Type 0
   AreSoFar so_far = AreSo so_far.node.requests so_far.node.sessions
 
-  session_kept : (requests : Requests) (sessions : Sessions) (number : ℕ) (session : Session)
-      → disk_in session ≡ disk_in (session_among number sessions) → AreSo requests sessions
-      → AreSo requests (tree.insert sessions number session)
-  session_kept requests sessions number session same all q =
-      same_seen disk_in (Q q) sessions number session same (tree.get requests q) (all q)
-
-  moved_kept : (req number : ℕ) (course : Course) (session : Session) (so_far : StepState) → Q req (disk_in session) course
-      → ((q : ℕ) → q ≢ req → IsSeen disk_in (Q q) so_far.node.sessions (tree.get so_far.node.requests q)
-      → IsSeen disk_in (Q q) (tree.insert so_far.node.sessions number session) (tree.get so_far.node.requests q))
-      → AreSoFar so_far
-      → AreSo (tree.insert so_far.node.requests req (record { session = number; course = course }))
-      (tree.insert so_far.node.sessions number session)
-  moved_kept req number course session so_far is view all q = ⊎_elim
-      (λ (own : q ≡ req).
-      subst (λ (k : ℕ). IsSeen disk_in (Q k) (tree.insert so_far.node.sessions number session)
-      (tree.get (tree.insert so_far.node.requests req (record { session = number; course = course })) k)) (sym own)
-      (own_seen disk_in (Q req) so_far.node.sessions number session req course so_far.node.requests is))
-      (λ (other : q ≢ req).
-      subst (IsSeen disk_in (Q q) (tree.insert so_far.node.sessions number session))
-      (sym (get-insert_other so_far.node.requests req (record { session = number; course = course }) q other)) (view q other (all q)))
-      (cases_eq q req)
+  lined_kept : (requests : Requests) (sessions : Sessions) (number : ℕ) (queue : InodeQueue) → AreSo requests sessions
+      → AreSo requests (tree.insert sessions number (record (session_among number sessions) { inode_queue = queue }))
+  lined_kept = lined_seen disk_in Q (λ session queue. refl)
 
   freed_kept : (number req : ℕ) (work : Work) (status : Status) (so_far : StepState) → AreSoFar so_far
       → AreSoFar (without_ended_work number req work status so_far)
-  freed_kept number req work status so_far all =
-      session_kept so_far.node.requests so_far.node.sessions number
-      (record (session_in number so_far) { inode_queue = queue_after_end (session_in number so_far).inode_queue work.work }) refl all
+  freed_kept = freed_holds AreSo lined_kept
 
   ended_kept : (number req : ℕ) (reply : GuestRsp) (so_far : StepState) → AreSoFar so_far → AreSoFar (request_ended number req reply so_far)
   unfolding request_ended
   ended_kept number req reply so_far all =
-      session_kept (tree.remove so_far.node.requests req) so_far.node.sessions number
-      (record (session_in number so_far) { queue = queue_without req (session_in number so_far).queue; command = None }) refl
-      (λ q. ⊎_elim
-      (λ (own : q ≡ req).
-      let none : tree.get (tree.remove so_far.node.requests req) q ≡ None
-      = ap (tree.get (tree.remove so_far.node.requests req)) own ∙ get-remove_same so_far.node.requests req in
-      subst (IsSeen disk_in (Q q) so_far.node.sessions) (sym none) tt)
-      (λ (other : q ≢ req).
-      subst (IsSeen disk_in (Q q) so_far.node.sessions) (sym (get-remove_other so_far.node.requests req q other)) (all q))
-      (cases_eq q req))
+      let after : Session
+      = record (session_in number so_far) { queue = queue_without req (session_in number so_far).queue; command = None } in
+      gone_seen disk_in Q req number after so_far
+      (λ q other seen. same_seen disk_in (Q q) so_far.node.sessions number after refl (tree.get so_far.node.requests q) seen) all
 
   course_so : (number req : ℕ) (course : Course) (so_far : StepState) → HasRequest number req course so_far → AreSoFar so_far
       → Q req (session_in number so_far).disk course
-  course_so number req course so_far there all = subst (IsSeen disk_in (Q req) so_far.node.sessions) there (all req)
+  course_so = course_seen disk_in Q
 
   sole_kept : (number req : ℕ) (course : Course) (so_far : StepState) → Q req (session_in number so_far).disk course → AreSoFar so_far
       → AreSoFar (with_sole_request number req course so_far)
   sole_kept number req course so_far is all =
       let after : Session = record (session_in number so_far) { command = Some req } in
-      moved_kept req number course after so_far is
+      moved_seen disk_in Q req number course after so_far is
       (λ q other seen. same_seen disk_in (Q q) so_far.node.sessions number after refl (tree.get so_far.node.requests q) seen) all
 
   -- an ended work leaves the disk open
@@ -130,7 +105,7 @@ module _ (May_be : Reading) (ledger : Ledger) (effects : List Effect) (good_id :
       → step.inode.vid ≡ disk.inode.vid → AreSoFar so_far → AreSoFar (after_driver_step number req disk step so_far)
   driven_kept number req disk step so_far on is spec vid all =
       let after : Session = record (session_in number so_far) { disk = Some (record disk { inode = step.inode }) } in
-      moved_kept req number (Driving step.driver) after so_far is
+      moved_seen disk_in Q req number (Driving step.driver) after so_far is
       (λ q other seen. alike_seen disk_in (Q q) so_far.node.sessions number after (Some disk) after.disk on refl
       (course_alike May_be ledger effects good_id (asked q) disk (record disk { inode = step.inode }) vid spec)
       (tree.get so_far.node.requests q) seen) all
@@ -142,7 +117,7 @@ module _ (May_be : Reading) (ledger : Ledger) (effects : List Effect) (good_id :
         disk = disk_after (disk_change step) (session_in number so_far).disk;
         command = Some req;
       } in
-      moved_kept req number (Commanding step.op) after so_far none
+      moved_seen disk_in Q req number (Commanding step.op) after so_far none
       (λ q other seen. free_seen disk_in (Q q) so_far.node.sessions number after req q so_far.node.requests alone other seen) all
 
   module _ {input : Input} {node : Node} (may : May input node) (queued : QueuesAreDiskRequests node) (sole : CommandsAreAlone node)
@@ -196,7 +171,11 @@ module _ (May_be : Reading) (ledger : Ledger) (effects : List Effect) (good_id :
         let wanted = driver_begins-wanted disk ask in
         let waits = subst (λ (o : Option Disk). Q req o (Waiting ask)) on (course_so session req (Waiting ask) so_far there all) in
         driven session req disk (begin_driver disk ask) so_far on on wanted.spec wanted.vid all
-        (begins_led May_be ledger effects good_id (asked req) disk ask (goes.sound session disk on) (goes.holes session disk on) waits)
+        (begins_led May_be ledger effects good_id (asked req) disk ask (goes.sound session disk on)
+        (λ offset size reads.
+        goes.begins session req offset size disk (subst (λ (a : DiskAsk). HasRequest session req (Waiting a) so_far) reads there) on
+        may_run)
+        waits)
     steps_so session req next moved (DiskGoesOn number work attempt status bytes driver disk step ends on is) =
         let freed = without_ended_work session req work status so_far in
         let now = freed_kept session req work status so_far all in
@@ -205,7 +184,7 @@ module _ (May_be : Reading) (ledger : Ledger) (effects : List Effect) (good_id :
         let before = subst (λ (o : Option Disk). Q req o (Driving driver)) on
         (course_so session req (Driving driver) freed ends.ends.request now) in
         driven session req disk step freed on was_on wanted.spec wanted.vid now
-        (goes_led May_be ledger effects good_id (asked req) disk bytes driver step is (goes.holes session disk was_on)
+        (goes_led May_be ledger effects good_id (asked req) disk bytes driver step is
         (λ told piece rest same.
         goes.comes session req number work attempt status told bytes piece rest disk
         (subst (λ (d : Driver). EndsWork input node so_far session req number work attempt status (Driving d) bytes) same ends) was_on)
@@ -241,56 +220,23 @@ module _ (May_be : Reading) (ledger : Ledger) (effects : List Effect) (good_id :
     steps_so session req next moved (EntryDecided entry wanted from read there waits) =
         unasked session req next moved all (course_so session req (AwaitingDecision wanted) so_far there all)
 
-    next_so : (session req : ℕ) (one : Work) (lined : StepState) → WorkIsNext input node so_far session req one lined → AreSoFar lined
-    next_so session req one lined (AtOnce work moved steps may_open) =
-        session_kept moved.node.requests moved.node.sessions session
-        (record (session_in session moved) { inode_queue = queue_with_open (session_in session moved).inode_queue req work }) refl
-        (steps_so session req (ToWork work) moved steps).kept
-    next_so session req one lined (InTurn work later none is) =
-        session_kept so_far.node.requests so_far.node.sessions session
-        (record (session_in session so_far) { inode_queue = record { current = Some req; waiting = later } }) refl all
-    next_so session req one lined (Again work course from next there request) = all
-    next_so session req one lined (AgainAlone work from next there none) = all
-
-    pub change_so : (next : StepState) → Change input node so_far next → AreSoFar next
-    change_so next (changes.Marks req number work attempt status learns over) = all
-    change_so next (changes.Fails session req number work attempt status course ends done why) = all
-    change_so next (changes.Stops session req number work attempt status course bytes ends over) =
-        freed_kept session req work status so_far all
-    change_so next (changes.Refuses session req number work attempt status course cause ends done why) =
-        course_refused-keeps AreSoFar ended_kept (λ entry before now. now) session req cause course
-        (without_ended_work session req work status so_far) (freed_kept session req work status so_far all)
-    change_so next (changes.Opens session req one lined comes short) = next_so session req one lined comes
-    change_so next (changes.Holds session req one lined comes short touched) = next_so session req one lined comes
-    change_so next (changes.Denies session req one lined request comes short untouched there own) =
-        request_refused-keeps AreSoFar ended_kept (λ entry before now. now) req (Halt (zones_of_members lined.node) (zones_for one.work))
-        request (without_denied_work session req one lined)
-        (session_kept lined.node.requests lined.node.sessions session
-        (record (session_in session lined) { inode_queue = queue_after_end (session_in session lined).inode_queue one.work }) refl
-        (next_so session req one lined comes))
-    change_so next (changes.Strays req work gateway there none apart) = all
-    change_so next (changes.Lines session req work moved steps waits) =
-        session_kept moved.node.requests moved.node.sessions session
-        (record (session_in session moved) { inode_queue = queue_with_waiting (session_in session moved).inode_queue req work }) refl
-        (steps_so session req (ToWork work) moved steps).kept
-    change_so next (changes.Appends session req entry moved steps) = (steps_so session req (ToEntry entry) moved steps).kept
-    change_so next (changes.Replies session req reply moved steps) =
-        ended_kept session req reply moved (steps_so session req (ToReply reply) moved steps).kept
-    change_so next (changes.Arrives session req ask disk arrival on) =
+    comes : ComesNext AreSo lined_kept input node so_far
+    comes session req ask disk arrival on =
         let after : Session
         = record (session_in session so_far) {
           queue = (session_in session so_far).queue ++ queued_as disk.inode.spec.shift req ask ∷ [];
         } in
-        moved_kept req session (Waiting ask) after so_far
-        (goes.brought req session (asks.Disk ask) arrival.from, whole session req ask arrival)
+        let may_come = subst (λ (input : Input). May input node) arrival.from may in
+        let whole : IsTrue (is_ask ask) = may_come.condition.asked in
+        moved_seen disk_in Q req session (Waiting ask) after so_far
+        (goes.brought req session (asks.Disk ask) arrival.from, whole)
         (λ q other seen. same_seen disk_in (Q q) so_far.node.sessions session after refl (tree.get so_far.node.requests q) seen) all
-      where
-        whole : (session req : ℕ) (ask : DiskAsk) → Arrival input node so_far session req (asks.Disk ask) None → IsTrue (is_ask ask)
-        whole session req ask arrival =
-            let comes = subst (λ (input : Input). May input node) arrival.from may in
-            comes.condition.asked
-    change_so next (changes.Rejects session req ask cause arrival) = all
-    change_so next (changes.Recovers due) = all
+
+    pub change_so : (next : StepState) → Change input node so_far next → AreSoFar next
+    change_so next change =
+        change_holds AreSo lined_kept so_far
+        (kept_by_steps AreSo lined_kept so_far (λ session req outcome moved steps. (steps_so session req outcome moved steps).kept)
+        ended_kept comes) all next change
 
     -- a reply to a request that goes on tells all
     pub reply_tells : (session req : ℕ) (reply : GuestRsp) (moved : StepState)

@@ -107,7 +107,7 @@ back_placed script guests entries node =
 
 module _ (script : List Statement) where
   -- what has no reply stays so, where none is given
-  still_began : (guests : Guests) (replies : List (ℕ × GuestRsp)) (req : ℕ) (disk : Option ℕ)
+  pub still_began : (guests : Guests) (replies : List (ℕ × GuestRsp)) (req : ℕ) (disk : Option ℕ)
       → ((reply : ℕ × GuestRsp) → Contains replies reply → reply.0 ≢ req) → BeganOn script guests req disk
       → BeganOn script (fold (progress_after_reply script) guests replies) req disk
   still_began guests replies req disk others is = record {
@@ -119,7 +119,7 @@ module _ (script : List Statement) where
     on = is.on;
   }
 
-  found_began : (world : World) (n : ℕ) (host : Host) (cause : NodeCause) (req : ℕ) (disk : Option ℕ) → BeganOn script world.guests req disk
+  pub found_began : (world : World) (n : ℕ) (host : Host) (cause : NodeCause) (req : ℕ) (disk : Option ℕ) → BeganOn script world.guests req disk
       → BeganOn script (progress_at_cause cause world) req disk
   found_began world n host cause req disk is = record {
     session = is.session;

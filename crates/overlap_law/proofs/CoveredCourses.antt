@@ -1,18 +1,15 @@
 -- What stands in its session's queue for a read or write covers the objects that it hasn't come to, and it may run once it has begun: every
 -- change keeps that.
-use Rattle.std.proofs.Common.{◌≡◌, ◌≢◌, ⊎_elim, ℕ, true, false, not, List, [], ◌∷◌, ◌++◌, All, Contains, Option, Some, None, option_map, refl, sym, ap, subst, ◌∙◌}
+use Rattle.std.proofs.Common.{◌≡◌, ◌≢◌, ⊎_elim, ℕ, true, false, not, List, [], ◌∷◌, ◌++◌, All, Contains, Option, Some, None, option_map}
+use Rattle.std.proofs.Common.{refl, sym, ap, subst, ◌∙◌}
 use Rattle.std.specs.Ordering.{nat_cmp}
 use Rattle.std.specs.FinMap as tree
-use Rattle.std.proofs.lemmas.Bool.{cases_eq}
 use Rattle.std.proofs.lemmas.List.Elements.{Contains-push_cases}
 use Rattle.std.proofs.lemmas.Option.{same_Some}
-use Rattle.proof_tools.proofs.FiniteMaps.{get-insert_other, get-remove_other, get-remove_same}
 use Rattle.proof_tools.proofs.Lists.{filter-contains}
 use Rattle.object_id.specs.declared.entry.VdiSpec.{VdiSpec}
-use Rattle.object_id.specs.declared.cause.Cause.TheVariants.{Halt}
 use Rattle.peer_proto.specs.declared.guest.GuestRsp.{GuestRsp}
 use Rattle.gateway.specs.declared.message.Status.{Status}
-use Rattle.gateway.specs.Work.{zones_for}
 use Rattle.gateway.specs.State.{Work}
 use Rattle.gateway_queue.specs.declared.queue.Queued.{Queued}
 use Rattle.gateway_queue.specs.Queue.{has_request_number, queue_without, may_run}
@@ -20,7 +17,6 @@ use Rattle.gateway_queue.proofs.RequestOrder.{may_run-done, may_run-pushed}
 use Rattle.guest_driver.specs.declared.disk.Disk.{Disk}
 use Rattle.guest_driver.specs.OnDisk.{pieces_left}
 use Rattle.guest_driver.specs.Driver.{DriverStep, begin_driver}
-use Rattle.guest_driver.specs.InodeQueue.{queue_with_open, queue_with_waiting, queue_after_end}
 use Rattle.disk_check.specs.Check.{begin_check}
 use Rattle.vdi_ops.specs.Op.{OpStep, disk_change}
 use Rattle.sheep_node.specs.declared.ask.Ask.TheVariants as asks
@@ -34,19 +30,24 @@ use Rattle.sheep_node.specs.StepState.{StepState, at_first, session_in, request_
 use Rattle.sheep_node.specs.Courses.{after_driver_step, disk_after, after_command_step}
 use Rattle.sheep_node.specs.Guests.{queued_as}
 use Rattle.sheep_node.specs.May.{May}
-use Rattle.sheep_node.specs.SessionQueues.{session_among, AreDiskRequests, QueuesAreDiskRequests, CommandsAreAlone, is_disk_request_of}
-use Rattle.sheep_node.specs.Changes as changes
-use Rattle.sheep_node.specs.Changes.{HasRequest, IsSoundStep, Outcome, ToWork, ToEntry, ToReply, without_ended_work, without_denied_work, zones_of_members, RequestSteps, DiskBegins, DiskGoesOn, CommandBegins, CommandGoesOn, CommandDecided, CheckBegins, CheckGoesOn, ObjectBegins, ObjectIsDone, EntryBegins, EntryDecided, WorkIsNext, AtOnce, InTurn, Again, AgainAlone, input_received, Change, Leads}
+use Rattle.sheep_node.specs.SessionQueues.{AreDiskRequests, QueuesAreDiskRequests, CommandsAreAlone, is_disk_request_of}
+use Rattle.sheep_node.specs.Changes.{HasRequest, IsSoundStep, Outcome, without_ended_work, RequestSteps, DiskBegins, DiskGoesOn}
+use Rattle.sheep_node.specs.Changes.{CommandBegins, CommandGoesOn, CommandDecided, CheckBegins, CheckGoesOn, ObjectBegins, ObjectIsDone}
+use Rattle.sheep_node.specs.Changes.{EntryBegins, EntryDecided, input_received, Change, Leads}
 use Rattle.sheep_node.proofs.OneWorkParts.{Requests, Sessions}
 use Rattle.sheep_node.proofs.QueueChanges.{QueuesAre, change_keeps_queues, none_queued}
-use Rattle.sheep_node.proofs.RefusedCourses.{course_refused-keeps, request_refused-keeps}
 use Rattle.sheep_node.proofs.SoleParts.{CommandsAre, IsFreeFor, command_is_free}
 use Rattle.sheep_node.proofs.SoleCommands.{free, change_keeps_alone, received_alone}
-use Rattle.sheep_node.proofs.SessionViews.{IsSeen, same_seen, alike_seen, free_seen, own_seen}
+use Rattle.sheep_node.proofs.SessionViews.{IsSeen, same_seen, alike_seen, free_seen}
 use Rattle.sheep_node.proofs.StepChain.{kept_by_chain}
 use Rattle.sheep_node.proofs.ReceivedInputs.{received_keeps}
 use Rattle.sheep_node.proofs.WantedSteps.{driver_begins-wanted, driver_goes_on-wanted}
 use Rattle.overlap_law.proofs.CoveredPieces.{CoversPiece, begins_covered, goes_on_keeps, run_is_queued}
+use Rattle.overlap_law.proofs.PiecesBehind.{CoversBehind, begins_behind, goes_on_behind}
+use Rattle.overlap_law.proofs.SeenCourses.{AreSeen, moved_seen, gone_seen, course_seen, lined_seen}
+use Rattle.overlap_law.proofs.ChangeWalk.{ComesNext, freed_holds, kept_by_steps, change_holds}
+use Rattle.guest_driver.specs.InodeQueue.{InodeQueue}
+use Rattle.sheep_node.specs.SessionQueues.{session_among}
 
 -- how large the objects are of the disk that is open
 abbrev pub shift_open : Option Disk → Option ℕ
@@ -57,13 +58,14 @@ abbrev pub size_and_queue : Session → Option ℕ × List Queued
 size_and_queue session = (shift_open session.disk, session.queue)
 
 -- of a request that waits the queue has what was asked, of the disk that is open; one that has begun may run, and the queue covers the rest
--- of it
+-- of it, and what a write has behind it
 abbrev pub IsCovered : ℕ → (Option ℕ × List Queued) → Course → Type 0
 IsCovered req place (Waiting ask) =
     (shift : ℕ) → place.0 ≡ Some shift → (queued : Queued) → Contains place.1 queued → queued.req ≡ req → queued ≡ queued_as shift req ask
 IsCovered req place (Driving driver) =
     (may_run req place.1 ≡ true)
-    × ((queued : Queued) → Contains place.1 queued → queued.req ≡ req → All (CoversPiece queued) (pieces_left driver))
+    × ((queued : Queued) → Contains place.1 queued → queued.req ≡ req → All (CoversPiece queued) (pieces_left driver)
+    × ((shift : ℕ) → place.0 ≡ Some shift → CoversBehind shift queued driver))
 IsCovered req place (Commanding op) = Unit {0}
 IsCovered req place (Checking check) = Unit {0}
 IsCovered req place (DoingWork asked) = Unit {0}
@@ -71,7 +73,7 @@ IsCovered req place (AwaitingDecision entry) = Unit {0}
 
 -- each request is so
 abbrev pub AreCovered : Requests → Sessions → Type 0
-AreCovered requests sessions = (req : ℕ) → IsSeen size_and_queue (IsCovered req) sessions (tree.get requests req)
+AreCovered = AreSeen size_and_queue IsCovered
 
 abbrev pub CoveredSoFar : StepState → Type 0
 CoveredSoFar so_far = AreCovered so_far.node.requests so_far.node.sessions
@@ -113,65 +115,34 @@ module _ (q : ℕ) (shift : Option ℕ) (queue : List Queued) (one : Queued) (ot
 
 -- ---- sessions and requests
 
-session_covered : (requests : Requests) (sessions : Sessions) (number : ℕ) (session : Session)
-    → size_and_queue session ≡ size_and_queue (session_among number sessions) → AreCovered requests sessions
-    → AreCovered requests (tree.insert sessions number session)
-session_covered requests sessions number session same all q =
-    same_seen size_and_queue (IsCovered q) sessions number session same (tree.get requests q) (all q)
-
--- a request is in another course, and its session changes so that others stay where they are
-moved_covered : (req number : ℕ) (course : Course) (session : Session) (so_far : StepState) → IsCovered req (size_and_queue session) course
-    → ((q : ℕ) → q ≢ req → IsSeen size_and_queue (IsCovered q) so_far.node.sessions (tree.get so_far.node.requests q)
-    → IsSeen size_and_queue (IsCovered q) (tree.insert so_far.node.sessions number session) (tree.get so_far.node.requests q))
-    → CoveredSoFar so_far
-    → AreCovered (tree.insert so_far.node.requests req (record { session = number; course = course }))
-    (tree.insert so_far.node.sessions number session)
-moved_covered req number course session so_far is view all q = ⊎_elim
-    (λ (own : q ≡ req).
-    subst (λ (k : ℕ). IsSeen size_and_queue (IsCovered k) (tree.insert so_far.node.sessions number session)
-    (tree.get (tree.insert so_far.node.requests req (record { session = number; course = course })) k)) (sym own)
-    (own_seen size_and_queue (IsCovered req) so_far.node.sessions number session req course so_far.node.requests is))
-    (λ (other : q ≢ req).
-    subst (IsSeen size_and_queue (IsCovered q) (tree.insert so_far.node.sessions number session))
-    (sym (get-insert_other so_far.node.requests req (record { session = number; course = course }) q other)) (view q other (all q)))
-    (cases_eq q req)
+lined_covered : (requests : Requests) (sessions : Sessions) (number : ℕ) (queue : InodeQueue) → AreCovered requests sessions
+    → AreCovered requests (tree.insert sessions number (record (session_among number sessions) { inode_queue = queue }))
+lined_covered = lined_seen size_and_queue IsCovered (λ session queue. refl)
 
 freed_covered : (number req : ℕ) (work : Work) (status : Status) (so_far : StepState) → CoveredSoFar so_far
     → CoveredSoFar (without_ended_work number req work status so_far)
-freed_covered number req work status so_far all =
-    session_covered so_far.node.requests so_far.node.sessions number
-    (record (session_in number so_far) { inode_queue = queue_after_end (session_in number so_far).inode_queue work.work }) refl all
+freed_covered = freed_holds AreCovered lined_covered
 
-ended_covered : (number req : ℕ) (reply : GuestRsp) (so_far : StepState) → CoveredSoFar so_far → CoveredSoFar (request_ended number req reply so_far)
+ended_covered : (number req : ℕ) (reply : GuestRsp) (so_far : StepState) → CoveredSoFar so_far
+    → CoveredSoFar (request_ended number req reply so_far)
 unfolding request_ended
-ended_covered number req reply so_far all q = ⊎_elim
-    (λ (own : q ≡ req).
-    let none : tree.get (tree.remove so_far.node.requests req) q ≡ None
-    = ap (tree.get (tree.remove so_far.node.requests req)) own ∙ get-remove_same so_far.node.requests req in
-    subst (IsSeen size_and_queue (IsCovered q) (tree.insert so_far.node.sessions number after)) (sym none) tt)
-    (λ (other : q ≢ req).
-    alike_seen size_and_queue (IsCovered q) so_far.node.sessions number after (shift, queue) (shift, queue_without req queue) refl refl
-    (without_other req q shift queue other) (tree.get (tree.remove so_far.node.requests req) q)
-    (subst (IsSeen size_and_queue (IsCovered q) so_far.node.sessions) (sym (get-remove_other so_far.node.requests req q other)) (all q)))
-    (cases_eq q req)
-  where
-    shift : Option ℕ
-    shift = shift_open (session_in number so_far).disk
-
-    queue : List Queued
-    queue = (session_in number so_far).queue
-
-    after : Session
-    after = record (session_in number so_far) { queue = queue_without req (session_in number so_far).queue; command = None }
+ended_covered number req reply so_far all =
+    let shift : Option ℕ = shift_open (session_in number so_far).disk in
+    let queue : List Queued = (session_in number so_far).queue in
+    let after : Session = record (session_in number so_far) { queue = queue_without req queue; command = None } in
+    gone_seen size_and_queue IsCovered req number after so_far
+    (λ q other seen. alike_seen size_and_queue (IsCovered q) so_far.node.sessions number after (shift, queue)
+    (shift, queue_without req queue) refl refl (without_other req q shift queue other) (tree.get so_far.node.requests q) seen) all
 
 -- where a request is
 pub course_covered : (number req : ℕ) (course : Course) (so_far : StepState) → HasRequest number req course so_far → CoveredSoFar so_far
     → IsCovered req (size_and_queue (session_in number so_far)) course
-course_covered number req course so_far there all = subst (IsSeen size_and_queue (IsCovered req) so_far.node.sessions) there (all req)
+course_covered = course_seen size_and_queue IsCovered
 
 driven_covered : (number req : ℕ) (disk : Disk) (step : DriverStep) (so_far : StepState) → (session_in number so_far).disk ≡ Some disk
     → may_run req (session_in number so_far).queue ≡ true
-    → ((queued : Queued) → Contains (session_in number so_far).queue queued → queued.req ≡ req → All (CoversPiece queued) (pieces_left step.driver))
+    → ((queued : Queued) → Contains (session_in number so_far).queue queued → queued.req ≡ req
+    → All (CoversPiece queued) (pieces_left step.driver) × CoversBehind disk.inode.spec.shift queued step.driver)
     → step.inode.spec ≡ disk.inode.spec → CoveredSoFar so_far → CoveredSoFar (after_driver_step number req disk step so_far)
 driven_covered number req disk step so_far on may is same all =
     let after : Session = record (session_in number so_far) { disk = Some (record disk { inode = step.inode }) } in
@@ -179,21 +150,30 @@ driven_covered number req disk step so_far on may is same all =
     = ap (λ (spec : VdiSpec). Some spec.shift) same ∙ sym (ap shift_open on) in
     let place : size_and_queue after ≡ size_and_queue (session_in number so_far)
     = ap (λ (shift : Option ℕ). (shift, (session_in number so_far).queue)) wide in
-    moved_covered req number (Driving step.driver) after so_far (may, is)
+    moved_seen size_and_queue IsCovered req number (Driving step.driver) after so_far (
+      may,
+      λ queued there own. (
+        (is queued there own).0,
+        λ shift at.
+            let size : disk.inode.spec.shift ≡ shift
+            = ap (λ (spec : VdiSpec). spec.shift) (sym same) ∙ same_Some step.inode.spec.shift shift at in
+            subst (λ (k : ℕ). CoversBehind k queued step.driver) size (is queued there own).1,
+      ),
+    )
     (λ q other seen. same_seen size_and_queue (IsCovered q) so_far.node.sessions number after place (tree.get so_far.node.requests q) seen) all
 
 command_covered : (number req : ℕ) (step : OpStep) (so_far : StepState) → IsFreeFor number req so_far.node.requests → CoveredSoFar so_far
     → CoveredSoFar (after_command_step number req step so_far)
 command_covered number req step so_far alone all =
     let after : Session = record (session_in number so_far) { disk = disk_after (disk_change step) (session_in number so_far).disk; command = Some req } in
-    moved_covered req number (Commanding step.op) after so_far tt
+    moved_seen size_and_queue IsCovered req number (Commanding step.op) after so_far tt
     (λ q other seen. free_seen size_and_queue (IsCovered q) so_far.node.sessions number after req q so_far.node.requests alone other seen) all
 
 sole_covered : (number req : ℕ) (course : Course) (so_far : StepState) → IsCovered req (size_and_queue (session_in number so_far)) course
     → CoveredSoFar so_far → CoveredSoFar (with_sole_request number req course so_far)
 sole_covered number req course so_far is all =
     let after : Session = record (session_in number so_far) { command = Some req } in
-    moved_covered req number course after so_far is
+    moved_seen size_and_queue IsCovered req number course after so_far is
     (λ q other seen. same_seen size_and_queue (IsCovered q) so_far.node.sessions number after refl (tree.get so_far.node.requests q) seen) all
 
 -- ---- every change
@@ -216,16 +196,22 @@ module _ {input : Input} {node : Node} (may : May input node) (sound : IsSoundSt
   steps_covered so_far session req next moved (DiskBegins ask disk there on runs) all =
       let before = course_covered session req (Waiting ask) so_far there all.2 in
       driven_covered session req disk (begin_driver disk ask) so_far on runs
-      (λ one among same.
-      subst (λ (q : Queued). All (CoversPiece q) (pieces_left (begin_driver disk ask).driver))
-      (sym (before disk.inode.spec.shift (ap shift_open on) one among same)) (begins_covered disk req ask))
+      (λ one among same. (
+        subst (λ (q : Queued). All (CoversPiece q) (pieces_left (begin_driver disk ask).driver))
+            (sym (before disk.inode.spec.shift (ap shift_open on) one among same)) (begins_covered disk req ask),
+        begins_behind disk one ask,
+      ))
       (driver_begins-wanted disk ask).spec all.2
   steps_covered so_far session req next moved (DiskGoesOn number work attempt status bytes driver disk step ends on is) all =
       let freed = without_ended_work session req work status so_far in
       let now = freed_covered session req work status so_far all.2 in
       let before = course_covered session req (Driving driver) freed ends.ends.request now in
       driven_covered session req disk step freed on before.0
-      (λ one among same. goes_on_keeps (CoversPiece one) disk.inode bytes driver step is (before.1 one among same))
+      (λ one among same. (
+        goes_on_keeps (CoversPiece one) disk.inode bytes driver step is (before.1 one among same).0,
+        goes_on_behind disk.inode.spec.shift one disk.inode bytes driver step is (before.1 one among same).0
+            ((before.1 one among same).1 disk.inode.spec.shift (ap shift_open on)),
+      ))
       (driver_goes_on-wanted disk.inode bytes driver step is).spec now
   steps_covered so_far session req next moved (CommandBegins ask step arrival is) all =
       command_covered session req step so_far (free may queued sole so_far session req (asks.Vdi ask) None arrival refl) all.2
@@ -245,57 +231,28 @@ module _ {input : Input} {node : Node} (may : May input node) (sound : IsSoundSt
   steps_covered so_far session req next moved (EntryBegins entry arrival) all = sole_covered session req (AwaitingDecision entry) so_far tt all.2
   steps_covered so_far session req next moved (EntryDecided entry wanted from read there waits) all = all.2
 
-  next_covered : (so_far : StepState) (session req : ℕ) (asked : Work) (lined : StepState) → WorkIsNext input node so_far session req asked lined
-      → AreInPlace so_far → CoveredSoFar lined
-  next_covered so_far session req asked lined (AtOnce work moved steps begins) all =
-      session_covered moved.node.requests moved.node.sessions session
-      (record (session_in session moved) { inode_queue = queue_with_open (session_in session moved).inode_queue req work }) refl
-      (steps_covered so_far session req (ToWork work) moved steps all)
-  next_covered so_far session req asked lined (InTurn work later none is) all =
-      session_covered so_far.node.requests so_far.node.sessions session
-      (record (session_in session so_far) { inode_queue = record { current = Some req; waiting = later } }) refl all.2
-  next_covered so_far session req asked lined (Again work course from next there request) all = all.2
-  next_covered so_far session req asked lined (AgainAlone work from next there none) all = all.2
-
-  change_keeps_covered : (so_far next : StepState) → Change input node so_far next → AreInPlace so_far → CoveredSoFar next
-  change_keeps_covered so_far next (changes.Marks req number work attempt status learns over) all = all.2
-  change_keeps_covered so_far next (changes.Fails session req number work attempt status course ends done why) all = all.2
-  change_keeps_covered so_far next (changes.Stops session req number work attempt status course bytes ends over) all =
-      freed_covered session req work status so_far all.2
-  change_keeps_covered so_far next (changes.Refuses session req number work attempt status course cause ends done why) all =
-      course_refused-keeps CoveredSoFar ended_covered (λ entry before now. now) session req cause course (without_ended_work session req work status so_far)
-      (freed_covered session req work status so_far all.2)
-  change_keeps_covered so_far next (changes.Opens session req asked lined comes short) all = next_covered so_far session req asked lined comes all
-  change_keeps_covered so_far next (changes.Holds session req asked lined comes short touched) all = next_covered so_far session req asked lined comes all
-  change_keeps_covered so_far next (changes.Denies session req asked lined request comes short untouched there own) all =
-      request_refused-keeps CoveredSoFar ended_covered (λ entry before now. now) req (Halt (zones_of_members lined.node) (zones_for asked.work)) request
-      (without_denied_work session req asked lined)
-      (session_covered lined.node.requests lined.node.sessions session
-      (record (session_in session lined) { inode_queue = queue_after_end (session_in session lined).inode_queue asked.work }) refl
-      (next_covered so_far session req asked lined comes all))
-  change_keeps_covered so_far next (changes.Strays req work gateway there none apart) all = all.2
-  change_keeps_covered so_far next (changes.Lines session req work moved steps waits) all =
-      session_covered moved.node.requests moved.node.sessions session
-      (record (session_in session moved) { inode_queue = queue_with_waiting (session_in session moved).inode_queue req work }) refl
-      (steps_covered so_far session req (ToWork work) moved steps all)
-  change_keeps_covered so_far next (changes.Appends session req entry moved steps) all = steps_covered so_far session req (ToEntry entry) moved steps all
-  change_keeps_covered so_far next (changes.Replies session req reply moved steps) all =
-      ended_covered session req reply moved (steps_covered so_far session req (ToReply reply) moved steps all)
-  change_keeps_covered so_far next (changes.Arrives session req ask disk arrival on) all =
+  comes : (so_far : StepState) → AreInPlace so_far → ComesNext AreCovered lined_covered input node so_far
+  comes so_far all session req ask disk arrival on =
       let queue : List Queued = (session_in session so_far).queue in
       let new : Queued = queued_as disk.inode.spec.shift req ask in
       let after : Session = record (session_in session so_far) { queue = queue ++ new ∷ [] } in
-      moved_covered req session (Waiting ask) after so_far
+      moved_seen size_and_queue IsCovered req session (Waiting ask) after so_far
       (λ shift wide one among same. ⊎_elim
       (λ (before : Contains queue one). absurd (queued_none so_far session req (arrival.none sound) all.1 one before same))
       (λ (last : new ≡ one).
       let size : disk.inode.spec.shift ≡ shift = same_Some disk.inode.spec.shift shift (sym (ap shift_open on) ∙ wide) in
       sym last ∙ ap (λ (k : ℕ). queued_as k req ask) size)
       (Contains-push_cases queue new one among))
-      (λ q other seen. alike_seen size_and_queue (IsCovered q) so_far.node.sessions session after (size_and_queue (session_in session so_far)) (size_and_queue after) refl refl
+      (λ q other seen. alike_seen size_and_queue (IsCovered q) so_far.node.sessions session after
+      (size_and_queue (session_in session so_far)) (size_and_queue after) refl refl
       (with_one_more q (shift_open (session_in session so_far).disk) queue new other) (tree.get so_far.node.requests q) seen) all.2
-  change_keeps_covered so_far next (changes.Rejects session req ask cause arrival) all = all.2
-  change_keeps_covered so_far next (changes.Recovers due) all = all.2
+
+  change_keeps_covered : (so_far next : StepState) → Change input node so_far next → AreInPlace so_far → CoveredSoFar next
+  change_keeps_covered so_far next change all =
+      change_holds AreCovered lined_covered so_far
+      (kept_by_steps AreCovered lined_covered so_far
+      (λ session req outcome moved steps. steps_covered so_far session req outcome moved steps all) ended_covered (comes so_far all))
+      all.2 next change
 
   change_keeps_place : (so_far next : StepState) → Change input node so_far next → AreInPlace so_far → AreInPlace next
   change_keeps_place so_far next change all = (

@@ -35,7 +35,7 @@ each_piece P shift offset size (suc n) index holds =
     (holds index (omega arith) (omega arith))
     (each_piece P shift offset size n (index + 1) (λ k low high. holds k (omega (arith, low)) (omega (arith, high))))
 
-all_covered : (shift req : ℕ) (ask : DiskAsk) → All (CoversPiece (queued_as shift req ask)) (pieces shift (offset_of ask) (size_of ask))
+pub all_covered : (shift req : ℕ) (ask : DiskAsk) → All (CoversPiece (queued_as shift req ask)) (pieces shift (offset_of ask) (size_of ask))
 unfolding pieces
 all_covered shift req ask =
     each_piece (CoversPiece (queued_as shift req ask)) shift (offset_of ask) (size_of ask)

@@ -54,7 +54,7 @@ published_rank vid state (effects.Freed id) is = absurd (cc (is))
 published_rank vid state (effects.Withdrawn id) is = absurd (cc (is))
 published_rank vid state (effects.Left node) is = absurd (cc (is))
 
-high_once : (vid : ℕ) (log : List Entry) → was_published log vid ≡ true → 2 ≤ rank (state_of (log_effects log) vid)
+pub high_once : (vid : ℕ) (log : List Entry) → was_published log vid ≡ true → 2 ≤ rank (state_of (log_effects log) vid)
 high_once vid = by_entries (λ (log : List Entry). was_published log vid ≡ true → 2 ≤ rank (state_of (log_effects log) vid))
     (λ is.
     let none : was_published [] vid ≡ false = ap (list_any (publishes vid)) log_effects-none in

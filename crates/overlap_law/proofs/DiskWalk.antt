@@ -6,7 +6,6 @@ use Rattle.std.specs.FinMap as tree
 use Rattle.std.proofs.lemmas.Bool.{cases_eq}
 use Rattle.std.proofs.lemmas.Option.{same_Some}
 use Rattle.proof_tools.proofs.FiniteMaps.{get-insert_same, get-insert_other, get-remove_other, get-remove_same}
-use Rattle.object_id.specs.declared.cause.Cause.TheVariants.{Halt}
 use Rattle.object_id.specs.declared.entry.Entry.{Entry}
 use Rattle.object_id.specs.declared.node.NodeId.{NodeId}
 use Rattle.inode.specs.Layout.{Content}
@@ -16,12 +15,10 @@ use Rattle.peer_proto.specs.declared.guest.VdiAsk.{VdiAsk}
 use Rattle.peer_service.specs.State.{effects_of}
 use Rattle.peer_service.specs.LogReading.{decision_on}
 use Rattle.gateway.specs.declared.message.Status.{Status}
-use Rattle.gateway.specs.Work.{zones_for}
 use Rattle.gateway.specs.State.{Work}
 use Rattle.gateway_queue.specs.Queue.{queue_without}
 use Rattle.guest_driver.specs.declared.disk.Disk.{Disk}
 use Rattle.guest_driver.specs.Driver.{Driver, DriverStep, begin_driver, driver_on_done}
-use Rattle.guest_driver.specs.InodeQueue.{queue_with_open, queue_with_waiting, queue_after_end}
 use Rattle.disk_check.specs.Check.{begin_check}
 use Rattle.vdi_ops.specs.Entries.{first_entry}
 use Rattle.vdi_ops.specs.Op.{Stays, Opens, Closes, OpStage, Asked, Working, Publishing, Answered, Op, OpStep, disk_change, disk_change_at}
@@ -39,12 +36,12 @@ use Rattle.sheep_node.specs.StepState.{StepState, at_first, session_in, request_
 use Rattle.sheep_node.specs.Courses.{after_driver_step, disk_after, inode_open, after_command_step}
 use Rattle.sheep_node.specs.Guests.{queued_as}
 use Rattle.sheep_node.specs.SessionQueues.{session_among}
-use Rattle.sheep_node.specs.Changes as changes
-use Rattle.sheep_node.specs.Changes.{Outcome, ToWork, ToEntry, ToReply, without_ended_work, without_denied_work, zones_of_members, RequestSteps, DiskBegins, DiskGoesOn, CommandBegins, CommandGoesOn, CommandDecided, CheckBegins, CheckGoesOn, ObjectBegins, ObjectIsDone, EntryBegins, EntryDecided, WorkIsNext, AtOnce, InTurn, Again, AgainAlone, input_received, Change, Leads}
+use Rattle.sheep_node.specs.Changes.{Outcome, without_ended_work, RequestSteps, DiskBegins, DiskGoesOn, CommandBegins, CommandGoesOn, CommandDecided, CheckBegins, CheckGoesOn, ObjectBegins, ObjectIsDone, EntryBegins, EntryDecided, input_received, Change, Leads}
 use Rattle.sheep_node.proofs.OneWorkParts.{Requests, Sessions}
-use Rattle.sheep_node.proofs.RefusedCourses.{course_refused-keeps, request_refused-keeps}
 use Rattle.sheep_node.proofs.StepChain.{kept_by_chain}
 use Rattle.sheep_node.proofs.ReceivedInputs.{received_keeps}
+use Rattle.overlap_law.proofs.ChangeWalk.{freed_holds, kept_by_steps, change_holds}
+use Rattle.guest_driver.specs.InodeQueue.{InodeQueue}
 
 -- what is to hold of an open disk, and of what a command waits for
 module _ (P : Disk → Type 0) (S : OpStage → Type 0) where
@@ -128,11 +125,14 @@ module _ (P : Disk → Type 0) (S : OpStage → Type 0) where
     stages = stages_kept so_far.node.requests req (record { session = number; course = course }) stage all.stages;
   }
 
+  lined_kept : (requests : Requests) (sessions : Sessions) (number : ℕ) (queue : InodeQueue) → AreSo requests sessions
+      → AreSo requests (tree.insert sessions number (record (session_among number sessions) { inode_queue = queue }))
+  lined_kept requests sessions number queue all =
+      session_kept requests sessions number (record (session_among number sessions) { inode_queue = queue }) refl all
+
   freed_kept : (number req : ℕ) (work : Work) (status : Status) (so_far : StepState) → AreSoFar so_far
       → AreSoFar (without_ended_work number req work status so_far)
-  freed_kept number req work status so_far all =
-      session_kept so_far.node.requests so_far.node.sessions number
-      (record (session_in number so_far) { inode_queue = queue_after_end (session_in number so_far).inode_queue work.work }) refl all
+  freed_kept = freed_holds AreSo lined_kept
 
   ended_kept : (number req : ℕ) (reply : GuestRsp) (so_far : StepState) → AreSoFar so_far → AreSoFar (request_ended number req reply so_far)
   unfolding request_ended
@@ -229,55 +229,16 @@ module _ (P : Disk → Type 0) (S : OpStage → Type 0) where
     steps_kept so_far session req next moved (EntryBegins entry arrival) all = sole_kept session req (AwaitingDecision entry) so_far tt all
     steps_kept so_far session req next moved (EntryDecided entry wanted from read there waits) all = all
 
-    next_kept : (so_far : StepState) (session req : ℕ) (asked : Work) (lined : StepState)
-        → WorkIsNext input node so_far session req asked lined
-        → AreSoFar so_far → AreSoFar lined
-    next_kept so_far session req asked lined (AtOnce work moved steps begins) all =
-        session_kept moved.node.requests moved.node.sessions session
-        (record (session_in session moved) { inode_queue = queue_with_open (session_in session moved).inode_queue req work }) refl
-        (steps_kept so_far session req (ToWork work) moved steps all)
-    next_kept so_far session req asked lined (InTurn work later none is) all =
-        session_kept so_far.node.requests so_far.node.sessions session
-        (record (session_in session so_far) { inode_queue = record { current = Some req; waiting = later } }) refl all
-    next_kept so_far session req asked lined (Again work course from next there request) all = all
-    next_kept so_far session req asked lined (AgainAlone work from next there none) all = all
-
     change_keeps_so : (so_far next : StepState) → Change input node so_far next → AreSoFar so_far → AreSoFar next
-    change_keeps_so so_far next (changes.Marks req number work attempt status learns over) all = all
-    change_keeps_so so_far next (changes.Fails session req number work attempt status course ends done why) all = all
-    change_keeps_so so_far next (changes.Stops session req number work attempt status course bytes ends over) all =
-        freed_kept session req work status so_far all
-    change_keeps_so so_far next (changes.Refuses session req number work attempt status course cause ends done why) all =
-        course_refused-keeps AreSoFar ended_kept (λ entry before now. now) session req cause course
-        (without_ended_work session req work status so_far) (freed_kept session req work status so_far all)
-    change_keeps_so so_far next (changes.Opens session req asked lined comes short) all = next_kept so_far session req asked lined comes all
-    change_keeps_so so_far next (changes.Holds session req asked lined comes short touched) all =
-        next_kept so_far session req asked lined comes all
-    change_keeps_so so_far next (changes.Denies session req asked lined request comes short untouched there own) all =
-        request_refused-keeps AreSoFar ended_kept (λ entry before now. now) req
-        (Halt (zones_of_members lined.node) (zones_for asked.work)) request
-        (without_denied_work session req asked lined)
-        (session_kept lined.node.requests lined.node.sessions session
-        (record (session_in session lined) { inode_queue = queue_after_end (session_in session lined).inode_queue asked.work }) refl
-        (next_kept so_far session req asked lined comes all))
-    change_keeps_so so_far next (changes.Strays req work gateway there none apart) all = all
-    change_keeps_so so_far next (changes.Lines session req work moved steps waits) all =
-        session_kept moved.node.requests moved.node.sessions session
-        (record (session_in session moved) { inode_queue = queue_with_waiting (session_in session moved).inode_queue req work }) refl
-        (steps_kept so_far session req (ToWork work) moved steps all)
-    change_keeps_so so_far next (changes.Appends session req entry moved steps) all =
-        steps_kept so_far session req (ToEntry entry) moved steps all
-    change_keeps_so so_far next (changes.Replies session req reply moved steps) all =
-        ended_kept session req reply moved (steps_kept so_far session req (ToReply reply) moved steps all)
-    change_keeps_so so_far next (changes.Arrives session req ask disk arrival on) all =
+    change_keeps_so so_far next change all =
+        change_holds AreSo lined_kept so_far
+        (kept_by_steps AreSo lined_kept so_far
+        (λ session req outcome moved takes. steps_kept so_far session req outcome moved takes all) ended_kept
+        (λ session req ask disk arrival on.
         moved_kept req session (Waiting ask)
         (record (session_in session so_far) {
-          queue =
-              (session_in session so_far).queue ++ queued_as disk.inode.spec.shift req ask ∷ [];
-        }) so_far tt
-        (all.disks session) all
-    change_keeps_so so_far next (changes.Rejects session req ask cause arrival) all = all
-    change_keeps_so so_far next (changes.Recovers due) all = all
+          queue = (session_in session so_far).queue ++ queued_as disk.inode.spec.shift req ask ∷ [];
+        }) so_far tt (all.disks session) all)) all next change
 
   pub none_so : AreSo tree.empty tree.empty
   none_so = record {

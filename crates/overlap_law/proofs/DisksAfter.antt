@@ -5,7 +5,6 @@ use Rattle.std.specs.FinMap as tree
 use Rattle.std.proofs.lemmas.Bool.{cases_eq}
 use Rattle.std.proofs.lemmas.Option.{same_Some}
 use Rattle.proof_tools.proofs.FiniteMaps.{get-insert_same, get-insert_other}
-use Rattle.object_id.specs.declared.cause.Cause.TheVariants.{Halt}
 use Rattle.object_id.specs.declared.entry.Entry.{Entry}
 use Rattle.object_id.specs.declared.entry.Entry.TheVariants as entries
 use Rattle.object_id.specs.declared.entry.Origin.TheVariants.{Fresh, SnapshotOf, CloneOf}
@@ -17,7 +16,6 @@ use Rattle.peer_proto.specs.declared.guest.VdiAsk.{VdiAsk}
 use Rattle.peer_service.specs.State.{effects_of}
 use Rattle.peer_service.specs.LogReading.{decision_on}
 use Rattle.gateway.specs.declared.message.Status.{Status}
-use Rattle.gateway.specs.Work.{zones_for}
 use Rattle.gateway.specs.State.{Work}
 use Rattle.guest_driver.specs.declared.disk.Disk.{Disk}
 use Rattle.guest_driver.specs.InodeQueue as lines
@@ -37,13 +35,11 @@ use Rattle.sheep_node.specs.declared.session.Session.{Session}
 use Rattle.sheep_node.specs.State.{Node, new_session}
 use Rattle.sheep_node.specs.StepState.{StepState, session_in, request_ended}
 use Rattle.sheep_node.specs.Courses.{disk_after, inode_open, after_driver_step, after_command_step}
-use Rattle.sheep_node.specs.Changes as changes
-use Rattle.sheep_node.specs.Changes.{without_ended_work, Outcome, ToWork, ToEntry, ToReply, without_denied_work, zones_of_members}
+use Rattle.sheep_node.specs.Changes.{without_ended_work, Outcome}
 use Rattle.sheep_node.specs.Changes.{RequestSteps, DiskBegins, DiskGoesOn, CommandBegins, CommandGoesOn, CommandDecided, CheckBegins}
-use Rattle.sheep_node.specs.Changes.{CheckGoesOn, ObjectBegins, ObjectIsDone, EntryBegins, EntryDecided, WorkIsNext, AtOnce, InTurn, Again}
-use Rattle.sheep_node.specs.Changes.{AgainAlone, Change}
+use Rattle.sheep_node.specs.Changes.{CheckGoesOn, ObjectBegins, ObjectIsDone, EntryBegins, EntryDecided}
+use Rattle.sheep_node.specs.Changes.{Change}
 use Rattle.sheep_node.proofs.QueueChanges.{same_view}
-use Rattle.sheep_node.proofs.RefusedCourses.{course_refused-keeps, request_refused-keeps}
 use Rattle.sheep_node.proofs.OneWorkParts.{Sessions}
 use Rattle.std.proofs.Common.{◌≡◌, ◌≢◌, ◌⊎◌, inl, inr, ⊎_elim, ℕ, true, false, List, Option, Some, None, option_map}
 use Rattle.std.proofs.Common.{IfSome, unwrap_or, refl, sym, ap, subst, ◌∙◌}
@@ -57,6 +53,9 @@ use Rattle.sheep_node.specs.Changes.{EndsWork}
 use Rattle.sheep_node.specs.SessionQueues.{session_among}
 use Rattle.overlap_law.specs.OpenedTables.{OpensNow, ReadsIt, WroteIt, ByWork, ByEntry}
 use Rattle.overlap_law.proofs.DriverNames.{driver_begins-stays}
+use Rattle.overlap_law.proofs.ChangeWalk.{kept_by_steps, change_holds}
+use Rattle.guest_driver.specs.InodeQueue.{InodeQueue}
+use Rattle.sheep_node.proofs.OneWorkParts.{Requests}
 
 -- how a session comes to have this disk open
 pub data DiskAfter (input : Input) (node : Node) (so_far : StepState) (q : ℕ) (disk : Disk) : Type 0 where
@@ -322,36 +321,15 @@ module _ (q : ℕ) (disk : Disk) (input : Input) (node : Node) where
   steps_from so_far session req next moved (EntryBegins entry arrival) = sole_from session req so_far so_far (from_itself so_far)
   steps_from so_far session req next moved (EntryDecided entry wanted from read there waits) = from_itself so_far
 
-  next_from : (so_far : StepState) (session req : ℕ) (asked : Work) (lined : StepState)
-      → WorkIsNext input node so_far session req asked lined → From so_far lined
-  next_from so_far session req asked lined (AtOnce work moved steps begins) =
-      alike_from so_far moved.node.sessions session _ refl (steps_from so_far session req (ToWork work) moved steps)
-  next_from so_far session req asked lined (InTurn work later none is) =
-      alike_from so_far so_far.node.sessions session _ refl (from_itself so_far)
-  next_from so_far session req asked lined (Again work course from next there request) = from_itself so_far
-  next_from so_far session req asked lined (AgainAlone work from next there none) = from_itself so_far
-
   pub disk_from : (so_far next : StepState) → Change input node so_far next → From so_far next
-  disk_from so_far next (changes.Marks req number work attempt status learns over) = from_itself so_far
-  disk_from so_far next (changes.Fails session req number work attempt status course ends done why) = from_itself so_far
-  disk_from so_far next (changes.Stops session req number work attempt status course bytes ends over) =
-      freed_from so_far session req work status so_far (from_itself so_far)
-  disk_from so_far next (changes.Refuses session req number work attempt status course cause ends done why) =
-      course_refused-keeps (From so_far) (ended_from so_far) (λ entry before now. now) session req cause course
-      (without_ended_work session req work status so_far) (freed_from so_far session req work status so_far (from_itself so_far))
-  disk_from so_far next (changes.Opens session req asked lined comes enough) = next_from so_far session req asked lined comes
-  disk_from so_far next (changes.Holds session req asked lined comes short touched) = next_from so_far session req asked lined comes
-  disk_from so_far next (changes.Denies session req asked lined request comes short untouched there own) =
-      request_refused-keeps (From so_far) (ended_from so_far) (λ entry before now. now) req
-      (Halt (zones_of_members lined.node) (zones_for asked.work)) request (without_denied_work session req asked lined)
-      (alike_from so_far lined.node.sessions session _ refl (next_from so_far session req asked lined comes))
-  disk_from so_far next (changes.Strays req work gateway there none apart) = from_itself so_far
-  disk_from so_far next (changes.Lines session req work moved steps waits) =
-      alike_from so_far moved.node.sessions session _ refl (steps_from so_far session req (ToWork work) moved steps)
-  disk_from so_far next (changes.Appends session req entry moved steps) = steps_from so_far session req (ToEntry entry) moved steps
-  disk_from so_far next (changes.Replies session req reply moved steps) =
-      ended_from so_far session req reply moved (steps_from so_far session req (ToReply reply) moved steps)
-  disk_from so_far next (changes.Arrives session req ask disk arrival on) =
-      alike_from so_far so_far.node.sessions session _ refl (from_itself so_far)
-  disk_from so_far next (changes.Rejects session req ask cause arrival) = from_itself so_far
-  disk_from so_far next (changes.Recovers due) = from_itself so_far
+  disk_from so_far next change =
+      change_holds (λ (requests : Requests) (sessions : Sessions). AreFrom so_far sessions) lined so_far
+      (kept_by_steps (λ (requests : Requests) (sessions : Sessions). AreFrom so_far sessions) lined so_far (steps_from so_far)
+      (ended_from so_far)
+      (λ session req ask on arrival there. alike_from so_far so_far.node.sessions session _ refl (from_itself so_far)))
+      (from_itself so_far) next change
+    where
+      lined : (requests : Requests) (sessions : Sessions) (number : ℕ) (queue : InodeQueue) → AreFrom so_far sessions
+          → AreFrom so_far (tree.insert sessions number (record (session_among number sessions) { inode_queue = queue }))
+      lined requests sessions number queue =
+          alike_from so_far sessions number (record (session_among number sessions) { inode_queue = queue }) refl

@@ -44,7 +44,7 @@ abbrev pub IsWriterAt : List Statement → ℕ → Type 0
 IsWriterAt script req = (is_write_at script req ≡ true) ⊎ (is_check_at script req ≡ true)
 
 -- it asks to write, or for a check
-abbrev AsksToWrite : Option Ask → Type 0
+abbrev pub AsksToWrite : Option Ask → Type 0
 AsksToWrite asked = ((offset : ℕ) × (payload : List ℕ) × (asked ≡ Some (asks.Disk (disk_asks.Write offset payload))))
     ⊎ (asked ≡ Some (asks.Vdi disk_commands.Check))
 
@@ -73,11 +73,11 @@ stage_none by session (Publishing entry opened) is = is
 stage_none by session (commands.Answered change) is = is
 
 -- so it is on a disk, and no command
-record IsPlain (opened : Option Disk) (began : Option ℕ) (course : Course) : Type 0 where
-  on : IsOnDisk opened began
-  plain : (op : Op) → course ≡ Commanding op → ⊥
+pub record IsPlain (opened : Option Disk) (began : Option ℕ) (course : Course) : Type 0 where
+  pub on : IsOnDisk opened began
+  pub plain : (op : Op) → course ≡ Commanding op → ⊥
 
-plain_course : (asked : Option Ask) → AsksToWrite asked → (opened : Option Disk) (began : Option ℕ) (course : Course)
+pub plain_course : (asked : Option Ask) → AsksToWrite asked → (opened : Option Disk) (began : Option ℕ) (course : Course)
     → IsCourseOfAsk asked opened began course → IsPlain opened began course
 plain_course asked writes opened began (Waiting ask) is = record { on = is.1; plain = λ op same. absurd (cc (same)) }
 plain_course asked writes opened began (Driving driver) is = record { on = is.on; plain = λ op same. absurd (cc (same)) }
@@ -93,7 +93,7 @@ plain_course asked writes opened began (AwaitingDecision entry) is = absurd is
 module _ (script : List Statement) (range : RunsAreInRange script) (world : World) (began : Began script world) (n : ℕ) (host : Host)
     (there : tree.get world.hosts n ≡ Some host) (req : ℕ) (request : Request) (got : tree.get host.node.requests req ≡ Some request)
     (writer : IsWriterAt script req) where
-  asks_to_write : IsWriterAt script req → AsksToWrite (asked_by script req)
+  pub asks_to_write : IsWriterAt script req → AsksToWrite (asked_by script req)
   asks_to_write (inl is) = write_asks (request_at script req) is
   asks_to_write (inr is) = check_asks (request_at script req) is
 

@@ -1,4 +1,4 @@
--- At each moment on the way of an event a disk that a session has open is one that the log has made so.
+-- At each moment on the way of an event what a node works on, and what its sessions have open, is of disks that the log has made so.
 use Rattle.std.proofs.Common.{◌≡◌, ◌≢◌, ⊎_elim, ℕ, List, ◌++◌, Some, sym, ap, subst, ◌∙◌}
 use Rattle.std.specs.FinMap as tree
 use Rattle.proof_tools.proofs.FiniteMaps.{get-insert_cases, get-insert_same}
@@ -6,6 +6,7 @@ use Rattle.object_id.specs.declared.entry.Entry.{Entry}
 use Rattle.cluster_script.specs.declared.statement.Statement.{Statement}
 use Rattle.guest_driver.specs.declared.disk.Disk.{Disk}
 use Rattle.vdi_directory.specs.Decisions.{log_effects}
+use Rattle.peer_service.specs.State.{effects_of}
 use Rattle.sheep_node.specs.declared.event.Event.{Event}
 use Rattle.sheep_node.specs.Changes as changes
 use Rattle.sheep_node.specs.StepFacts.{read_after}
@@ -20,7 +21,6 @@ use Rattle.sheep_world.specs.Step.{EventOutcome, step}
 use Rattle.sheep_world.specs.World.{Host, World}
 use Rattle.sheep_world.proofs.BegunWorlds.{goes_on}
 use Rattle.sheep_world.proofs.LogFrontLaws.{all_read}
-use Rattle.overlap_law.specs.Each.{spec_in}
 use Rattle.overlap_law.specs.MomentChanges as moments
 use Rattle.overlap_law.specs.MomentChanges.{MomentChange, RunsAreInRange}
 use Rattle.overlap_law.specs.Past.{MomentWithPast, moment_after}
@@ -28,9 +28,9 @@ use Rattle.overlap_law.specs.StepMoments.{SteppingNode, IsStepping, StepsByChang
 use Rattle.overlap_law.specs.Words.{Hosts}
 use Rattle.overlap_law.proofs.CausedWorks.{known_then}
 use Rattle.overlap_law.proofs.GrantedEpochs.{spec_stays}
-use Rattle.overlap_law.proofs.InsideDisks.{known_here, open_spec}
 use Rattle.overlap_law.proofs.KnownDisks.{IsKnownInode}
-use Rattle.overlap_law.proofs.KnownDiskSteps.{effects_after}
+use Rattle.overlap_law.proofs.KnownDiskSteps.{AreOnKnown, all_grow, effects_after}
+use Rattle.overlap_law.proofs.KnownDisksInRuns.{nodes_know}
 use Rattle.overlap_law.proofs.LogsInMoments.{log_by_changes}
 use Rattle.overlap_law.proofs.WriteObjects.{known_open}
 
@@ -39,30 +39,35 @@ abbrev pub OpenDisksAreMade : List Entry → Hosts → Type 0
 OpenDisksAreMade log hosts = (n : ℕ) (host : Host) → tree.get hosts n ≡ Some host → (number : ℕ) (disk : Disk)
     → (session_among number host.node.sessions).disk ≡ Some disk → IsKnownInode (log_effects log) disk.inode
 
+-- all that nodes have is of disks that were
+abbrev pub AreAllKnown : List Entry → Hosts → Type 0
+AreAllKnown log hosts = (n : ℕ) (host : Host) → tree.get hosts n ≡ Some host → AreOnKnown (log_effects log) host.node
+
+open_made : (log : List Entry) (hosts : Hosts) → AreAllKnown log hosts → OpenDisksAreMade log hosts
+open_made log hosts all n host there number disk opened = known_open (log_effects log) host.node (all n host there) number disk opened
+
 module _ (script : List Statement) (range : RunsAreInRange script) where
-  made_in_world : (world : World) → Began script world → OpenDisksAreMade world.log world.hosts
-  made_in_world world began n host there number disk opened =
-      let known = known_here script range world began n host there number disk opened in
-      record {
-        disk = record {
-          id = known.disk.id;
-          spec_valid = known.disk.spec_valid;
-          made = open_spec script range world began n host there number disk opened;
-        };
-        count = known.count;
-      }
+  known_in_world : (world : World) → Began script world → AreAllKnown world.log world.hosts
+  known_in_world world began n host there =
+      let front = all_read script world began n host there in
+      subst (λ (log : List Entry). AreOnKnown (log_effects log) host.node) (sym front.is)
+      (all_grow (effects_of host.node.peer) (log_effects (host.node.peer.entries ++ front.rest))
+      (λ vid spec made. spec_stays host.node.peer.entries front.rest vid spec made) host.node
+      (nodes_know script range world began n host there))
+
+  pub made_in_world : (world : World) → Began script world → OpenDisksAreMade world.log world.hosts
+  made_in_world world began = open_made world.log world.hosts (known_in_world world began)
 
   module _ (start : MomentWithPast) (began : Began script start.world) where
-    made_in_step : (stepping : SteppingNode) → IsStepping script start.world stepping → StepsByChanges stepping.cause
+    known_in_step : (stepping : SteppingNode) → IsStepping script start.world stepping → StepsByChanges stepping.cause
         → (so_far : StepState) → LeadsInStep stepping (first_in_step stepping) so_far
-        → OpenDisksAreMade (moment_in_step script stepping start so_far).world.log
-        (moment_in_step script stepping start so_far).world.hosts
-    made_in_step stepping is by so_far leads n host there number disk opened = ⊎_elim
-        (λ (here : (n ≡ stepping.n) × (host_with_node stepping.host so_far.node ≡ host)). own here.1)
+        → AreAllKnown (moment_in_step script stepping start so_far).world.log (moment_in_step script stepping start so_far).world.hosts
+    known_in_step stepping is by so_far leads n host there = ⊎_elim
+        (λ (here : (n ≡ stepping.n) × (host_with_node stepping.host so_far.node ≡ host)).
+        subst (λ (h : Host). AreOnKnown (log_effects log) h.node) here.1 own)
         (λ (other : (n ≢ stepping.n) × (tree.get start.world.hosts n ≡ Some host)).
-        subst (λ (log : List Entry). IsKnownInode (log_effects log) disk.inode)
-        (sym (log_by_changes stepping.cause by start.world.log))
-        (made_in_world start.world began n host other.1 number disk opened))
+        subst (λ (log : List Entry). AreOnKnown (log_effects log) host.node) (sym (log_by_changes stepping.cause by start.world.log))
+        (known_in_world start.world began n host other.1))
         (get-insert_cases start.world.hosts stepping.n (host_with_node stepping.host so_far.node) n host there)
       where
         ended : Began script (world_after_cause script stepping.n stepping.host stepping.cause start.world)
@@ -72,46 +77,49 @@ module _ (script : List Statement) (range : RunsAreInRange script) where
         log : List Entry
         log = (world_after_cause script stepping.n stepping.host stepping.cause start.world).log
 
-        own : host_with_node stepping.host so_far.node ≡ host → IsKnownInode (log_effects log) disk.inode
-        own same =
+        own : AreOnKnown (log_effects (world_after_cause script stepping.n stepping.host stepping.cause start.world).log) so_far.node
+        own =
             let now = host_after_step stepping.cause stepping.host in
             let front = all_read script (world_after_cause script stepping.n stepping.host stepping.cause start.world) ended stepping.n now
             (get-insert_same start.world.hosts stepping.n now) in
-            let read : log ≡ read_after (input_of_cause stepping.cause) stepping.host.node.peer.entries ++ front.rest
+            let read : (world_after_cause script stepping.n stepping.host stepping.cause start.world).log
+            ≡ read_after (input_of_cause stepping.cause) stepping.host.node.peer.entries ++ front.rest
             = front.is
             ∙ ap (λ (entries : List Entry). entries ++ front.rest) (step_reads (input_of_cause stepping.cause) stepping.host.node) in
-            let known = known_open (effects_after (input_of_cause stepping.cause) stepping.host.node) so_far.node
-            (known_then script range start.world began stepping.n stepping.host is.there is.up stepping.cause is.caused ended so_far leads)
-            number disk (ap (λ (h : Host). (session_among number h.node.sessions).disk) same ∙ opened) in
-            record {
-              disk = record {
-                id = known.disk.id;
-                spec_valid = known.disk.spec_valid;
-                made = ap (λ (entries : List Entry). spec_in (log_effects entries) disk.inode.vid) read
-                    ∙ spec_stays (read_after (input_of_cause stepping.cause) stepping.host.node.peer.entries) front.rest disk.inode.vid
-                    disk.inode.spec known.disk.made;
-              };
-              count = known.count;
-            }
+            subst (λ (l : List Entry). AreOnKnown (log_effects l) so_far.node) (sym read)
+            (all_grow (effects_after (input_of_cause stepping.cause) stepping.host.node)
+            (log_effects (read_after (input_of_cause stepping.cause) stepping.host.node.peer.entries ++ front.rest))
+            (λ vid spec made.
+            spec_stays (read_after (input_of_cause stepping.cause) stepping.host.node.peer.entries) front.rest vid spec made) so_far.node
+            (known_then script range start.world began stepping.n stepping.host is.there is.up stepping.cause is.caused ended so_far leads))
 
-    made_then : (event : Event) (made : EventOutcome) → step script event start.world ≡ Some made
-        → OpenDisksAreMade (moment_after script event start made).world.log (moment_after script event start made).world.hosts
-    made_then event made happened = made_in_world made.world (goes_on script event start.world made began happened)
+    known_at_end : (event : Event) (made : EventOutcome) → step script event start.world ≡ Some made
+        → AreAllKnown (moment_after script event start made).world.log (moment_after script event start made).world.hosts
+    known_at_end event made happened = known_in_world made.world (goes_on script event start.world made began happened)
 
     -- behind each change
+    pub known_after : {before after : MomentWithPast} → MomentChange script start before after
+        → AreAllKnown after.world.log after.world.hosts
+    known_after (moments.StepBegins stepping is by) = known_in_step stepping is by (first_in_step stepping) changes.Still
+    known_after (moments.StepGoesOn stepping so_far next is by within) =
+        known_in_step stepping is by next (changes.Then within.leads within.change)
+    known_after (moments.StepIsMade stepping is by) =
+        known_at_end (event_of_cause stepping.n stepping.cause)
+        (outcome_of_step script stepping.n stepping.host stepping.cause start.world) is.made
+    known_after (moments.LossIsUntold event made happened h) = known_at_end event made happened
+    known_after (moments.DeliveryIsUnread event made happened h) = known_at_end event made happened
+    known_after (moments.NodeIsLost event made happened h) = known_at_end event made happened
+    known_after (moments.NodeLeaves event made happened h) = known_at_end event made happened
+    known_after (moments.NodeIsReweighted event made happened h) = known_at_end event made happened
+    known_after (moments.NodeJoins event made happened h) = known_at_end event made happened
+    known_after (moments.NodeComesBack event made happened h) = known_at_end event made happened
+    known_after (moments.PhaseEnds event made happened h) = known_at_end event made happened
+
     pub disks_after : {before after : MomentWithPast} → MomentChange script start before after
         → OpenDisksAreMade after.world.log after.world.hosts
-    disks_after (moments.StepBegins stepping is by) = made_in_step stepping is by (first_in_step stepping) changes.Still
-    disks_after (moments.StepGoesOn stepping so_far next is by within) =
-        made_in_step stepping is by next (changes.Then within.leads within.change)
-    disks_after (moments.StepIsMade stepping is by) =
-        made_then (event_of_cause stepping.n stepping.cause)
-        (outcome_of_step script stepping.n stepping.host stepping.cause start.world) is.made
-    disks_after (moments.LossIsUntold event made happened h) = made_then event made happened
-    disks_after (moments.DeliveryIsUnread event made happened h) = made_then event made happened
-    disks_after (moments.NodeIsLost event made happened h) = made_then event made happened
-    disks_after (moments.NodeLeaves event made happened h) = made_then event made happened
-    disks_after (moments.NodeIsReweighted event made happened h) = made_then event made happened
-    disks_after (moments.NodeJoins event made happened h) = made_then event made happened
-    disks_after (moments.NodeComesBack event made happened h) = made_then event made happened
-    disks_after (moments.PhaseEnds event made happened h) = made_then event made happened
+    disks_after {before} {after} change = open_made after.world.log after.world.hosts (known_after change)
+
+    pub known_along : {moment : MomentWithPast} → moments.MomentTrail script start moment
+        → AreAllKnown moment.world.log moment.world.hosts
+    known_along moments.Still = known_in_world start.world began
+    known_along (moments.Then trail change) = known_after change

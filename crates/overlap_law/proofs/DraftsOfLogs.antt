@@ -170,7 +170,7 @@ module _ (log : List Entry) (entry : Entry) (vid : ℕ) (unused : is_used (log_e
         (ap (state_of before) (sym (eqb-true grant.reservation.vid.0 vid here))
         ∙ (sound-log_effects log).unused grant.reservation.vid.0 lawful.1)
 
-    found : reservation_on (record { 0 = vid }) (reservations_of (log_effects (log ++ entry ∷ []))) ≡ Some grant.reservation
+    pub found : reservation_on (record { 0 = vid }) (reservations_of (log_effects (log ++ entry ∷ []))) ≡ Some grant.reservation
     found =
         ap (λ (all : List Effect). reservation_on (record { 0 = vid }) (reservations_of all)) (log_effects-push log entry)
         ∙ ap (reservation_on (record { 0 = vid })) (reservations_of-push before does)

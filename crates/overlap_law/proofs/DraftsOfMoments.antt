@@ -85,7 +85,7 @@ module _ (script : List Statement) (range : RunsAreInRange script) (events : Lis
   reservable : All IsReservable after.world.log
   reservable = (on_the_way script LogIsReservable (kept_reservable script range) events start after is (moments.Then trail change)).all
 
-  grows : (later : List Entry) × (after.world.log ≡ before.world.log ++ later)
+  pub grows : (later : List Entry) × (after.world.log ≡ before.world.log ++ later)
   grows = ⊎_elim
       (λ (same : after.world.log ≡ before.world.log). ([], same ∙ sym (append-nil before.world.log)))
       (λ (more : (entry : Entry) × (after.world.log ≡ before.world.log ++ entry ∷ [])). (more.0 ∷ [], more.1))
@@ -103,7 +103,7 @@ module _ (script : List Statement) (range : RunsAreInRange script) (events : Lis
   abbrev WasUsed : ℕ → Type 0
   WasUsed vid = is_used (log_effects before.world.log) vid ≡ true
 
-  abbrev draft_was : (vid index : ℕ) → is_used (log_effects before.world.log) vid ≡ true
+  abbrev pub draft_was : (vid index : ℕ) → is_used (log_effects before.world.log) vid ≡ true
       → IsReservedEntry (log_effects after.world.log) good_id vid index → IsReservedEntry (log_effects before.world.log) good_id vid index
   draft_was vid index used draft = record {
     reservation = draft.reservation;
@@ -126,7 +126,7 @@ module _ (script : List Statement) (range : RunsAreInRange script) (events : Lis
 
   -- ---- what may come of an id was there
 
-  was_come : (vid index j : ℕ) (one : AttemptRecord) → IsEntryToCome after.world.hosts after.past.attempts vid index j one
+  pub was_come : (vid index j : ℕ) (one : AttemptRecord) → IsEntryToCome after.world.hosts after.past.attempts vid index j one
       → (w : WasAttempt before j one) → IsEntryToCome before.world.hosts before.past.attempts vid index j w.was
   was_come vid index j one comes w =
       to_come_before script range start before after began change

@@ -3,7 +3,7 @@
 use Rattle.std.specs.FinMap as tree
 use Rattle.object_id.specs.declared.entry.Entry.TheVariants as entries
 use Rattle.vdi_directory.specs.declared.decision.Decision.TheVariants as decisions
-use Rattle.std.proofs.Common.{◌≡◌, ◌≢◌, ⊎_elim, arith, ℕ, Bool, false, List, length, Some, None, refl, sym, ap, subst, ◌∙◌}
+use Rattle.std.proofs.Common.{◌≡◌, arith, ℕ, Bool, false, List, length, Some, None, refl, sym, ap, subst, ◌∙◌}
 use Rattle.std.proofs.Common.{true, [], ◌∷◌, Option, is_some, ◌++◌}
 use Rattle.std.proofs.lemmas.List.Elements.{All-replicate}
 use Rattle.proof_tools.proofs.FiniteMaps.{get-insert_same}
@@ -13,36 +13,28 @@ use Rattle.object_id.specs.Spec.{objects_of}
 use Rattle.inode.specs.Layout.{Content, IsEntry}
 use Rattle.cluster_script.specs.declared.statement.Statement.{Statement}
 use Rattle.vdi_directory.specs.declared.effect.Effect.{Effect}
-use Rattle.vdi_directory.specs.declared.header.Header.{Header}
 use Rattle.vdi_directory.specs.Decisions.{log_effects, decision_after}
 use Rattle.vdi_directory.specs.Effects.{header_of, is_used, reservation_on, reservations_of}
 use Rattle.peer_service.specs.LogReading.{decision_on}
 use Rattle.peer_service.specs.State.{effects_of}
 use Rattle.peer_proto.specs.declared.work.ObjWork.{ObjWork}
-use Rattle.guest_driver.specs.Driver.{Driver, begin_driver}
-use Rattle.vdi_ops.specs.InodeWorks.{create_inode, write_back}
-use Rattle.vdi_ops.specs.Op.{Opening, Working, Op, Tagging, OpStage, entry_wanted_at}
-use Rattle.vdi_ops.specs.Tables.{holes, table_in, inode_by}
-use Rattle.disk_check.specs.Check.{begin_check}
-use Rattle.sheep_node.specs.declared.course.Course.TheVariants.{Driving, Commanding, Checking}
+use Rattle.vdi_ops.specs.InodeWorks.{create_inode}
+use Rattle.vdi_ops.specs.Op.{Working, Op, Tagging, OpStage, entry_wanted_at}
+use Rattle.vdi_ops.specs.Tables.{holes, inode_by}
+use Rattle.sheep_node.specs.declared.course.Course.TheVariants.{Commanding}
 use Rattle.sheep_node.specs.declared.event.Event.{Event}
 use Rattle.sheep_node.specs.declared.input.Input.{Input}
-use Rattle.sheep_node.specs.Changes.{Outcome, ToWork, RequestSteps, DiskBegins, DiskGoesOn, CommandBegins, CommandGoesOn}
-use Rattle.sheep_node.specs.Changes.{CommandDecided, CheckBegins, CheckGoesOn, ObjectBegins, ObjectIsDone, EntryBegins, EntryDecided}
+use Rattle.sheep_node.specs.Changes.{ToWork, RequestSteps}
 use Rattle.sheep_node.specs.Changes.{EndsWork}
-use Rattle.sheep_node.specs.Courses.{inode_open}
 use Rattle.sheep_node.specs.State.{Node}
-use Rattle.sheep_node.specs.StepState.{StepState, session_in}
-use Rattle.sheep_node.proofs.ValidityChanges.{AnySent, course_valid}
+use Rattle.sheep_node.specs.StepState.{StepState}
 use Rattle.sheep_world.specs.NodeCauses.{input_of_cause, host_with_node}
 use Rattle.overlap_law.specs.MomentChanges.{MomentTrail, RunsAreInRange}
 use Rattle.overlap_law.specs.Past.{MomentWithPast, run_with_past}
 use Rattle.overlap_law.specs.StepMoments.{SteppingNode, IsStepping, StepsByChanges, LeadsInStep, first_in_step, moment_in_step}
 use Rattle.overlap_law.proofs.CausedWorks.{no_object}
-use Rattle.overlap_law.proofs.CommandWorks.{command_act, check_act}
-use Rattle.overlap_law.proofs.KnownDisks.{known_validity}
 use Rattle.overlap_law.proofs.KnownDiskSteps.{effects_after}
-use Rattle.overlap_law.proofs.OpeningReads.{knows_read, knows_headers}
+use Rattle.overlap_law.proofs.OpeningReads.{knows_well, knows_read, knows_headers}
 use Rattle.overlap_law.proofs.WrittenBack.{header_long}
 use Rattle.std.specs.Option.{option_map_or}
 use Rattle.std.proofs.lemmas.Option.{same_Some}
@@ -73,11 +65,12 @@ use Rattle.overlap_law.proofs.CountedEntries.{same_entry}
 use Rattle.overlap_law.proofs.CreatedEntries.{created_entry}
 use Rattle.overlap_law.proofs.DraftsOfLogs.{parent_stays}
 use Rattle.overlap_law.proofs.OpenDisksInRuns.{disks_fit-in_run}
-use Rattle.overlap_law.proofs.OtherWorks.{begins_with_entry, IsOfTask, Tagged, Copied, done_work, check_begins_none, check_goes_none}
+use Rattle.overlap_law.proofs.OtherWorks.{CreatesDisk, IsOfTask, Tagged, Copied}
 use Rattle.overlap_law.proofs.ReadInMoments.{HostsAreSound, kept_sound}
 use Rattle.overlap_law.proofs.RunsByChanges.{on_the_way}
-use Rattle.overlap_law.proofs.NewDisks.{none_above, CreatesDisk, creates_disk}
-use Rattle.overlap_law.proofs.KnownDrivers.{on_known}
+use Rattle.overlap_law.proofs.NewDisks.{none_above}
+use Rattle.overlap_law.proofs.StepsToWorks.{IsNotDriven, IsOfOther, WithoutEntry, TaskCreates, TaskWritesBack, DecisionCreates}
+use Rattle.overlap_law.proofs.StepsToWorks.{comes_to_other}
 
 -- ---- in the middle of a step
 
@@ -202,50 +195,27 @@ module _ (script : List Statement) (range : RunsAreInRange script) (events : Lis
     abbrev new_work : ObjWork
     new_work = create_inode inode
 
-    goes_on : (number : ℕ) (done : Work) (attempt : gateways.Attempt) (status : Status) (bytes : List ℕ) (op : Op)
+    task_drawn : (number : ℕ) (done : Work) (attempt : gateways.Attempt) (status : Status) (bytes : List ℕ) (op : Op)
         → EndsWork input node so_far session req number done attempt status (Commanding op) bytes → (made : Content)
         → IsOfTask op bytes made → Draws (create_inode made)
-    goes_on number done attempt status bytes op ends made (Tagged vid old at) = place_drawn session req op made vid old ends.ends.request at
-    goes_on number done attempt status bytes op ends made (Copied vid ids header at same) =
+    task_drawn number done attempt status bytes op ends made (Tagged vid old at) =
+        place_drawn session req op made vid old ends.ends.request at
+    task_drawn number done attempt status bytes op ends made (Copied vid ids header at same) =
         subst (λ (i : Content). Draws (create_inode i)) (sym same)
         (copies on so_far is by leads refl session req number done attempt status op bytes vid ids header ends at)
 
-    news_drawn : (next : Outcome) (moved : StepState) → RequestSteps input node so_far session req next moved → next ≡ ToWork new_work
-        → ((driver : Driver) → tree.get moved.node.requests req ≢ Some (record { session = session; course = Driving driver }))
-        → Draws new_work
-    news_drawn next moved (DiskBegins ask disk there at may) to apart =
-        absurd (apart (begin_driver disk ask).driver
-        (get-insert_same so_far.node.requests req (record { session = session; course = Driving (begin_driver disk ask).driver })))
-    news_drawn next moved (DiskGoesOn number done attempt status bytes driver disk step ends at goes) to apart =
-        absurd (apart step.driver
-        (get-insert_same so_far.node.requests req (record { session = session; course = Driving step.driver })))
-    news_drawn next moved (CommandBegins ask step arrival goes) to apart =
-        absurd (begins_with_entry so_far.node.me session ask (inode_open (session_in session so_far).disk) step goes new_work
-        (command_act step.act new_work to))
-    news_drawn next moved (CommandGoesOn number done attempt status bytes op step ends goes) to apart = ⊎_elim
-        (λ (creates : (made : Content) × (new_work ≡ create_inode made) × IsOfTask op bytes made).
-        subst Draws (sym creates.1) (goes_on number done attempt status bytes op ends creates.0 creates.2))
-        (λ (writes : (vid : Vid) × (ids : List ℕ) × (header : Header) × (op.stage ≡ Working vid (Opening false ids header))
-        × (new_work ≡ write_back (inode_by header vid.0 (table_in ids header.spec bytes)) bytes)).
-        let same = writes.4 in absurd (cc (same)))
-        (done_work None op step new_work (command_act step.act new_work to) bytes goes)
-    news_drawn next moved (CommandDecided entry op step from read there waits goes) to apart =
-        disk_drawn entry op new_work from read waits
-        (creates_disk (effects_of so_far.node.peer) (inode_open (session_in session so_far).disk) (decision_on entry node.peer) op step
-        new_work
-        (command_act step.act new_work to) refl goes)
-    news_drawn next moved (CheckBegins opened arrival at) to apart = λ vid index draft creates has.
-        absurd (check_begins_none opened new_work (check_act (begin_check opened).act new_work to) vid index has)
-    news_drawn next moved (CheckGoesOn number done attempt status bytes check step ends goes) to apart = λ vid index draft creates has.
-        let of_known = course_valid (known_validity known) AnySent session req (Checking check) so_far ends.ends.request
-        (on_known script range events start ran on is by so_far leads trail) in
-        absurd (check_goes_none bytes check step new_work goes (check_act step.act new_work to) of_known.disk.id of_known.within vid index
-        has)
-    news_drawn next moved (ObjectBegins one arrival) to apart =
-        absurd (no_object script start.world on.n on.host on.cause is.caused req session one arrival.from)
-    news_drawn next moved (ObjectIsDone number done attempt status bytes one ends) to apart = absurd (cc (to))
-    news_drawn next moved (EntryBegins entry arrival) to apart = absurd (cc (to))
-    news_drawn next moved (EntryDecided entry awaited from read there waits) to apart = absurd (cc (to))
+    by_case : IsOfOther (input_of_cause on.cause) on.host.node so_far session req (create_inode inode) → Draws (create_inode inode)
+    by_case (WithoutEntry none) = λ vid index draft creates has. absurd (none vid index has)
+    by_case (TaskCreates number done attempt status bytes op ends made same of) =
+        subst Draws (sym same) (task_drawn number done attempt status bytes op ends made of)
+    by_case (TaskWritesBack number done attempt status bytes op ends vid ids header at same) = absurd (cc (same))
+    by_case (DecisionCreates entry op from read waits creates) = disk_drawn entry op new_work from read waits creates
+
+    news_drawn : (moved : StepState) → RequestSteps (input_of_cause on.cause) on.host.node so_far session req (ToWork new_work) moved
+        → IsNotDriven session req moved → Draws new_work
+    news_drawn moved steps apart =
+        by_case (comes_to_other so_far (knows_well script range events start ran on is by so_far leads trail)
+        (no_object script start.world on.n on.host on.cause is.caused) session req new_work moved steps apart)
 
 -- ---- every moment in the middle of a step
 
@@ -257,4 +227,4 @@ inodes_drawn script range events start before ran trail good_id copies =
     subst (λ (m : MomentWithPast). CreatesDrawn (log_effects m.world.log) good_id m.world.hosts m.past.attempts (create_inode inode))
     (sym same)
     (news_drawn script range events start ran on is by so_far leads (subst (MomentTrail script start) same trail) good_id
-    (subst (NewClonesAreDrawn script good_id start) same copies) session req inode (ToWork (create_inode inode)) moved steps refl apart)
+    (subst (NewClonesAreDrawn script good_id start) same copies) session req inode moved steps apart)

@@ -1,14 +1,13 @@
--- The replies of a step end writes that had begun and hadn't ended, and writes begin that hadn't: in runs of scripts without checks.
-use Rattle.std.proofs.Common.{◌≡◌, inl, ⊎_elim, ℕ, ◌+◌, ◌*◌, ◌<◌, ◌==◌, ◌&&◌, ◌||◌, Bool, true, false, List, [], ◌∷◌, ◌++◌, length, drop, Contains, Option, Some, None, is_some, option_map, refl, sym, ap, subst, arith, ◌∙◌}
+-- The replies of a step end writes that had begun and hadn't ended, and writes begin that hadn't.
+use Rattle.std.proofs.Common.{◌≡◌, ◌⊎◌, inl, inr, ⊎_elim, ℕ, ◌+◌, ◌*◌, ◌<◌, ◌==◌, ◌&&◌, ◌||◌, Bool, true, false, List, [], ◌∷◌, ◌++◌, length, drop, Contains, Option, Some, None, is_some, option_map, refl, sym, ap, subst, arith, ◌∙◌}
 use Rattle.std.specs.Prelude.{◌/◌, unwrap_or}
 use Rattle.std.specs.List.{list_any}
 use Rattle.std.specs.Option.{option_map_or, option_and_then}
 use Rattle.std.specs.FinMap as tree
-use Rattle.std.proofs.lemmas.Bool.{both_ways, or_parts, or_right}
+use Rattle.std.proofs.lemmas.Bool.{both_ways, or_cases, or_parts, or_right}
 use Rattle.std.proofs.lemmas.List.{length-drop, length-take-le}
 use Rattle.std.proofs.lemmas.List.Elements.{Contains-push}
 use Rattle.std.proofs.lemmas.List.Folds.{list_any-append}
-use Rattle.std.proofs.lemmas.List.Sums.{fold-append}
 use Rattle.std.proofs.lemmas.Option.{same_Some}
 use Rattle.proof_tools.proofs.Booleans.{cond_either}
 use Rattle.proof_tools.proofs.FiniteMaps.{get-insert_same}
@@ -19,7 +18,7 @@ use Rattle.object_id.specs.declared.oid.Kind.TheVariants.{Block}
 use Rattle.gf256.specs.Part.{is_in_strips}
 use Rattle.disk_history.specs.declared.event.HistEvent.{HistEvent}
 use Rattle.disk_history.specs.declared.event.HistEvent.TheVariants.{Create, Copy, Delete, WriteStart, WriteDone, WriteRefused, WriterLost, Read}
-use Rattle.disk_history.specs.Ledger.{Ledger, empty_ledger, ledger_after}
+use Rattle.disk_history.specs.Ledger.{empty_ledger}
 use Rattle.cluster_script.specs.declared.statement.Statement.{Statement}
 use Rattle.cluster_script.specs.declared.statement.Statement.TheVariants as lines
 use Rattle.cluster_script.specs.NumberedRequests.{request_at, payload_of, session_of}
@@ -32,6 +31,7 @@ use Rattle.sheep_node.specs.declared.ask.Ask.{Ask}
 use Rattle.sheep_node.specs.declared.check_write.CheckWrite.{CheckWrite}
 use Rattle.sheep_node.specs.declared.course.Request.{Request}
 use Rattle.sheep_node.specs.declared.input.Input.TheVariants as inputs
+use Rattle.sheep_node.specs.CheckWrites.{has_check_written, has_course_written}
 use Rattle.sheep_node.specs.Guests.{on_guest, request_refusal, request_taken_unless}
 use Rattle.sheep_node.specs.SessionQueues.{session_among}
 use Rattle.sheep_node.specs.State.{Node}
@@ -39,10 +39,11 @@ use Rattle.sheep_node.specs.Step.{is_due, node_step, on_input, recovered_put, wi
 use Rattle.sheep_node.specs.StepState.{StepState, at_first}
 use Rattle.sheep_world.specs.declared.progress.SessionProgress.{SessionProgress}
 use Rattle.sheep_world.specs.declared.progress.StartedRequest.{StartedRequest}
-use Rattle.sheep_world.specs.World.{Host, World, is_host_up, no_progress, progress_at}
+use Rattle.sheep_world.specs.World.{Host, World, is_host_up, no_progress, node_at, progress_at}
+use Rattle.sheep_world.specs.Asking.{session_asking}
 use Rattle.sheep_world.specs.Began.{Began}
 use Rattle.sheep_world.specs.Effects.{disk_open, open_disk_at, progress_with_started, request_started}
-use Rattle.sheep_world.specs.HistoryAdditions.{added_by, begins_on, block_in, disk_of, has_begun_check_write, is_write, request_grown}
+use Rattle.sheep_world.specs.HistoryAdditions.{added_by, begins_on, block_in, disk_of, gateway_of, has_begun_check_write, is_write, is_write_of, request_grown}
 use Rattle.sheep_world.specs.NodeCauses.{GuestAsks, IsCause, world_after_cause}
 use Rattle.sheep_world.proofs.BegunRequestLaws.{new-begun, were_begun}
 use Rattle.overlap_law.specs.DiskBlocks.{DisksHaveTheirBlocks}
@@ -53,8 +54,9 @@ use Rattle.overlap_law.specs.PastWords.{is_refusal}
 use Rattle.overlap_law.specs.ToldReads.{AllElseMayFollow, begins_write_at}
 use Rattle.overlap_law.specs.Words.{Hosts}
 use Rattle.overlap_law.proofs.BeginningWrites.{begins_there}
-use Rattle.overlap_law.proofs.DisksOfWriters.{on_open_disk}
+use Rattle.overlap_law.proofs.DisksOfWriters.{IsWriterAt, on_open_disk}
 use Rattle.overlap_law.proofs.EndsOfWrites.{asks_none, read_none}
+use Rattle.overlap_law.proofs.FoundInSteps.{AllBegunIfFound}
 use Rattle.overlap_law.proofs.FollowingEvents.{IsReadyToEnd, IsReady, starts_follow}
 use Rattle.overlap_law.proofs.ItemsAtBegin.{request_begins}
 use Rattle.overlap_law.proofs.ItemsOfReplies.{is_write_at}
@@ -101,7 +103,7 @@ refused_alone req session ask node cause refused reply among =
 -- ---- a write that begins
 
 -- who began no write began none of a block
-none_at : (req disk block : ℕ) (history : List HistEvent) → list_any (begins_write_of req) history ≡ false
+pub none_at : (req disk block : ℕ) (history : List HistEvent) → list_any (begins_write_of req) history ≡ false
     → list_any (begins_write_at req disk block) history ≡ false
 none_at req disk block [] none = refl
 none_at req disk block (event ∷ later) none =
@@ -120,7 +122,7 @@ none_at req disk block (event ∷ later) none =
     by_event (WriterLost other) none = refl
     by_event (Read from at bytes) none = refl
 
-whole_block : (payload : List ℕ) (place : ℕ) → place < length payload / 512 → length (block_in payload place) ≡ BLOCK_BYTES
+pub whole_block : (payload : List ℕ) (place : ℕ) → place < length payload / 512 → length (block_in payload place) ≡ BLOCK_BYTES
 whole_block payload place inside =
     let left = length-drop (place * BLOCK_BYTES) payload in
     length-take-le BLOCK_BYTES (drop (place * BLOCK_BYTES) payload) (omega (arith, inside, left))
@@ -149,17 +151,30 @@ module _ (other : ℕ) (history : List HistEvent) (none : list_any (begins_write
 
 -- ---- replies
 
--- what ends a write is a reply to one that began on a disk
-ends_are : (written : Bool) (req : ℕ) (rsp : GuestRsp) (disk : Option ℕ) (s : Option Statement) → option_map_or is_check s false ≡ false
-    → list_any (ends_write_of req) (added_by written req rsp disk s) ≡ true
-    → (is_some disk ≡ true) × (option_map_or is_write s false ≡ true)
-ends_are written req rsp None s unchecked ends = absurd (cc (ends))
-ends_are written req rsp (Some disk) None unchecked ends = absurd (cc (ends))
-ends_are written req rsp (Some disk) (Some (lines.Read session offset size)) unchecked ends =
+-- what ends a write is a reply to a write, or to a check that has come to one, which began on a disk
+abbrev Writes : Bool → Option Statement → Type 0
+Writes written s = (option_map_or is_write s false ≡ true) ⊎ ((option_map_or is_check s false ≡ true) × (written ≡ true))
+
+ends_are : (written : Bool) (req : ℕ) (rsp : GuestRsp) (disk : Option ℕ) (s : Option Statement)
+    → list_any (ends_write_of req) (added_by written req rsp disk s) ≡ true → (is_some disk ≡ true) × Writes written s
+ends_are written req rsp None s ends = absurd (cc (ends))
+ends_are written req rsp (Some disk) None ends = absurd (cc (ends))
+ends_are written req rsp (Some disk) (Some (lines.Read session offset size)) ends =
     let none = read_none req disk offset rsp in absurd (cc (none, ends))
-ends_are written req rsp (Some disk) (Some (lines.Write session offset size pattern)) unchecked ends = (refl, refl)
-ends_are written req rsp (Some disk) (Some (lines.Check session)) unchecked ends = absurd (cc (unchecked))
-ends_are written req rsp (Some disk) (Some s) unchecked ends = absurd (cc (ends))
+ends_are written req rsp (Some disk) (Some (lines.Write session offset size pattern)) ends = (refl, inl refl)
+ends_are true req rsp (Some disk) (Some (lines.Check session)) ends = (refl, inr (refl, refl))
+ends_are false req rsp (Some disk) (Some (lines.Check session)) ends = absurd (cc (ends))
+ends_are written req rsp (Some disk) (Some s) ends = absurd (cc (ends))
+
+-- the node of a session's gateway, and whether a check of it has come to a write
+gateway_is : (script : List Statement) (req number n : ℕ) (of : ScriptSession) (world : World) (host : Host)
+    → session_asking script req ≡ Some number → session_numbered script number ≡ Some of → of.node ≡ n
+    → tree.get world.hosts n ≡ Some host → gateway_of script req world ≡ Some host.node
+gateway_is script req number n of world host asking declared of_node there =
+    ap (λ (o : Option ℕ).
+    option_and_then (λ (session : ScriptSession). node_at session.node world) (option_and_then (session_numbered script) o)) asking
+    ∙ ap (option_and_then (λ (session : ScriptSession). node_at session.node world)) declared
+    ∙ ap (λ (k : ℕ). node_at k world) of_node ∙ ap (λ (o : Option Host). option_map (λ (h : Host). h.node) o) there
 
 some_open : (o : Option Disk) → is_some (option_map (λ (disk : Disk). disk.inode.vid) o) ≡ true → is_some o ≡ true
 some_open None is = absurd (cc (is))
@@ -170,27 +185,54 @@ abbrev pub WritersAreOnDisks : Hosts → List HistEvent → Type 0
 WritersAreOnDisks hosts history = (n : ℕ) (host : Host) → tree.get hosts n ≡ Some host → host.is_lost ≡ false → (req : ℕ)
     (request : Request) → tree.get host.node.requests req ≡ Some request → IsOnDisks req (ledger_of history)
 
-module _ (script : List Statement) (range : RunsAreInRange script)
-    (unchecked : (req : ℕ) → option_map_or is_check (request_at script req) false ≡ false) (world : World) (began : Began script world)
+module _ (script : List Statement) (range : RunsAreInRange script) (world : World) (began : Began script world)
     (history : List HistEvent) (standing : AreStanding script world.hosts world.guests history)
-    (placed : WritersAreOnDisks world.hosts history) where
+    (placed : WritersAreOnDisks world.hosts history) (counted : (req : ℕ) → AllBegunIfFound req history world.hosts) where
   ends_write : (found : World) (write : Option CheckWrite) (reply : ℕ × GuestRsp)
       → list_any (ends_write_of reply.0) (added_by (has_begun_check_write script reply.0 found write) reply.0 reply.1
       (disk_of script reply.0 found) (request_at script reply.0)) ≡ true
-      → (is_some (disk_of script reply.0 found) ≡ true) × (is_write_at script reply.0 ≡ true)
+      → (is_some (disk_of script reply.0 found) ≡ true)
+      × Writes (has_begun_check_write script reply.0 found write) (request_at script reply.0)
   ends_write found write reply ends =
       ends_are (has_begun_check_write script reply.0 found write) reply.0 reply.1 (disk_of script reply.0 found) (request_at script reply.0)
-      (unchecked reply.0) ends
+      ends
 
   -- ---- a request that the node had
 
   module _ (n : ℕ) (host : Host) (there : tree.get world.hosts n ≡ Some host) (up : host.is_lost ≡ false) where
+    -- the check of a reply has begun a write, before or with the step
+    check_begun : (found : World) (write : Option CheckWrite) (starts : List HistEvent) (req : ℕ) (was : Request)
+        → tree.get host.node.requests req ≡ Some was → tree.get found.hosts n ≡ Some host
+        → (option_map_or (is_write_of req) write false ≡ true → list_any (begins_write_of req) starts ≡ true)
+        → has_begun_check_write script req found write ≡ true → list_any (begins_write_of req) (history ++ starts) ≡ true
+    check_begun found write starts req was got here begins written =
+        let asked = are_asked script world began n host there req was got in
+        let gateway : gateway_of script req found ≡ Some host.node
+        = gateway_is script req was.session n asked.of found host asked.asking asked.declared asked.of_node here in
+        ⊎_elim
+        (λ (counts : option_map_or (has_check_written req) (gateway_of script req found) false ≡ true).
+        still_begun req history starts
+        (counted req n host there was got
+        (sym (ap (λ (o : Option Request). option_map_or (λ (request : Request). has_course_written request.course) o false) got)
+        ∙ sym (ap (λ (o : Option Node). option_map_or (has_check_written req) o false) gateway) ∙ counts)))
+        (λ (comes : option_map_or (is_write_of req) write false ≡ true).
+        list_any-append (begins_write_of req) history starts
+        ∙ or_right (list_any (begins_write_of req) history) (list_any (begins_write_of req) starts) (begins comes))
+        (or_cases (option_map_or (has_check_written req) (gateway_of script req found) false)
+        (option_map_or (is_write_of req) write false) written)
+
     pub had_ready : (found : World) (write : Option CheckWrite) (starts : List HistEvent) (reply : ℕ × GuestRsp) (was : Request)
-        → tree.get host.node.requests reply.0 ≡ Some was → list_any (begins_write_of reply.0) starts ≡ false
-        → list_any (ends_write_of reply.0) starts ≡ false → IsReady script found write (history ++ starts) reply
-    had_ready found write starts reply was got begins none ends =
-        let (on, writes) = ends_write found write reply ends in
-        let opened = on_open_disk script range world began n host there reply.0 was got (inl writes) in
+        → tree.get host.node.requests reply.0 ≡ Some was → tree.get found.hosts n ≡ Some host
+        → (option_map_or (is_write_of reply.0) write false ≡ true → list_any (begins_write_of reply.0) starts ≡ true)
+        → IsOnDisks reply.0 (ledger_of (history ++ starts)) → list_any (ends_write_of reply.0) starts ≡ false
+        → IsReady script found write (history ++ starts) reply
+    had_ready found write starts reply was got here begins on_disks none ends =
+        let (on, kind) = ends_write found write reply ends in
+        let writer : IsWriterAt script reply.0
+        = ⊎_elim (λ (writes : is_write_at script reply.0 ≡ true). inl writes)
+        (λ (checks : (option_map_or is_check (request_at script reply.0) false ≡ true)
+        × (has_begun_check_write script reply.0 found write ≡ true)). inr checks.0) kind in
+        let opened = on_open_disk script range world began n host there reply.0 was got writer in
         let asked = are_asked script world began n host there reply.0 was got in
         let session : opened.on.session ≡ was.session
         = same_Some opened.on.session was.session (sym opened.on.asking ∙ asked.asking) in
@@ -198,19 +240,21 @@ module _ (script : List Statement) (range : RunsAreInRange script)
         (ap (session_numbered script) session ∙ asked.declared) in
         let same : stands.host ≡ host
         = same_Some stands.host host (sym stands.there ∙ ap (tree.get world.hosts) asked.of_node ∙ there) in
-        let begun : list_any (begins_write_of reply.0) history ≡ true
-        = subst (λ (k : ℕ). list_any (begins_write_of k) history ≡ true) opened.on.number
-        (stands.begun (ap (is_write_at script) opened.on.number ∙ writes) (ap is_some opened.on.on)) in
+        let begun : list_any (begins_write_of reply.0) (history ++ starts) ≡ true
+        = ⊎_elim
+        (λ (writes : is_write_at script reply.0 ≡ true).
+        still_begun reply.0 history starts
+        (subst (λ (k : ℕ). list_any (begins_write_of k) history ≡ true) opened.on.number
+        (stands.begun (ap (is_write_at script) opened.on.number ∙ writes) (ap is_some opened.on.on))))
+        (λ (checks : (option_map_or is_check (request_at script reply.0) false ≡ true)
+        × (has_begun_check_write script reply.0 found write ≡ true)).
+        check_begun found write starts reply.0 was got here begins checks.1) kind in
         let unended : list_any (ends_write_of reply.0) history ≡ false
         = subst (λ (k : ℕ). list_any (ends_write_of k) history ≡ false) opened.on.number
         (stands.unended (ap (λ (h : Host). h.is_lost) same ∙ up)
         (ap (λ (h : Host). h.incarnation) same ∙ sym asked.of_incarnation)) in (
-          record {
-            begun = still_begun reply.0 history starts begun;
-            unended = none_ended reply.0 history starts unended none;
-          },
-          λ kept. ap (λ (ledger : Ledger). (ledger.requests reply.0).stray) (fold-append ledger_after empty_ledger history starts)
-              ∙ on_along reply.0 starts (ledger_of history) begins (placed n host there up reply.0 was got),
+          record { begun = begun; unended = none_ended reply.0 history starts unended none },
+          λ kept. on_disks,
         )
 
   -- ---- one that begins with the step
@@ -264,11 +308,30 @@ module _ (script : List Statement) (range : RunsAreInRange script)
             let is = refused_alone other session.number ask host.node cause refused reply among in
             absurd (both_ways (is_refusal reply.1) kept is)
 
+    -- the node has none of it, so that no check of it has come to a write
+    no_check : has_begun_check_write script other found None ≡ true → ⊥
+    no_check written =
+        let here : tree.get world.hosts session.node ≡ Some host = ap (tree.get world.hosts) caused.gateway ∙ there in
+        let free : tree.get host.node.requests other ≡ None
+        = new-begun script session.number world (were_begun script world began) session other host caused.declared caused.next here in
+        let gateway : gateway_of script other found ≡ Some host.node
+        = gateway_is script other session.number n session found host (ap (option_and_then session_of) caused.stands ∙ caused.own)
+        caused.declared caused.gateway there in
+        let none : has_begun_check_write script other found None ≡ false
+        = ap (λ (o : Option Node). option_map_or (has_check_written other) o false || false) gateway
+        ∙ ap (λ (o : Option Request). option_map_or (λ (request : Request). has_course_written request.course) o false || false) free in
+        cc (written, none)
+
     pub own_ready : UnansweredAreOnce found.guests → (reply : ℕ × GuestRsp)
         → Contains (world_after_cause script n host (GuestAsks session other ask) world).outputs.replies reply
         → other ≡ reply.0 → IsReady script found None (history ++ starts) reply
     own_ready once reply among own ends =
-        let (on, writes) = ends_write found None reply ends in
+        let (on, kind) = ends_write found None reply ends in
+        let writes : is_write_at script reply.0 ≡ true
+        = ⊎_elim (λ (writes : is_write_at script reply.0 ≡ true). writes)
+        (λ (checks : (option_map_or is_check (request_at script reply.0) false ≡ true)
+        × (has_begun_check_write script reply.0 found None ≡ true)).
+        absurd (no_check (ap (λ (k : ℕ). has_begun_check_write script k found None) own ∙ checks.1))) kind in
         let has_open : is_some (open_disk_at session world) ≡ true
         = some_open (open_disk_at session world)
         (ap is_some (sym (disk_is once)) ∙ ap (λ (k : ℕ). is_some (disk_of script k found)) own ∙ on) in

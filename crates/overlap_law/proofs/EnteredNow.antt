@@ -33,7 +33,7 @@ use Rattle.overlap_law.specs.Writers.{session_holder}
 use Rattle.overlap_law.proofs.CausedWorks.{HasWellWorks}
 use Rattle.overlap_law.proofs.ClaimsInRuns.{claims-in_run}
 use Rattle.overlap_law.proofs.ClosedSnapshots.{given-no_writer}
-use Rattle.overlap_law.proofs.EntryWorks.{IsEntering, entering, entry_at, known_disk, writes-so}
+use Rattle.overlap_law.proofs.EntryWorks.{IsEntering, entering, known_disk, writes-so}
 use Rattle.overlap_law.proofs.EntryWrites.{entry_own}
 use Rattle.overlap_law.proofs.GrantedAttempts.{only_writer-in_run}
 use Rattle.overlap_law.proofs.KnownDisks.{vid-of_inode}
@@ -47,6 +47,7 @@ use Rattle.overlap_law.proofs.ShortTags.{short_in_run}
 use Rattle.overlap_law.proofs.WaitedSteps.{Waits}
 use Rattle.overlap_law.proofs.WorksAtCourses.{HaveAt}
 use Rattle.overlap_law.proofs.WorksInMoments.{well_along}
+use Rattle.overlap_law.proofs.DriverEntries.{entry_at}
 
 module _ (script : List Statement) (range : RunsAreInRange script) (events : List Event) (start : MomentWithPast)
     (ran : run_with_past script events ≡ Some start) (moment : MomentWithPast) (trail : MomentTrail script start moment)

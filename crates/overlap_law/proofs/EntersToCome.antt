@@ -1,12 +1,10 @@
 -- An attempt that begins on the inode of a disk that is there enters the disk's own id, or what the inode might come to have, if what
 -- commands write does: a write enters the own id, and the inode of an id is created before its disk is there.
-use Rattle.std.proofs.Common.{◌≡◌, inl, ⊎_elim, arith, ℕ, ◌≤◌, ◌==◌, Bool, true, false, All, List, [], length, slice_get, Option, Some, refl, sym, ap, subst, ◌∙◌}
+use Rattle.std.proofs.Common.{◌≡◌, inl, ⊎_elim, arith, ℕ, ◌≤◌, Bool, true, false, All, List, [], length, slice_get, Option, Some, refl, sym, ap, subst, ◌∙◌}
 use Rattle.std.specs.FinMap as tree
-use Rattle.std.proofs.lemmas.Bool.{eqb-true}
 use Rattle.std.proofs.lemmas.List.Elements.{All-head}
 use Rattle.std.proofs.lemmas.Option.{same_Some, slice_get_within}
 use Rattle.object_id.specs.declared.entry.Entry.{Entry}
-use Rattle.object_id.specs.declared.entry.Entry.TheVariants.{Format, Join, Leave, Reweight, Recovered, Reserve, Publish, Clone, Snapshot, Delete, Lock, Unlock}
 use Rattle.object_id.specs.declared.limits.TheConstants.{OBJECTS_MAX}
 use Rattle.object_id.specs.declared.oid.Vid.{Vid}
 use Rattle.object_id.specs.Oid.{IsVid, inode_number, object_number}
@@ -14,11 +12,7 @@ use Rattle.epoch_log.specs.Appending.{IsReservable}
 use Rattle.epoch_log.specs.Epochs.{epoch_of}
 use Rattle.inode.specs.Layout.{Content}
 use Rattle.cluster_script.specs.declared.statement.Statement.{Statement}
-use Rattle.vdi_directory.specs.declared.effect.Reservation.{Reservation}
 use Rattle.vdi_directory.specs.Decisions.{log_effects}
-use Rattle.vdi_directory.specs.Effects.{reservations_of, reservation_on}
-use Rattle.vdi_directory.specs.States.{state_of, is_live_state}
-use Rattle.vdi_directory.proofs.LawfulEntries.{in-find, sound-log_effects}
 use Rattle.peer_proto.specs.declared.work.ObjWork.{ObjWork}
 use Rattle.peer_proto.specs.Work.{oid_of}
 use Rattle.gateway.specs.State.{Open, Work}
@@ -59,6 +53,7 @@ use Rattle.overlap_law.proofs.AttemptLists.{got_last}
 use Rattle.overlap_law.proofs.ClaimsInRuns.{claims-in_run}
 use Rattle.overlap_law.proofs.CoursesOfScript.{asked_by}
 use Rattle.overlap_law.proofs.CreatesFirst.{inside}
+use Rattle.overlap_law.proofs.DataOfDisks.{reserved_unpublished}
 use Rattle.overlap_law.proofs.DriverEntries.{entry_at, no_inode}
 use Rattle.overlap_law.proofs.EntryWrites.{entry_own}
 use Rattle.overlap_law.proofs.KnownDisks.{FewAt, IsKnownCourse}
@@ -68,21 +63,14 @@ use Rattle.overlap_law.proofs.NamedEntries.{now, opened_there, opened_up}
 use Rattle.overlap_law.proofs.NewAttempts.{IsOpened, WasAttempt, come_from}
 use Rattle.overlap_law.proofs.NoRecoveredDue.{began-with_past}
 use Rattle.overlap_law.proofs.OtherWorks.{HasNone}
+use Rattle.overlap_law.proofs.PublishedInodes.{was_published}
 use Rattle.overlap_law.proofs.RunsByChanges.{on_the_way}
-use Rattle.overlap_law.proofs.TagsApart.{tags-on_the_way}
+use Rattle.overlap_law.proofs.ShortTags.{short_in_run}
 use Rattle.overlap_law.proofs.WaitedSteps.{no_id, Waits}
 use Rattle.overlap_law.proofs.WorksInMoments.{well_after}
 use Rattle.overlap_law.proofs.WorksOnTheWay.{IsOpenFor, works_after}
 use Rattle.overlap_law.proofs.WriteObjects.{known_open, own_there}
-
--- an id that is reserved isn't a disk's yet
-pub reserved-not_live : (log : List Entry) (vid : ℕ) (reservation : Reservation)
-    → reservation_on (record { 0 = vid }) (reservations_of (log_effects log)) ≡ Some reservation
-    → is_live_state (state_of (log_effects log) vid) ≡ false
-reserved-not_live log vid reservation there =
-    let found = in-find (λ (r : Reservation). r.vid.0 == vid) reservation (reservations_of (log_effects log)) there in
-    ap (λ v. is_live_state (state_of (log_effects log) v)) (sym (eqb-true reservation.vid.0 vid found.1))
-    ∙ ap is_live_state (((sound-log_effects log).reservations reservation found.0).state)
+use Rattle.overlap_law.proofs.MakingEntries.{making_reserved}
 
 -- what a read or write enters is the disk's own id
 driver_enters : (inode : Content) (driver : Driver) (work : ObjWork) → IsVid inode.vid → All FewAt (pieces_left driver)
@@ -130,30 +118,20 @@ module _ (script : List Statement) (range : RunsAreInRange script) (events : Lis
 
   module _ (n : ℕ) (host : Host) (there : tree.get after.world.hosts n ≡ Some host) (up : host.is_lost ≡ false) (req : ℕ) (work : Work)
       (got : tree.get host.node.gateway.works req ≡ Some work) (making : is_making work.work ≡ true) (vid index : ℕ)
-      (has : HasEntry work.work vid index) (of : HasEntryOf (log_effects after.world.log) good_id vid index) where
+      (has : HasEntry work.work vid index) (published : was_published after.world.log vid ≡ true)
+      (of : HasEntryOf (log_effects after.world.log) good_id vid index) where
     -- an inode is created of an id that no disk has yet
     module _ (session : ℕ) (id : Vid) (same : vid ≡ id.0) where
       not_reserved : HasReservation after.world.log host.node.outbox host.node.me session (epoch_of host.node.peer.entries) id.0 → ⊥
       not_reserved kept =
-          let none = reserved-not_live after.world.log id.0 kept.reservation kept.found in
-          let live : is_live_state (state_of (log_effects after.world.log) id.0) ≡ true
-          = ap (λ (v : ℕ). is_live_state (state_of (log_effects after.world.log) v)) (sym same) ∙ of.live in
-          cc (none, live)
+          reserved_unpublished after.world.log id.0 kept.reservation kept.found
+          (ap (was_published after.world.log) (sym same) ∙ published)
 
       making_none : (from : ℕ) (opened : Option (Bool × ℕ)) (entry : Entry) (made : Option Content)
           → IsMakingKept after.world.log host.node.outbox host.node.peer.entries from host.node.me session opened id entry made → ⊥
-      making_none from opened (Format members) made kept = kept
-      making_none from opened (Join node zone vnodes) made kept = kept
-      making_none from opened (Leave node) made kept = kept
-      making_none from opened (Reweight node vnodes) made kept = kept
-      making_none from opened (Recovered node epoch) made kept = kept
-      making_none from opened (Reserve by asks name origin) made kept = kept
-      making_none from opened (Publish by new) made kept = not_reserved kept.1
-      making_none from opened (Clone by new) made kept = not_reserved kept.1
-      making_none from opened (Snapshot by old new) made kept = not_reserved kept.1.has
-      making_none from opened (Delete by asks name tag) made kept = kept
-      making_none from opened (Lock by asks name tag) made kept = kept
-      making_none from opened (Unlock by asks old) made kept = kept
+      making_none from opened entry made kept =
+          not_reserved
+          (making_reserved after.world.log host.node.outbox host.node.peer.entries from host.node.me session opened id entry made kept)
 
     so : IsOpenFor script host.node req work.work
     so = works_after script range start began change n host there req work got
@@ -171,10 +149,11 @@ module _ (script : List Statement) (range : RunsAreInRange script) (events : Lis
             → IsOfTask [] no_id [] (session_among so.request.session host.node.sessions).disk id now work.work → Enters vid index work.work
         by_task (Opening snapshot ids header) tasks is = reads_none (read_inode id.0 header.spec) is refl
         by_task (WritingBack inode) tasks is =
-            commands.each n host there up req vid index so.request op id inode work so.there course (at ∙ ap (Working id) tasks) got is has of
+            commands.each n host there up req vid index so.request op id inode work so.there course (at ∙ ap (Working id) tasks) got is
+            has of
         by_task (Tagging old inode) tasks is =
-            absurd (tags-on_the_way script range events start after is_run (Then trail change) n host there up req work got
-            is.disk.inode is.tag is.work_of vid index has)
+            absurd (short_in_run script range events start after is_run (Then trail change) n host there req work.work
+            (inl (work, got, refl)) is.disk.inode is.tag is.work_of vid index has)
         by_task (Copying ids header) tasks is = reads_none (read_inode is.vid.0 header.spec) is.work_of refl
         by_task (Making entry made) tasks is =
             let object : inode_number is.inode.vid ≡ inode_number vid = sym (ap oid_of is.work_of) ∙ has.object in
@@ -215,7 +194,7 @@ module _ (script : List Statement) (range : RunsAreInRange script) (events : Lis
   -- an attempt that begins is one of these works
   pub enters_to_come : EntersWhatMayCome good_id before after
   enters_to_come = record {
-    enters = λ attempt grown vid index of object covers. ⊎_elim
+    enters = λ attempt grown vid index published of object covers. ⊎_elim
         (λ (w : WasAttempt before (length before.past.attempts) attempt).
         let within = slice_get_within before.past.attempts (length before.past.attempts) w.was w.at in absurd (omega (arith, within)))
         (λ (o : IsOpened script start after attempt).
@@ -228,7 +207,7 @@ module _ (script : List Statement) (range : RunsAreInRange script) (events : Lis
           object = ap (λ (a : AttemptRecord). object_of a) o.opened ∙ object;
           inside = few_objects after.world.log reservable vid index of.spec of.made_with of.object;
           covered = ap (λ (a : AttemptRecord). covers_unit (entry_unit index) a) o.opened ∙ covers;
-        }) of))
+        }) published of))
         (come_from script range start began change (length before.past.attempts) attempt
         (ap (λ (list : List AttemptRecord). slice_get list (length before.past.attempts)) grown ∙ got_last before.past.attempts attempt));
   }

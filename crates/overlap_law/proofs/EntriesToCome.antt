@@ -71,4 +71,5 @@ module _ (script : List Statement) (range : RunsAreInRange script) (events : Lis
             ∙ ap (λ (k : Kind). piece_at bytes (unit_start k (entry_unit index) - 0) (unit_size k (entry_unit index))) kind_so
             ∙ (λ i. piece_at bytes (from i) (size i)))
             ∙ number_in_piece bytes (INODE_HEADER_BYTES + 4 * index);
+        behind = found.behind;
       }

@@ -1,19 +1,14 @@
 -- An open work that has an entry of the inode of an open working disk is the write of that entry by a write of the session: commands of the
 -- session have none meanwhile, since a tag has no entry, a disk is written back before it is open, and what is created is reserved.
-use Rattle.std.proofs.Common.{◌≡◌, ⊎_elim, inl, arith, ℕ, ◌+◌, ◌*◌, ◌==◌, nat_le, ◌&&◌, Bool, true, false, All, List, []}
+use Rattle.std.proofs.Common.{◌≡◌, ⊎_elim, inl, arith, ℕ, ◌+◌, ◌*◌, ◌==◌, Bool, true, false, All, List, []}
 use Rattle.std.proofs.Common.{◌∷◌, ◌++◌, length, Option, Some, None, IfSome, unwrap_or, refl, sym, ap, subst, ◌∙◌}
 use Rattle.std.specs.FinMap as tree
-use Rattle.std.proofs.lemmas.Bool.{and_parts, and_from, leb-true, eqb-true, eq-eqb}
+use Rattle.std.proofs.lemmas.Bool.{and_parts, and_from, eqb-true, eq-eqb}
 use Rattle.std.proofs.lemmas.List.Elements.{All-head, All-contains, Contains-append_right}
 use Rattle.std.proofs.lemmas.Option.{same_Some}
 use Rattle.proof_tools.proofs.Lists.{Contains-first}
 use Rattle.object_id.specs.declared.entry.Entry.{Entry}
-use Rattle.object_id.specs.declared.entry.Entry.TheVariants.{Format, Join, Leave, Reweight, Recovered, Reserve, Publish, Clone, Snapshot}
-use Rattle.object_id.specs.declared.entry.Entry.TheVariants.{Delete, Lock, Unlock}
-use Rattle.object_id.specs.declared.oid.Kind.{Kind}
-use Rattle.object_id.specs.declared.oid.Kind.TheVariants.{Inode}
 use Rattle.object_id.specs.declared.oid.Vid.{Vid}
-use Rattle.object_id.specs.Fields.{u32_bytes}
 use Rattle.object_id.specs.Oid.{IsVid, inode_number, object_number}
 use Rattle.epoch_log.specs.Epochs.{epoch_of}
 use Rattle.inode.specs.Layout.{Content}
@@ -30,7 +25,7 @@ use Rattle.gateway.specs.State.{Work}
 use Rattle.gateway.specs.Work.{is_making}
 use Rattle.guest_driver.specs.declared.disk.Disk.{Disk}
 use Rattle.guest_driver.specs.Driver as drivers
-use Rattle.guest_driver.specs.Driver.{Driver, Reads, Writes, DriverStage, InPlace, Fetching, Creating, Entering}
+use Rattle.guest_driver.specs.Driver.{Driver, Reads, Writes, InPlace, Fetching, Creating, Entering}
 use Rattle.guest_driver.specs.OnDisk.{pieces_left}
 use Rattle.guest_driver.specs.Pieces.{Piece}
 use Rattle.guest_driver.specs.PieceWorks.{object_bytes, write_entry}
@@ -38,7 +33,7 @@ use Rattle.vdi_ops.specs.declared.act.OpAct.TheVariants as op_acts
 use Rattle.vdi_ops.specs.InodeWorks.{write_tag}
 use Rattle.vdi_ops.specs.Op.{Task, Opening, WritingBack, Tagging, Copying, Making, OpStage, Asked, Working, Publishing, Answered, Op}
 use Rattle.vdi_ops.specs.Op.{IsAwaitedAtOpStage, IsWorkOfTask}
-use Rattle.disk_check.specs.Check.{Check, CheckStage, Comparing, write_value}
+use Rattle.disk_check.specs.Check.{Check, CheckStage, Comparing}
 use Rattle.disk_check.specs.Check as checks
 use Rattle.disk_check.specs.Table.{own_indexes}
 use Rattle.disk_check.proofs.TableLemmas.{own_indexes-own}
@@ -52,39 +47,18 @@ use Rattle.sheep_node.specs.SessionQueues.{session_among, command_in}
 use Rattle.sheep_node.specs.State.{Node, new_session}
 use Rattle.sheep_node.specs.WantedWorks.{IsWorkWanted, IsWantedAt, IsWorkOfDriver}
 use Rattle.sheep_node.proofs.SessionViews.{IsSeen}
-use Rattle.overlap_law.specs.CommandDisks.{opened_as, opened_in, IsOpenAtLast, IsOpenAtStage, IsOpenAtCourse}
+use Rattle.overlap_law.specs.CommandDisks.{opened_as, opened_in, IsOpenAtStage, IsOpenAtCourse}
 use Rattle.overlap_law.specs.Courses.{WaitsFor, IsOfCheckStage, IsValueWrite}
-use Rattle.overlap_law.specs.NamedWorks.{HasEntry}
-use Rattle.overlap_law.specs.Tables.{entry_unit, writes_entry}
-use Rattle.overlap_law.specs.Units.{unit_start, unit_end}
-use Rattle.overlap_law.specs.WriterClaims.{HasLock, HasReservation, IsMakingKept, IsStageKept, LetsGo, IsLetGo, IsDiskKept, HasClaims}
+use Rattle.overlap_law.specs.Tables.{writes_entry}
+use Rattle.overlap_law.specs.WriterClaims.{HasLock, HasReservation, IsStageKept, LetsGo, IsLetGo, IsDiskKept, HasClaims}
 use Rattle.overlap_law.proofs.AllowedCourses.{IsAllowed, opened_by}
 use Rattle.overlap_law.proofs.CausedWorks.{HasWellWorks}
 use Rattle.overlap_law.proofs.DriverEntries.{no_inode}
-use Rattle.overlap_law.proofs.EntryWrites.{entry_start, entry_size}
-use Rattle.overlap_law.proofs.KnownDisks.{Few, FewAt, IsKnownInode, IsKnownCourse, kind-of_inode}
+use Rattle.overlap_law.proofs.KnownDisks.{Few, FewAt, IsKnownInode, IsKnownCourse}
 use Rattle.overlap_law.proofs.OwnMakings.{IsOwnStage, MakesOwn, MakesOwnAt}
 use Rattle.overlap_law.proofs.WaitedSteps.{no_id}
 use Rattle.overlap_law.proofs.WriterChanges.{found_reserved}
-
--- the write of an entry has that one alone
-pub entry_at : (inode : Content) (piece : Piece) → IsVid inode.vid → (vid index : ℕ) → HasEntry (write_entry inode piece) vid index
-    → (vid ≡ inode.vid) × (index ≡ piece.index)
-entry_at inode piece id vid index has =
-    let object = has.object in
-    let from : ℕ = INODE_HEADER_BYTES + 4 * piece.index in
-    let unit : ℕ = entry_unit index in
-    let start = entry_start index in
-    let size = entry_size index in
-    let four : length (u32_bytes inode.vid) ≡ 4 = refl in
-    let covered : nat_le from (unit_start Inode unit) && nat_le (unit_end Inode unit) (from + length (u32_bytes inode.vid)) ≡ true
-    = sym (ap (λ (k : Kind). nat_le from (unit_start k unit) && nat_le (unit_end k unit) (from + length (u32_bytes inode.vid)))
-    (kind-of_inode inode.vid id)) ∙ has.covered in
-    let both = and_parts (nat_le from (unit_start Inode unit)) (nat_le (unit_end Inode unit) (from + length (u32_bytes inode.vid)))
-    covered in
-    let low = leb-true from (unit_start Inode unit) both.0 in
-    let high = leb-true (unit_end Inode unit) (from + length (u32_bytes inode.vid)) both.1 in
-    (omega (arith, object), omega (arith, start, size, four, low, high))
+use Rattle.overlap_law.proofs.MakingEntries.{making_reserved, making_vid}
 
 -- an open disk is known
 pub known_disk : (node : Node) (well : HasWellWorks node) (number : ℕ) (disk : Disk) → (session_among number node.sessions).disk ≡ Some disk
@@ -188,40 +162,6 @@ module _ (log : List Entry) (node : Node)
         = ap (λ (v : ℕ). rank (state_of (log_effects log) v)) same ∙ ap rank (held-works log disk.inode.vid _ locked.held) in
         omega (arith, low, high)
 
-    making_reserved : (entry : Entry) (made : Option Content)
-        → IsMakingKept log node.outbox node.peer.entries (length node.peer.entries) node.me request.session
-        (opened_in request.session node.sessions) vid entry made
-        → HasReservation log node.outbox node.me request.session (epoch_of node.peer.entries) vid.0
-    making_reserved (Format members) made kept = absurd kept
-    making_reserved (Join of zone vnodes) made kept = absurd kept
-    making_reserved (Leave of) made kept = absurd kept
-    making_reserved (Reweight of vnodes) made kept = absurd kept
-    making_reserved (Recovered of epoch) made kept = absurd kept
-    making_reserved (Reserve by of name origin) made kept = absurd kept
-    making_reserved (Publish by of) made kept = kept.1
-    making_reserved (Clone by of) made kept = kept.1
-    making_reserved (Snapshot by old of) made kept = kept.1.has
-    making_reserved (Delete by of name tag) made kept = absurd kept
-    making_reserved (Lock by of name tag) made kept = absurd kept
-    making_reserved (Unlock by of old) made kept = absurd kept
-
-    made_vid : (entry : Entry) (inode : Content)
-        → IsMakingKept log node.outbox node.peer.entries (length node.peer.entries) node.me request.session
-        (opened_in request.session node.sessions) vid entry (Some inode)
-        → IsOpenAtLast (opened_in request.session node.sessions) entry (Some inode) → inode.vid ≡ vid.0
-    made_vid (Format members) inode kept open_so = absurd kept
-    made_vid (Join of zone vnodes) inode kept open_so = absurd kept
-    made_vid (Leave of) inode kept open_so = absurd kept
-    made_vid (Reweight of vnodes) inode kept open_so = absurd kept
-    made_vid (Recovered of epoch) inode kept open_so = absurd kept
-    made_vid (Reserve by of name origin) inode kept open_so = absurd kept
-    made_vid (Publish by of) inode kept open_so = absurd (cc (open_so))
-    made_vid (Clone by of) inode kept open_so = absurd (cc (open_so))
-    made_vid (Snapshot by old of) inode kept open_so = open_so.1 ∙ ap (λ (v : Vid). v.0) kept.0
-    made_vid (Delete by of name tag) inode kept open_so = absurd kept
-    made_vid (Lock by of name tag) inode kept open_so = absurd kept
-    made_vid (Unlock by of old) inode kept open_so = absurd kept
-
   module _ (op : Op) (command : request.course ≡ Commanding op) where
     kept_at : (stage : OpStage) → op.stage ≡ stage → IsStageKept log node.outbox node.peer.entries (length node.peer.entries) node.me
         request.session (opened_in request.session node.sessions) stage
@@ -249,15 +189,17 @@ module _ (log : List Entry) (node : Node)
     tasked vid (Making entry None) at is owns =
         unreserved op command vid (Making entry None) at vid.0
         (same_id vid.0 (subst (λ (stage : OpStage). IsOwnStage stage work.work) at owns))
-        (making_reserved op command vid (Making entry None) at entry None (kept_at (Working vid (Making entry None)) at))
+        (making_reserved log node.outbox node.peer.entries (length node.peer.entries) node.me request.session
+        (opened_in request.session node.sessions) vid entry None (kept_at (Working vid (Making entry None)) at))
     tasked vid (Making entry (Some inode)) at is owns =
         let kept = kept_at (Working vid (Making entry (Some inode))) at in
         let same : inode ≡ is.inode = is.same inode refl in
-        let vid_so = made_vid op command vid (Making entry (Some inode)) at entry inode kept
-        (fits_at (Working vid (Making entry (Some inode))) at) in
+        let vid_so = making_vid log node.outbox node.peer.entries (length node.peer.entries) node.me request.session
+        (opened_in request.session node.sessions) vid entry inode kept (fits_at (Working vid (Making entry (Some inode))) at) in
         unreserved op command vid (Making entry (Some inode)) at vid.0
         (sym vid_so ∙ ap (λ (i : Content). i.vid) same ∙ same_id is.inode.vid (ap oid_of is.work_of))
-        (making_reserved op command vid (Making entry (Some inode)) at entry (Some inode) kept)
+        (making_reserved log node.outbox node.peer.entries (length node.peer.entries) node.me request.session
+        (opened_in request.session node.sessions) vid entry (Some inode) kept)
 
     staged : (stage : OpStage) → op.stage ≡ stage → IsAwaitedAtOpStage (op_acts.Work work.work) stage → IsOwnStage op.stage work.work → ⊥
     staged (Asked entry) at wanted owns = cc (wanted)
@@ -310,7 +252,7 @@ module _ (log : List Entry) (node : Node)
       (well.on_known.courses req request there)
 
 -- the write of an entry begins where that stands
-abbrev from_of : ObjWork → ℕ
+abbrev pub from_of : ObjWork → ℕ
 from_of (works.Create oid policy size offset bytes) = offset
 from_of (works.Write oid policy offset bytes) = offset
 from_of (works.Read oid policy offset size) = offset

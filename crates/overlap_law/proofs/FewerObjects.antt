@@ -252,7 +252,14 @@ module _ {good_id few_ids : ℕ → Bool} (ids : CallsFewer few_ids good_id) whe
       own = is.own;
       work_of = is.work_of;
       same = is.same;
-      drawn = λ index good. is.drawn index (ids vid.0 good);
+      drawn = λ index draft. is.drawn index (record {
+        reservation = draft.reservation;
+        stands = draft.stands;
+        good = ids vid.0 draft.good;
+        spec = draft.spec;
+        made_with = draft.made_with;
+        within = draft.within;
+      });
     }
 
     stage_of_fewer : (disk : Option Disk) (stage : OpStage) (work : ObjWork) → IsOfStage effects good_id attempts disk stage work

@@ -53,7 +53,7 @@ and_none true false c none = refl
 and_none false b c none = refl
 
 module _ (req vid first : ℕ) (coded : Bool) (piece : ℕ → List ℕ) where
-  abbrev event : ℕ → HistEvent
+  abbrev pub event : ℕ → HistEvent
   event place = WriteStart req vid (first + place) coded (piece place)
 
   -- the request hasn't ended, and began none of the blocks from one on
@@ -62,7 +62,7 @@ module _ (req vid first : ℕ) (coded : Bool) (piece : ℕ → List ℕ) where
     pub none : (place : ℕ) → from ≤ place → has_place (ledger.requests req) vid (first + place) ≡ false
 
   -- it is so of the later ones once it begins one
-  later_new : (from : ℕ) (ledger : Ledger) → IsNewFrom from ledger → IsNewFrom (from + 1) (ledger_after ledger (event from))
+  pub later_new : (from : ℕ) (ledger : Ledger) → IsNewFrom from ledger → IsNewFrom (from + 1) (ledger_after ledger (event from))
   later_new from ledger new = record {
     unended = ended_after req (event from) ledger ∙ or-false (ledger.requests req).ended ∙ new.unended;
     none = λ place further.

@@ -2,7 +2,6 @@
 use Rattle.std.proofs.Common.{◌≡◌, ℕ, Bool, List, length, Option, Some, ap, subst, ◌∙◌, true, false, arith}
 use Rattle.std.proofs.lemmas.Option.{same_Some}
 use Rattle.object_id.specs.declared.entry.Entry.{Entry}
-use Rattle.object_id.specs.declared.entry.Entry.TheVariants.{Format, Join, Leave, Reweight, Recovered, Reserve, Publish, Clone, Snapshot, Delete, Lock, Unlock}
 use Rattle.object_id.specs.declared.oid.Vid.{Vid}
 use Rattle.cluster_script.specs.declared.statement.Statement.{Statement}
 use Rattle.epoch_log.specs.Epochs.{epoch_of}
@@ -22,6 +21,7 @@ use Rattle.overlap_law.proofs.ClaimsInRuns.{claims-in_run}
 use Rattle.overlap_law.proofs.KeptIds.{lock-writer, reservation-writer}
 use Rattle.overlap_law.proofs.NoRecoveredDue.{began-with_past}
 use Rattle.overlap_law.proofs.ReadInMoments.{HostsAreSound, sound_hosts, hosts_after_sound}
+use Rattle.overlap_law.proofs.MakingEntries.{making_reserved}
 
 module _ (log : List Entry) (n : ℕ) (node : Node) (own : node.me.0 ≡ n) (epoch_so : node.peer.epoch ≡ epoch_of node.peer.entries) (session : ℕ) where
   abbrev epoch : ℕ
@@ -48,18 +48,9 @@ module _ (log : List Entry) (n : ℕ) (node : Node) (own : node.me.0 ≡ n) (epo
   module _ (opened : Option (Bool × ℕ)) where
     made_may : (vid : Vid) (entry : Entry) (made : Option Content)
         → IsMakingKept log node.outbox node.peer.entries (length node.peer.entries) node.me session opened vid entry made → MayWrite log n session vid.0 node
-    made_may vid (Format members) made is = absurd is
-    made_may vid (Join of zone vnodes) made is = absurd is
-    made_may vid (Leave of) made is = absurd is
-    made_may vid (Reweight of vnodes) made is = absurd is
-    made_may vid (Recovered of at) made is = absurd is
-    made_may vid (Reserve by of name origin) made is = absurd is
-    made_may vid (Publish by of) made is = reserved_may vid.0 is.1
-    made_may vid (Clone by of) made is = reserved_may vid.0 is.1
-    made_may vid (Snapshot by old of) made is = reserved_may vid.0 is.1.has
-    made_may vid (Delete by of name tag) made is = absurd is
-    made_may vid (Lock by of name tag) made is = absurd is
-    made_may vid (Unlock by of id) made is = absurd is
+    made_may vid entry made is =
+        reserved_may vid.0
+        (making_reserved log node.outbox node.peer.entries (length node.peer.entries) node.me session opened vid entry made is)
 
     -- the id that was granted
     abbrev MayFor : Vid → Vid → Task → Type 0

@@ -48,7 +48,7 @@ HaveGuestsOf node now = (now.sessions ≡ node.sessions) × (now.requests ≡ no
 abbrev LeavesGuests : Node → StepState → Type 0
 LeavesGuests node so_far = HaveGuestsOf node so_far.node
 
-received_guests : (cause : NodeCause) (node : Node) → StepsByChanges cause
+pub received_guests : (cause : NodeCause) (node : Node) → StepsByChanges cause
     → LeavesGuests node (input_received (input_of_cause cause) (at_first node))
 unfolding entry_read
 received_guests (GuestAsks session req ask) node by = (refl, refl)
@@ -72,7 +72,7 @@ put_guests : (outbox : List Entry) (node : Node) → LeavesGuests node (on_put o
 put_guests [] node = (refl, refl)
 put_guests (entry ∷ later) node = (refl, refl)
 
-made_guests : (cause : NodeCause) (node : Node) → StepsAtOnce cause → LeavesGuests node (node_step (input_of_cause cause) node)
+pub made_guests : (cause : NodeCause) (node : Node) → StepsAtOnce cause → LeavesGuests node (node_step (input_of_cause cause) node)
 unfolding node_step on_input on_request on_recover_tick
 made_guests (GuestAsks session req ask) node by = absurd by
 made_guests (RequestComes name to request) node by = due_guests node (on_request request (at_first node)) (refl, refl)

@@ -88,7 +88,10 @@ module _ (script : List Statement) (range : RunsAreInRange script) (events : Lis
       (λ j attempt attempt_at attempt_on.
       (open_reads-in_run script range events start moment is trail n now there up req work current of.there held.teller.reads of.stage j
       attempt attempt_at attempt_on).epochs)
-      bytes (held.since is_good known) unit whole above below k made at object covers is_made_one
+      bytes (held.since is_good known) unit whole above below
+      (λ j attempt attempt_at attempt_on.
+      (open_reads-in_run script range events start moment is trail n now there up req work current of.there held.teller.reads of.stage j
+      attempt attempt_at attempt_on).flying) k made at object covers is_made_one
 
   -- and a part of strips is that of a made attempt, if what came behind it adds nothing
   pub part_is_of_made : (good : ℕ → Bool) (told : ToldPiecesAreSince (log_effects start.world.log) good start.world.hosts

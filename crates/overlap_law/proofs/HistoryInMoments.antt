@@ -53,12 +53,12 @@ recovered_silent so_far =
     cond_either (λ (next : StepState). next.outputs.replies ≡ so_far.outputs.replies) (is_due so_far.node)
     (with_recovered so_far) so_far refl refl
 
-request_silent : (request : PeerReq) (node : Node) → (node_step (inputs.Request request) node).outputs.replies ≡ []
+pub request_silent : (request : PeerReq) (node : Node) → (node_step (inputs.Request request) node).outputs.replies ≡ []
 unfolding node_step on_input
 request_silent request node =
     recovered_silent (input_received (inputs.Request request) (at_first node)) ∙ received_replies (inputs.Request request) node
 
-tick_silent : (node : Node) → (node_step inputs.RecoverTick node).outputs.replies ≡ []
+pub tick_silent : (node : Node) → (node_step inputs.RecoverTick node).outputs.replies ≡ []
 unfolding node_step on_input
 tick_silent node = recovered_silent (input_received inputs.RecoverTick (at_first node)) ∙ received_replies inputs.RecoverTick node
 
@@ -128,10 +128,10 @@ module _ (script : List Statement) (range : RunsAreInRange script) (start : Mome
     abbrev pub at : StepState → MomentWithPast
     at so_far = moment_in_step script stepping start so_far
 
-    abbrev base : List HistEvent
+    abbrev pub base : List HistEvent
     base = start.past.history ++ added_at_cause script start.world stepping.cause
 
-    abbrev told : List (ℕ × GuestRsp) → List HistEvent
+    abbrev pub told : List (ℕ × GuestRsp) → List HistEvent
     told replies = flat_map (added_by_reply script start.world stepping.cause) replies
 
     -- the history so far
@@ -148,7 +148,7 @@ module _ (script : List Statement) (range : RunsAreInRange script) (start : Mome
     by_cause RecoveryTicks by so_far = absurd by
     by_cause WorkIsRetried by so_far = refl
 
-    history_so : StepsByChanges stepping.cause → (so_far : StepState) → (at so_far).past.history ≡ base ++ told so_far.outputs.replies
+    pub history_so : StepsByChanges stepping.cause → (so_far : StepState) → (at so_far).past.history ≡ base ++ told so_far.outputs.replies
     unfolding past_after_event
     history_so by so_far =
         ap (λ (events : List HistEvent). start.past.history ++ events) (by_cause stepping.cause by so_far)

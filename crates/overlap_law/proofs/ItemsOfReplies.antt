@@ -111,7 +111,7 @@ module _ (script : List Statement) where
   refusal_ends req (answers.Refused cause) is = refl
   refusal_ends req rsp is = absurd (cc (is))
 
-  write_adds : (written : Bool) (req : ℕ) (rsp : GuestRsp) (disk : Option ℕ) (s : Option Statement) → is_some disk ≡ true
+  pub write_adds : (written : Bool) (req : ℕ) (rsp : GuestRsp) (disk : Option ℕ) (s : Option Statement) → is_some disk ≡ true
       → option_map_or (does_write written) s false ≡ true → added_by written req rsp disk s ≡ write_ended req rsp ∷ []
   write_adds written req rsp None s on writes = absurd (cc (on))
   write_adds written req rsp (Some disk) None on writes = absurd (cc (writes))

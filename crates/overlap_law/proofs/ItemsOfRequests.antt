@@ -94,7 +94,7 @@ marked_same mark other req item = by_test (is_item_of other item)
     by_test true = refl
     by_test false = refl
 
-marked_none : (mark : Mark) (other req : ℕ) (items : List Item) → list_any (is_item_of req) items ≡ false
+pub marked_none : (mark : Mark) (other req : ℕ) (items : List Item) → list_any (is_item_of req) items ≡ false
     → list_any (is_item_of req) (map (item_with_mark mark other) items) ≡ false
 marked_none mark other req [] none = refl
 marked_none mark other req (item ∷ items) none =
@@ -103,7 +103,7 @@ marked_none mark other req (item ∷ items) none =
     λ i. (marked_same mark other req item ∙ parts.0) i || rest i
 
 -- a list with less has none either
-left_none : (keeps : Item → Bool) (req : ℕ) (items : List Item) → list_any (is_item_of req) items ≡ false
+pub left_none : (keeps : Item → Bool) (req : ℕ) (items : List Item) → list_any (is_item_of req) items ≡ false
     → list_any (is_item_of req) (filter keeps items) ≡ false
 left_none keeps req [] none = refl
 left_none keeps req (item ∷ items) none =

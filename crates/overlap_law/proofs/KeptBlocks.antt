@@ -14,13 +14,13 @@ use Rattle.disk_history.specs.Changes.{items_in}
 use Rattle.disk_history.specs.Legal.{is_torn, standing}
 use Rattle.disk_history.specs.Ledger.{Open, Acknowledged, Lost, Item, Disk, Ledger, zeros_item, is_item_of, item_with_mark, changed_at, with_item, has_block, ledger_after}
 use Rattle.vdi_directory.specs.declared.effect.Effect.{Effect}
-use Rattle.vdi_directory.specs.States.{state_of, is_live_state}
 use Rattle.overlap_law.specs.Attempts.{AttemptRecord}
-use Rattle.overlap_law.specs.StayingBlocks.{WasServed, MayStay, IsHomeToCome, ItemsAreOpen, IsMadeBlank, IsMadeLike, HasEntryOf, IsAloneWhereWritten, ComesToNothing, KeepsBlocks, AllKeepBlocks}
+use Rattle.overlap_law.specs.Each.{spec_in}
+use Rattle.overlap_law.specs.StayingBlocks.{IsBlockOfAnyDisk, WasServed, MayStay, IsHomeToCome, ItemsAreOpen, IsMadeBlank, IsMadeLike, HasEntryOf, IsAloneWhereWritten, ComesToNothing, KeepsBlocks, AllKeepBlocks}
 use Rattle.overlap_law.specs.Tables.{entry_by}
 use Rattle.overlap_law.specs.ToCome.{comes_to_nothing, IsToCome, IsEntryToCome}
 use Rattle.overlap_law.specs.Words.{Hosts, is_mute, bytes_by}
-use Rattle.overlap_law.specs.WrittenBlocks.{IsBlockOfDisk, blocks_per_object, items_at, is_torn_here}
+use Rattle.overlap_law.specs.WrittenBlocks.{blocks_per_object, items_at, is_torn_here}
 use Rattle.overlap_law.proofs.ItemsStayOpen.{open_later}
 use Rattle.overlap_law.proofs.StandingItems.{as_acknowledged, StandsDone, done_stand}
 use Rattle.overlap_law.proofs.ItemsGoOn.{same_bytes, GoOn, All, alike_go_on, more_go_on, lost_go_on, refused_go_on}
@@ -29,7 +29,7 @@ use Rattle.overlap_law.proofs.ItemsGoOn.{same_bytes, GoOn, All, alike_go_on, mor
 
 module _ (effects : List Effect) (good_id : ℕ → Bool) where
   abbrev Block_of : Ledger → ℕ → Disk → VdiSpec → ℕ → ℕ → Type 0
-  Block_of ledger vid disk spec index unit = IsBlockOfDisk ledger effects good_id vid disk spec index unit
+  Block_of ledger vid disk spec index unit = IsBlockOfAnyDisk ledger effects good_id vid disk spec index unit
 
   -- a block of a disk that was there before, with these items then
   record WasThere (ledger : Ledger) (vid : ℕ) (disk : Disk) (spec : VdiSpec) (index unit : ℕ)
@@ -40,12 +40,10 @@ module _ (effects : List Effect) (good_id : ℕ → Bool) where
 
   module _ (ledger later : Ledger) (vid : ℕ) (disk : Disk) (spec : VdiSpec) (index unit : ℕ)
       (block : Block_of later vid disk spec index unit) where
-    back : (was : Disk) → ledger.disks vid ≡ Some was → was.deleted ≡ false → disk.blocks ≡ was.blocks
-        → Block_of ledger vid was spec index unit
-    back was there kept blocks = record {
+    back : (was : Disk) → ledger.disks vid ≡ Some was → disk.blocks ≡ was.blocks → Block_of ledger vid was spec index unit
+    back was there blocks = record {
       there = there;
-      kept = kept;
-      live = block.live;
+      alive = block.alive;
       good = block.good;
       made_with = block.made_with;
       object = block.object;
@@ -55,7 +53,7 @@ module _ (effects : List Effect) (good_id : ℕ → Bool) where
 
     -- the disks that are the same
     unchanged : ledger.disks vid ≡ Some disk → Block_of ledger vid disk spec index unit
-    unchanged there = back disk there block.kept refl
+    unchanged there = back disk there refl
 
     -- all items changed alike
     changed : (change : List Item → List Item)
@@ -71,22 +69,24 @@ module _ (effects : List Effect) (good_id : ℕ → Bool) where
             let same = same_Some (record was { items = λ block. change (was.items block) }) disk there in
             record {
               was = was;
-              block = back was is (ap (λ (d : Disk). d.deleted) same ∙ block.kept) (ap (λ (d : Disk). d.blocks) (sym same));
+              block = back was is (ap (λ (d : Disk). d.blocks) (sym same));
               items = ap (λ (d : Disk). items_at d spec index unit) (sym same);
             }
 
-module _ (effects : List Effect) (good_id : ℕ → Bool) (hosts : Hosts) (attempts : List AttemptRecord) (count : ℕ)
-    (real : (vid : ℕ) → is_live_state (state_of effects vid) ≡ true → vid ≢ 0) where
+-- of these attempts some count, by a block's spec and their places; and of those which were served, these are known
+module _ (effects : List Effect) (good_id : ℕ → Bool) (hosts : Hosts) (attempts : List AttemptRecord) (Counts : VdiSpec → ℕ → Type 0)
+    (counted : List AttemptRecord) (known : (req : ℕ) → WasServed counted req → WasServed attempts req)
+    (real : (vid : ℕ) (spec : VdiSpec) → spec_in effects vid ≡ Some spec → vid ≢ 0) where
   abbrev IsBlock : Ledger → ℕ → Disk → VdiSpec → ℕ → ℕ → Type 0
-  IsBlock ledger vid disk spec index unit = IsBlockOfDisk ledger effects good_id vid disk spec index unit
+  IsBlock ledger vid disk spec index unit = IsBlockOfAnyDisk ledger effects good_id vid disk spec index unit
 
-  -- what a block with these items may come to be read as may be read of it, of the attempts before a place
+  -- what a block with these items may come to be read as may be read of it, of the attempts that count
   pub record HoldsAt (vid index unit : ℕ) (spec : VdiSpec) (items : List Item) : Type 0 where
     pub holes : (j : ℕ) (entry : AttemptRecord) → IsEntryToCome hosts attempts vid index j entry → entry_by index entry ≡ 0
-        → MayStay attempts items None (zeros BLOCK_BYTES)
+        → MayStay counted items None (zeros BLOCK_BYTES)
     pub each : is_torn_here spec items ≡ false → (home : ℕ) → IsHomeToCome hosts attempts vid index home → home ≢ 0
-        → (j : ℕ) (attempt : AttemptRecord) → IsToCome hosts attempts (object_number home index) unit j attempt → j < count
-        → MayStay attempts items (Some attempt.req) (bytes_by unit attempt.work)
+        → (j : ℕ) (attempt : AttemptRecord) → IsToCome hosts attempts (object_number home index) unit j attempt → Counts spec j
+        → MayStay counted items (Some attempt.req) (bytes_by unit attempt.work)
 
   abbrev pub AreWritten : Ledger → Type 0
   AreWritten ledger = (vid : ℕ) (disk : Disk) (spec : VdiSpec) (index unit : ℕ) → IsBlock ledger vid disk spec index unit
@@ -96,7 +96,7 @@ module _ (effects : List Effect) (good_id : ℕ → Bool) (hosts : Hosts) (attem
   whole_here true t u whole is = whole is
   whole_here false t u whole is = refl
 
-  goes_on : (Apart : Option ℕ → Type 0) (vid index unit : ℕ) (spec : VdiSpec) (items later : List Item) → GoOn attempts Apart items later
+  goes_on : (Apart : Option ℕ → Type 0) (vid index unit : ℕ) (spec : VdiSpec) (items later : List Item) → GoOn counted Apart items later
       → Apart None → ((oid unit j : ℕ) (attempt : AttemptRecord) → IsToCome hosts attempts oid unit j attempt → Apart (Some attempt.req))
       → HoldsAt vid index unit spec items → HoldsAt vid index unit spec later
   goes_on Apart vid index unit spec items later goes nobody apart holds = record {
@@ -113,7 +113,7 @@ module _ (effects : List Effect) (good_id : ℕ → Bool) (hosts : Hosts) (attem
       → ((vid : ℕ) (disk : Disk) → later.disks vid ≡ Some disk
       → option_map (λ (disk : Disk). record disk { items = λ block. change (disk.items block) }) (ledger.disks vid) ≡ Some disk)
       → ((vid : ℕ) (was : Disk) → ledger.disks vid ≡ Some was → (block : ℕ)
-      → GoOn attempts Apart (was.items block) (change (was.items block)))
+      → GoOn counted Apart (was.items block) (change (was.items block)))
       → Apart None → ((oid unit j : ℕ) (attempt : AttemptRecord) → IsToCome hosts attempts oid unit j attempt → Apart (Some attempt.req))
       → AreWritten ledger → AreWritten later
   all_go_on Apart ledger later change so goes nobody apart all vid disk spec index unit block =
@@ -168,7 +168,7 @@ module _ (effects : List Effect) (good_id : ℕ → Bool) (hosts : Hosts) (attem
           → IsBlock (ledger_after ledger (Create vid blocks)) vid disk spec index unit
           → HasEntryOf effects good_id vid index
       entry_of {disk} {spec} block =
-          record { live = block.live; good = block.good; spec = spec; made_with = block.made_with; object = block.object }
+          record { alive = block.alive; good = block.good; spec = spec; made_with = block.made_with; object = block.object }
 
       nothing : (index unit home : ℕ) → HasEntryOf effects good_id vid index → IsHomeToCome hosts attempts vid index home → home ≢ 0
           → (j : ℕ) (attempt : AttemptRecord) → IsToCome hosts attempts (object_number home index) unit j attempt → ⊥
@@ -192,7 +192,7 @@ module _ (effects : List Effect) (good_id : ℕ → Bool) (hosts : Hosts) (attem
           (sym (ap (option_map (λ (disk : Disk). record disk { deleted = false })) before.there) ∙ there) in
           subst (HoldsAt new index unit spec) (ap (λ (d : Disk). items_at d spec index unit) same)
           (of_old index unit spec (items_at was spec index unit)
-          (record { live = block.live; good = block.good; spec = spec; made_with = block.made_with; object = block.object })
+          (record { alive = block.alive; good = block.good; spec = spec; made_with = block.made_with; object = block.object })
           (all old was spec index unit before))
         where
           of_old : (index unit : ℕ) (spec : VdiSpec) (items : List Item) → HasEntryOf effects good_id new index
@@ -215,16 +215,24 @@ module _ (effects : List Effect) (good_id : ℕ → Bool) (hosts : Hosts) (attem
 
   deleted_holds : (ledger : Ledger) (vid : ℕ) → AreWritten ledger → AreWritten (ledger_after ledger (Delete vid))
   deleted_holds ledger vid =
-      one_changes ledger (ledger_after ledger (Delete vid)) vid
-      (option_map (λ (disk : Disk). record disk { deleted = true }) (ledger.disks vid)) (λ v. refl)
-      (λ disk spec index unit block there. absurd (by_disk disk (ledger.disks vid) there block.kept))
+      λ all. one_changes ledger (ledger_after ledger (Delete vid)) vid
+      (option_map (λ (disk : Disk). record disk { deleted = true }) (ledger.disks vid)) (λ v. refl) (own all) all
     where
-      by_disk : (disk : Disk) (o : Option Disk) → option_map (λ (disk : Disk). record disk { deleted = true }) o ≡ Some disk
-          → disk.deleted ≡ false → ⊥
-      by_disk disk None there kept = cc (there)
-      by_disk disk (Some was) there kept =
-          let gone : true ≡ disk.deleted = ap (λ (d : Disk). d.deleted) (same_Some (record was { deleted = true }) disk there) in
-          cc (gone, kept)
+      own : AreWritten ledger → (disk : Disk) (spec : VdiSpec) (index unit : ℕ)
+          → IsBlock (ledger_after ledger (Delete vid)) vid disk spec index unit
+          → option_map (λ (disk : Disk). record disk { deleted = true }) (ledger.disks vid) ≡ Some disk
+          → HoldsAt vid index unit spec (items_at disk spec index unit)
+      own all disk spec index unit block there = by_disk (ledger.disks vid) refl there
+        where
+          by_disk : (o : Option Disk) → ledger.disks vid ≡ o → option_map (λ (disk : Disk). record disk { deleted = true }) o ≡ Some disk
+              → HoldsAt vid index unit spec (items_at disk spec index unit)
+          by_disk None is there = absurd (cc (there))
+          by_disk (Some was) is there =
+              let same : record was { deleted = true } ≡ disk = same_Some (record was { deleted = true }) disk there in
+              subst (HoldsAt vid index unit spec) (ap (λ (d : Disk). items_at d spec index unit) same)
+              (all vid was spec index unit
+              (back effects good_id ledger (ledger_after ledger (Delete vid)) vid disk spec index unit block was is
+              (ap (λ (d : Disk). d.blocks) (sym same))))
 
   started_holds : (ledger : Ledger) (req vid at : ℕ) (coded : Bool) (bytes : List ℕ) → AreWritten ledger
       → AreWritten (ledger_after ledger (WriteStart req vid at coded bytes))
@@ -257,13 +265,12 @@ module _ (effects : List Effect) (good_id : ℕ → Bool) (hosts : Hosts) (attem
 
               before : HoldsAt vid index unit spec (was.items k)
               before = all vid was spec index unit
-                  (back effects good_id ledger later vid disk spec index unit block was is
-                  (ap (λ (d : Disk). d.deleted) same ∙ block.kept) (ap (λ (d : Disk). d.blocks) (sym same)))
+                  (back effects good_id ledger later vid disk spec index unit block was is (ap (λ (d : Disk). d.blocks) (sym same)))
 
               by_block : (b : Bool) → (k == at) ≡ b → HoldsAt vid index unit spec (cond b (was.items at ++ new ∷ []) (was.items k))
               by_block true here =
-                  goes_on (All attempts) vid index unit spec (was.items at) (was.items at ++ new ∷ [])
-                  (more_go_on attempts (was.items at) new refl) tt (λ oid u j attempt comes. tt)
+                  goes_on (All counted) vid index unit spec (was.items at) (was.items at ++ new ∷ [])
+                  (more_go_on counted (was.items at) new refl) tt (λ oid u j attempt comes. tt)
                   (subst (λ (n : ℕ). HoldsAt vid index unit spec (was.items n)) (eqb-true k at here) before)
               by_block false apart = before
 
@@ -286,8 +293,8 @@ module _ (effects : List Effect) (good_id : ℕ → Bool) (hosts : Hosts) (attem
 
     lost_holds : (ledger.requests req).ended ≡ false → AreWritten ledger → AreWritten (ledger_after ledger (WriterLost req))
     lost_holds going =
-        all_go_on (All attempts) ledger (ledger_after ledger (WriterLost req)) (map (item_with_mark Lost req)) (λ vid disk there. there)
-        (λ vid was there block. lost_go_on attempts req (was.items block) (open_at going vid was there block)) tt
+        all_go_on (All counted) ledger (ledger_after ledger (WriterLost req)) (map (item_with_mark Lost req)) (λ vid disk there. there)
+        (λ vid was there block. lost_go_on counted req (was.items block) (open_at going vid was there block)) tt
         (λ oid u j attempt comes. tt)
 
     refused_holds : (ledger.requests req).ended ≡ false → ComesToNothing hosts attempts req → AreWritten ledger
@@ -295,7 +302,7 @@ module _ (effects : List Effect) (good_id : ℕ → Bool) (hosts : Hosts) (attem
     refused_holds going nothing =
         all_go_on (λ (by : Option ℕ). by ≡ Some req → ⊥) ledger (ledger_after ledger (WriteRefused req))
         (filter (λ item. not (is_item_of req item))) (λ vid disk there. there)
-        (λ vid was there block. refused_go_on attempts req (was.items block) (open_at going vid was there block) unserved)
+        (λ vid was there block. refused_go_on counted req (was.items block) (open_at going vid was there block) (λ was. unserved (known req was)))
         (λ is. cc (is)) apart
       where
         unserved : WasServed attempts req → ⊥
@@ -333,7 +340,7 @@ module _ (effects : List Effect) (good_id : ℕ → Bool) (hosts : Hosts) (attem
 
         by_own : HoldsAt vid index unit spec (as_acknowledged req items)
         by_own = record {
-          holes = λ j entry comes hole. absurd (real vid block.live (sym (own_entry j entry comes) ∙ hole));
+          holes = λ j entry comes hole. absurd (real vid spec block.made_with (sym (own_entry j entry comes) ∙ hole));
           each = λ whole home to_come some j attempt comes below. record {
             place = stood.at;
             item = record stood.item { mark = Acknowledged };
@@ -348,8 +355,8 @@ module _ (effects : List Effect) (good_id : ℕ → Bool) (hosts : Hosts) (attem
       done_at = subst (HoldsAt vid index unit spec) (sym before.items) (⊎_elim
           (λ (stood : StandsDone req items). by_own stood)
           (λ (alike : standing (as_acknowledged req items) ≡ standing items).
-          goes_on (All attempts) vid index unit spec items (as_acknowledged req items)
-          (alike_go_on attempts items (as_acknowledged req items) alike) tt (λ oid u j attempt comes. tt) held)
+          goes_on (All counted) vid index unit spec items (as_acknowledged req items)
+          (alike_go_on counted items (as_acknowledged req items) alike) tt (λ oid u j attempt comes. tt) held)
           (done_stand req items))
 
   done_holds : (ledger : Ledger) (req : ℕ) → IsAloneWhereWritten effects good_id hosts attempts ledger req → AreWritten ledger

@@ -1,4 +1,5 @@
--- The groups of the attempts, of the rows, of the recoveries and of the tables, and the six facts, of each moment that a run in range leads to.
+-- The groups of the attempts, of the rows, of the recoveries, of the tables and of requests and commands, and the six facts, of each moment
+-- that a run in range leads to.
 use Rattle.std.proofs.Common.{◌≡◌, List, Some}
 use Rattle.cluster_script.specs.declared.statement.Statement.{Statement}
 use Rattle.sheep_node.specs.declared.event.Event.{Event}
@@ -11,6 +12,7 @@ use Rattle.overlap_law.proofs.FactsOfRuns.{facts-in_run}
 use Rattle.overlap_law.proofs.KeptSoFar.{kept_so_far}
 use Rattle.overlap_law.proofs.MakingInRuns.{creates_first-in_run, own_entries-in_run}
 use Rattle.overlap_law.proofs.NothingLacked.{lacked-in_run}
+use Rattle.overlap_law.proofs.PlacesInRuns.{courses_kept-in_run}
 use Rattle.overlap_law.proofs.TablesKept.{tables_kept}
 
 pub facts_kept : (script : List Statement) → RunsAreInRange script → (events : List Event) (moment : MomentWithPast)
@@ -38,6 +40,7 @@ facts_kept script range events moment is =
       rows = rows-in_run script range first events moment is;
       recoveries = searches-in_run script range first events moment is;
       tables = tables_kept script range events moment is;
+      courses = courses_kept-in_run script range events moment is;
       named = (tables-in_run script range events moment is).inodes.named;
       lacked = lacked-in_run script range (creates_first-in_run script range)
           (λ earlier there so. (tables-in_run script range earlier there so).tables.tables) events moment is;

@@ -237,7 +237,7 @@ module _ (old new : List Effect) (grows : (vid : ℕ) (spec : VdiSpec) → spec_
       by_disk None is = tt
       by_disk (Some disk) is = inode_grows disk.inode is
 
-  all_grow : (node : Node) → AreOnKnown old node → AreOnKnown new node
+  pub all_grow : (node : Node) → AreOnKnown old node → AreOnKnown new node
   all_grow node all = record {
     open_works = λ req work got. work_grows work.work (all.open_works req work got);
     courses = λ req request got. course_grows request.course (all.courses req request got);

@@ -77,14 +77,14 @@ module _ (passes : AttemptRecord → Bool) where
       (last_from attempts found None e)
 
 module _ (passes : AttemptRecord → Bool) where
-  abbrev NonePasses : List AttemptRecord → Type 0
+  abbrev pub NonePasses : List AttemptRecord → Type 0
   NonePasses attempts = (k : ℕ) (attempt : AttemptRecord) → slice_get attempts k ≡ Some attempt → passes attempt ≡ false
 
-  abbrev LastOrNone : List AttemptRecord → Type 0
+  abbrev pub LastOrNone : List AttemptRecord → Type 0
   LastOrNone attempts = ((found : AttemptRecord) × IsLast passes attempts found) ⊎ NonePasses attempts
 
   -- one of some attempts is the last that passes, or none does
-  last_or_none : (attempts : List AttemptRecord) → LastOrNone attempts
+  pub last_or_none : (attempts : List AttemptRecord) → LastOrNone attempts
   last_or_none [] = inr (λ k attempt at. absurd (cc (at)))
   last_or_none (attempt ∷ attempts) = ⊎_elim
       (λ (last : (found : AttemptRecord) × IsLast passes attempts found).

@@ -186,7 +186,9 @@ module _ (May_be : Reading) (ledger : Ledger) (effects : List Effect) (good_id :
 
     -- ---- a request begins
 
-    pub begins_led : (disk : Disk) (ask : DiskAsk) → IsSpec disk.inode.spec → HolesMayBeRead May_be ledger effects good_id disk.inode
+    pub begins_led : (disk : Disk) (ask : DiskAsk) → IsSpec disk.inode.spec
+        → ((offset size : ℕ) → ask ≡ disk_asks.Read offset size
+        → HolesMayBeRead May_be ledger effects good_id disk.inode (pieces disk.inode.spec.shift offset size))
         → Stands (Some disk) (Waiting ask) → IsLed disk (begin_driver disk ask)
     begins_led disk (disk_asks.Write offset payload) sound holes waits = record {
       stands = (disk_asks.Write offset payload, waits.0, tt);
@@ -215,7 +217,9 @@ module _ (May_be : Reading) (ledger : Ledger) (effects : List Effect) (good_id :
             ReadStands May_be ledger effects good_id disk.inode (extent_on disk.inode offset size) step.driver step.act)
             (sym (begin-read disk ask offset size refl unrefused
             ∙ ap (read_on disk.inode []) (pieces_from-first (extent_on disk.inode offset size))))
-            (begins May_be ledger effects good_id disk.inode (extent_on disk.inode offset size) extent holes))
+            (begins May_be ledger effects good_id disk.inode (extent_on disk.inode offset size) extent
+            (subst (HolesMayBeRead May_be ledger effects good_id disk.inode) (pieces_from-first (extent_on disk.inode offset size))
+            (holes offset size refl))))
             (begun_works disk offset size unrefused)
         by_refusal (Some cause) refused =
             let is = begin-refused disk ask cause refused in
@@ -229,27 +233,28 @@ module _ (May_be : Reading) (ledger : Ledger) (effects : List Effect) (good_id :
     -- ---- a request goes on
 
     pub goes_led : (disk : Disk) (bytes : List ℕ) (driver : Driver) (step : DriverStep) → driver_on_done disk.inode bytes driver ≡ Some step
-        → HolesMayBeRead May_be ledger effects good_id disk.inode
         → ((told : List ℕ) (piece : Piece) (rest : List Piece) → driver ≡ Reads told piece rest
-        → PieceMayBeRead May_be ledger effects good_id disk.inode piece bytes)
+        → PieceMayBeRead May_be ledger effects good_id disk.inode piece bytes
+        × HolesMayBeRead May_be ledger effects good_id disk.inode rest)
         → Stands (Some disk) (Driving driver) → IsLed disk step
-    goes_led disk bytes driver step is holes pieces_so (disk_asks.Write offset payload, asks_so, stands) = record {
+    goes_led disk bytes driver step is pieces_so (disk_asks.Write offset payload, asks_so, stands) = record {
       stands = (disk_asks.Write offset payload, asks_so, tt);
       told = λ reply act from long told asks_too tells.
           let none : disk_asks.Write offset payload ≡ disk_asks.Read from long = cc (asks_so, asks_too) in
           absurd (cc (none));
     }
-    goes_led disk bytes driver step is holes pieces_so (disk_asks.Read offset size, asks_so, stands) = by_driver driver is pieces_so stands
+    goes_led disk bytes driver step is pieces_so (disk_asks.Read offset size, asks_so, stands) = by_driver driver is pieces_so stands
       where
         by_driver : (driver : Driver) → driver_on_done disk.inode bytes driver ≡ Some step
             → ((told : List ℕ) (piece : Piece) (rest : List Piece) → driver ≡ Reads told piece rest
-            → PieceMayBeRead May_be ledger effects good_id disk.inode piece bytes)
+            → PieceMayBeRead May_be ledger effects good_id disk.inode piece bytes
+            × HolesMayBeRead May_be ledger effects good_id disk.inode rest)
             → IsDriverStanding May_be ledger effects good_id disk.inode offset size driver → IsLed disk step
         by_driver (Reads told piece rest) is pieces_so stands =
             let wanted = driver_goes_on-wanted disk.inode bytes (Reads told piece rest) step is in
             led disk offset size asks_so step wanted.vid wanted.spec stands.0 stands.1
-            (goes_on May_be ledger effects good_id disk.inode (extent_on disk.inode offset size) stands.0 holes told bytes piece rest step
-            (stands.2 step.act) (pieces_so told piece rest refl) is)
+            (goes_on May_be ledger effects good_id disk.inode (extent_on disk.inode offset size) stands.0 told bytes piece rest step
+            (stands.2 step.act) (pieces_so told piece rest refl).0 (pieces_so told piece rest refl).1 is)
             (gone_on_works disk.inode bytes told piece rest step is)
         by_driver (Writes payload stage piece rest) is pieces_so stands = absurd stands
         by_driver Answered is pieces_so stands = absurd (none_on_answered disk.inode bytes step is)

@@ -1,10 +1,7 @@
--- The replies of each run in range of a script without checks are legal, where the reads of disks that were not available are left out, if
--- each event tells the other reads what may be read.
-use Rattle.std.proofs.Common.{◌≡◌, ℕ, false, List, [], ◌∷◌, ◌++◌, Some, refl, rules}
-use Rattle.std.specs.Option.{option_map_or}
+-- The replies of each run in range are legal, where the reads of disks that were not available are left out, if each event tells the other
+-- reads what may be read.
+use Rattle.std.proofs.Common.{◌≡◌, List, [], ◌∷◌, ◌++◌, Some, refl, rules}
 use Rattle.cluster_script.specs.declared.statement.Statement.{Statement}
-use Rattle.cluster_script.specs.NumberedRequests.{request_at}
-use Rattle.cluster_script.specs.Statements.{is_check}
 use Rattle.sheep_node.specs.declared.event.Event.{Event}
 use Rattle.overlap_law.specs.Headline.{IsLegalWhereAvailable}
 use Rattle.overlap_law.specs.MomentChanges.{RunsAreInRange}
@@ -15,8 +12,7 @@ use Rattle.overlap_law.proofs.LegalRuns.{all_follows}
 use Rattle.overlap_law.proofs.RunsByEvents.{KeptByEvents, run-kept_by_events}
 use Rattle.overlap_law.proofs.RunsWithOneMore.{run_with_one_more}
 
-module _ (script : List Statement) (range : RunsAreInRange script)
-    (unchecked : (req : ℕ) → option_map_or is_check (request_at script req) false ≡ false) (told : EachEventTellsWhatMayBeRead script) where
+module _ (script : List Statement) (range : RunsAreInRange script) (told : EachEventTellsWhatMayBeRead script) where
   -- a run ends in this moment, and its replies are legal
   record IsLegalThen (moment : MomentWithPast) : Type 0 where
     events : List Event
@@ -32,7 +28,7 @@ module _ (script : List Statement) (range : RunsAreInRange script)
     events = so.events ++ event ∷ [];
     run = run_with_one_more script event made so.events before is so.run;
     legal = stays_legal script so.events event before made so.run
-        (all_follows script range unchecked so.events event before made so.run is)
+        (all_follows script range so.events event before made so.run is)
         (told.each so.events event before made so.run is) so.legal;
   }
 

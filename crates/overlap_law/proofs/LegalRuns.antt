@@ -1,9 +1,6 @@
--- In each run in range of a script without checks all of the history, reads aside, might come next in its turn.
-use Rattle.std.proofs.Common.{◌≡◌, ℕ, false, List, [], ◌∷◌, ◌++◌, Some, refl}
-use Rattle.std.specs.Option.{option_map_or}
+-- In each run in range all of the history, reads aside, might come next in its turn.
+use Rattle.std.proofs.Common.{◌≡◌, List, [], ◌∷◌, ◌++◌, Some, refl}
 use Rattle.cluster_script.specs.declared.statement.Statement.{Statement}
-use Rattle.cluster_script.specs.NumberedRequests.{request_at}
-use Rattle.cluster_script.specs.Statements.{is_check}
 use Rattle.disk_history.specs.Ledger.{empty_ledger}
 use Rattle.sheep_node.specs.declared.event.Event.{Event}
 use Rattle.sheep_world.specs.Opening.{initial_world}
@@ -22,8 +19,7 @@ use Rattle.overlap_law.proofs.RunsWithOneMore.{run_with_one_more}
 use Rattle.overlap_law.proofs.StandingWriters.{AreStanding, event_stands}
 use Rattle.overlap_law.proofs.LegalEvents.{event_follows, event_placed, none_ended}
 
-module _ (script : List Statement) (range : RunsAreInRange script)
-    (unchecked : (req : ℕ) → option_map_or is_check (request_at script req) false ≡ false) where
+module _ (script : List Statement) (range : RunsAreInRange script) where
   -- a run ends in this moment, and all of it, reads aside, might come next in its turn
   pub record IsLegalSoFar (moment : MomentWithPast) : Type 0 where
     pub events : List Event
@@ -51,10 +47,10 @@ module _ (script : List Statement) (range : RunsAreInRange script)
         events = so.events ++ event ∷ [];
         run = run_with_one_more script event made so.events before is so.run;
         legal = both_follow [] before.past.history made.grown so.legal
-            (event_follows script range unchecked so.events before so.run began so.legal so.standing so.placed event made kind);
+            (event_follows script range so.events before so.run began so.legal so.standing so.placed event made kind);
         standing = event_stands script range before.world began before.past.history before.past.refused are
-            (none_ended script range unchecked so.events before so.run began so.legal so.standing so.placed) so.standing event made kind;
-        placed = event_placed script range unchecked so.events before so.run began so.legal so.standing so.placed event made kind;
+            (none_ended script range so.events before so.run began so.legal so.standing so.placed) so.standing event made kind;
+        placed = event_placed script range so.events before so.run began so.legal so.standing so.placed event made kind;
       }
 
   pub all_follows : (events : List Event) (event : Event) (before : MomentWithPast) (made : EventOutcome)
@@ -63,5 +59,10 @@ module _ (script : List Statement) (range : RunsAreInRange script)
   all_follows events event before made run is =
       let so = run-kept_by_events script IsLegalSoFar opens_legal events_legal events before run in
       let began = began-with_past script events before run in
-      event_follows script range unchecked so.events before so.run began so.legal so.standing so.placed event made
+      event_follows script range so.events before so.run began so.legal so.standing so.placed event made
       (happens script event before.world made is)
+
+  -- so may all that it has
+  pub legal-in_run : (events : List Event) (moment : MomentWithPast) → run_with_past script events ≡ Some moment
+      → AllElseMayFollow empty_ledger moment.past.history
+  legal-in_run events moment run = (run-kept_by_events script IsLegalSoFar opens_legal events_legal events moment run).legal

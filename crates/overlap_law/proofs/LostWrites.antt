@@ -1,9 +1,9 @@
--- The loss of a node ends writes that had begun and hadn't ended: in runs of scripts without checks.
-use Rattle.std.proofs.Common.{◌≡◌, ◌≢◌, ℕ, ◌+◌, ◌==◌, ◌&&◌, ◌||◌, Bool, true, false, cond, List, [], ◌∷◌, ◌++◌, map, filter, find, Contains, Option, Some, None, is_some, refl, sym, ap, subst, arith, ◌∙◌}
+-- The loss of a node ends writes that had begun and hadn't ended.
+use Rattle.std.proofs.Common.{◌≡◌, ◌≢◌, ⊎_elim, ℕ, ◌+◌, ◌==◌, ◌&&◌, ◌||◌, Bool, true, false, cond, List, [], ◌∷◌, ◌++◌, map, filter, find, Contains, Option, Some, None, is_some, refl, sym, ap, subst, arith, ◌∙◌}
 use Rattle.std.specs.List.{enumerate_from, list_any}
 use Rattle.std.specs.Option.{option_map_or, option_and_then}
 use Rattle.std.specs.FinMap as tree
-use Rattle.std.proofs.lemmas.Bool.{and_parts, eqb-true, ne_eqb}
+use Rattle.std.proofs.lemmas.Bool.{and_parts, eqb-true, ne_eqb, or_cases}
 use Rattle.std.proofs.lemmas.List.Sums.{fold-append}
 use Rattle.std.proofs.lemmas.Option.{same_Some}
 use Rattle.proof_tools.proofs.Lists.{Contains-cons, Contains-head, filter-contains}
@@ -14,7 +14,8 @@ use Rattle.cluster_script.specs.declared.statement.Statement.{Statement}
 use Rattle.cluster_script.specs.NumberedRequests.{request_at, session_of, numbered_requests}
 use Rattle.cluster_script.specs.Sessions.{ScriptSession, session_numbered}
 use Rattle.cluster_script.specs.Statements.{is_check, requests_of}
-use Rattle.sheep_node.specs.CheckWrites.{has_check_written}
+use Rattle.sheep_node.specs.declared.course.Request.{Request}
+use Rattle.sheep_node.specs.CheckWrites.{has_check_written, has_course_written}
 use Rattle.sheep_world.specs.declared.progress.StartedRequest.{StartedRequest}
 use Rattle.sheep_world.specs.World.{Host, World, progress_at}
 use Rattle.sheep_world.specs.Asking.{session_asking}
@@ -23,6 +24,7 @@ use Rattle.overlap_law.specs.DiskEvents.{ends_write_of}
 use Rattle.overlap_law.specs.Headline.{ledger_of}
 use Rattle.overlap_law.specs.ToldReads.{AllElseMayFollow}
 use Rattle.overlap_law.proofs.EndsOfWrites.{numbered_at, stands_at}
+use Rattle.overlap_law.proofs.FoundInSteps.{AllBegunIfFound}
 use Rattle.overlap_law.proofs.FollowingEvents.{MayEnd, lost_follows}
 use Rattle.overlap_law.proofs.ItemsOfReplies.{is_write_at}
 use Rattle.overlap_law.proofs.ItemsOfRequests.{begins_write_of}
@@ -141,9 +143,19 @@ of_session script n incarnation session is = by_session (session_numbered script
           of_incarnation = eqb-true of.incarnation incarnation parts.1;
         }
 
-module _ (script : List Statement) (unchecked : (req : ℕ) → option_map_or is_check (request_at script req) false ≡ false) (world : World)
-    (history : List HistEvent) (standing : AreStanding script world.hosts world.guests history) (n : ℕ) (host : Host)
-    (there : tree.get world.hosts n ≡ Some host) (up : host.is_lost ≡ false) where
+module _ (script : List Statement) (world : World) (history : List HistEvent)
+    (standing : AreStanding script world.hosts world.guests history) (counted : (req : ℕ) → AllBegunIfFound req history world.hosts)
+    (n : ℕ) (host : Host) (there : tree.get world.hosts n ≡ Some host) (up : host.is_lost ≡ false) where
+  -- a check that has come to a write has begun one
+  check_begun : (req : ℕ) → has_check_written req host.node ≡ true → list_any (begins_write_of req) history ≡ true
+  check_begun req counts = by_got (tree.get host.node.requests req) refl counts
+    where
+      by_got : (o : Option Request) → tree.get host.node.requests req ≡ o
+          → option_map_or (λ (request : Request). has_course_written request.course) o false ≡ true
+          → list_any (begins_write_of req) history ≡ true
+      by_got None got counts = absurd (cc (counts))
+      by_got (Some request) got counts = counted req n host there request got counts
+
   one_lost : (request : ℕ × Statement) → Contains (filter (is_lost_write script world n host) (numbered_requests script)) request
       → MayEnd history request.0
   one_lost request among =
@@ -152,10 +164,6 @@ module _ (script : List Statement) (unchecked : (req : ℕ) → option_map_or is
       let parts = and_parts (is_writing_request host.node request && of_lost) (is_some (disk_of script request.0 world)) passes in
       let both = and_parts (is_writing_request host.node request) of_lost parts.0 in
       let stands : request_at script request.0 ≡ Some request.1 = stands_at 0 script request.0 request.1 listed in
-      let no_check : is_check request.1 ≡ false
-      = ap (λ (o : Option Statement). option_map_or is_check o false) (sym stands) ∙ unchecked request.0 in
-      let writes : is_write request.1 ≡ true
-      = a_write (is_write request.1) (is_check request.1) (has_check_written request.0 host.node) no_check both.0 in
       let started = started_on_disk script world request.0 parts.1 in
       let asks : session_of request.1 ≡ Some started.session
       = sym (ap (option_and_then session_of) stands) ∙ started.asking in
@@ -164,18 +172,18 @@ module _ (script : List Statement) (unchecked : (req : ℕ) → option_map_or is
       let is = standing started.session started.started started.there of.of of.declared in
       let same : is.host ≡ host = same_Some is.host host (sym is.there ∙ ap (tree.get world.hosts) of.of_node ∙ there) in
       record {
-        begun = subst (λ (k : ℕ). list_any (begins_write_of k) history ≡ true) started.number
+        begun = ⊎_elim
+            (λ (writes : is_write request.1 ≡ true).
+            subst (λ (k : ℕ). list_any (begins_write_of k) history ≡ true) started.number
             (is.begun
             (ap (is_write_at script) started.number ∙ ap (λ (o : Option Statement). option_map_or is_write o false) stands ∙ writes)
-            started.on);
+            started.on))
+            (λ (checks : (is_check request.1 && has_check_written request.0 host.node) ≡ true).
+            check_begun request.0 (and_parts (is_check request.1) (has_check_written request.0 host.node) checks).1)
+            (or_cases (is_write request.1) (is_check request.1 && has_check_written request.0 host.node) both.0);
         unended = subst (λ (k : ℕ). list_any (ends_write_of k) history ≡ false) started.number
             (is.unended (ap (λ (h : Host). h.is_lost) same ∙ up) (ap (λ (h : Host). h.incarnation) same ∙ sym of.of_incarnation));
       }
-    where
-      a_write : (writes checks written : Bool) → checks ≡ false → (writes || (checks && written)) ≡ true → writes ≡ true
-      a_write true checks written none is = refl
-      a_write false true written none is = absurd (cc (none))
-      a_write false false written none is = is
 
   pub lost_follow : AllElseMayFollow (ledger_of history) (writers_lost script world n (Some host))
   lost_follow =

@@ -23,18 +23,20 @@ use Rattle.sheep_world.specs.Began.{Began}
 use Rattle.overlap_law.specs.Attempts.{AttemptRecord}
 use Rattle.overlap_law.specs.Drafts.{IsReservedEntry}
 use Rattle.overlap_law.specs.Each.{EachAttempt, spec_in}
+use Rattle.overlap_law.specs.Fates.{IsCreated}
 use Rattle.overlap_law.specs.Grants.{published_in}
 use Rattle.overlap_law.specs.MomentChanges.{MomentChange, MomentTrail, RunsAreInRange}
 use Rattle.overlap_law.specs.MomentChanges as moments
 use Rattle.overlap_law.specs.Past.{MomentWithPast, run_with_past}
 use Rattle.overlap_law.specs.ShapedAttempts.{AreShaped}
 use Rattle.overlap_law.specs.StayingBlocks.{HasEntryOf, IsMadeBlank}
-use Rattle.overlap_law.specs.StayingDrafts.{StaysDrawnFrom, DraftsStayDrawn}
+use Rattle.overlap_law.specs.StayingDrafts.{IsAllToCome, StaysDrawnFrom, DraftsStayDrawn, PlacesStayDrawn}
 use Rattle.overlap_law.specs.Tables.{entry_unit, entry_by}
 use Rattle.overlap_law.specs.TiedAttempts.{IsTied}
 use Rattle.overlap_law.specs.ToCome.{IsToCome, IsEntryToCome}
 use Rattle.overlap_law.proofs.Candidates.{HasMade, candidate_comes, are_candidates}
 use Rattle.overlap_law.proofs.CreatedInodes.{created_made, header_is}
+use Rattle.overlap_law.proofs.CreatedStays.{created_stays}
 use Rattle.overlap_law.proofs.DataOfDisks.{data-on_the_way, reserved_unpublished}
 use Rattle.overlap_law.proofs.DraftsOfLogs.{spec_was, used_reserved, base_snapped, header_with, parents_so, snapped_published}
 use Rattle.overlap_law.proofs.DraftsOfLogs.{published_next, parent_stays}
@@ -147,26 +149,21 @@ module _ (script : List Statement) (range : RunsAreInRange script) (events : Lis
       none = subst (λ (s : Source). IsSourceParent s (parent_of (log_effects before.world.log) vid)) fresh
           (parents_so before.world.log vid r stands)
 
-  -- a clone has what its base may come to have
-  module _ (clone : r.source ≡ sources.Clone) (base : Vid) (parent : parent_of (log_effects before.world.log) vid ≡ Some base) where
+  -- what it is made of may come to have an entry, if that is all that it might come to have
+  module _ (base : Vid) (parent : parent_of (log_effects before.world.log) vid ≡ Some base) where
     whole : EachAttempt after.past.attempts (λ j attempt. length attempt.fates ≡ length attempt.targets)
     whole = (on_the_way script IsTied (kept_tied script range) events start after is (moments.Then trail change)).fates.whole
 
-    parent_now : parent_of (log_effects after.world.log) vid ≡ Some base
+    pub parent_now : parent_of (log_effects after.world.log) vid ≡ Some base
     parent_now =
         ap (λ (log : List Entry). parent_of (log_effects log) vid) longer ∙ parent_stays before.world.log (entry ∷ []) vid used ∙ parent
 
-    base_published : was_published after.world.log base.0 ≡ true
-    base_published =
-        ap (λ (log : List Entry). was_published log base.0) longer
-        ∙ published_next before.world.log entry base.0
-        (snapped_published base.0 before.world.log (base_snapped before.world.log vid r stands base parent clone))
-
-    pub made_like : (index j : ℕ) (one : AttemptRecord) → HasEntryOf (log_effects after.world.log) good_id vid index
-        → IsEntryToCome after.world.hosts after.past.attempts vid index j one
+    of_base : (index epoch value : ℕ) → HasEntryOf (log_effects after.world.log) good_id vid index
+        → IsCreated after.past.attempts (inode_number base.0) epoch
+        → IsAllToCome before.world.hosts before.past.attempts base.0 index value
         → (i : ℕ) × (other : AttemptRecord) × IsEntryToCome after.world.hosts after.past.attempts base.0 index i other
-        × (entry_by index other ≡ entry_by index one)
-    made_like index j one has comes =
+        × (entry_by index other ≡ value)
+    of_base index epoch value has created all_come =
         let (header, there, own) = header_with (log_effects after.world.log) vid base parent_now in
         let known = parent_known after.world.log reservable vid header base there own in
         let same : header.spec ≡ has.spec
@@ -174,15 +171,40 @@ module _ (script : List Statement) (range : RunsAreInRange script) (events : Lis
         let made : HasMade after.world.hosts (inode_number base.0) (entry_unit index) after.past.attempts
         = created_made after.world.log reservable after.world.hosts after.past.attempts
         (whole-on_the_way script range events start after is (moments.Then trail change)) whole base.0 index
-        (published_in after.world.log base.0) has.spec (known.made ∙ ap (λ (spec : VdiSpec). Some spec) same) has.object
-        (published-on_the_way script range events start after is (moments.Then trail change) base.0 base_published) in
+        epoch has.spec (known.made ∙ ap (λ (spec : VdiSpec). Some spec) same) has.object created in
         let (first, rest, all) = are_candidates after.world.hosts after.past.attempts whole base.0 index made in
         let (i, other, may, read) = candidate_comes after.world.hosts after.past.attempts whole base.0 index (first ∷ rest) all zero first
         refl in
-        let (w, was) = was_there (inode_number base.0) (entry_unit index) i other may in (
-          i,
-          other,
-          may,
-          ap (λ (a : AttemptRecord). entry_by index a) (sym w.same)
-              ∙ drawn index j one has comes (Some base) parent clone i w.was was,
-        )
+        let (w, was) = was_there (inode_number base.0) (entry_unit index) i other may in
+        (i, other, may, ap (λ (a : AttemptRecord). entry_by index a) (sym w.same) ∙ all_come i w.was was)
+
+    -- a clone has what its base may come to have
+    module _ (clone : r.source ≡ sources.Clone) where
+      base_published : was_published after.world.log base.0 ≡ true
+      base_published =
+          ap (λ (log : List Entry). was_published log base.0) longer
+          ∙ published_next before.world.log entry base.0
+          (snapped_published base.0 before.world.log (base_snapped before.world.log vid r stands base parent clone))
+
+      pub made_like : (index j : ℕ) (one : AttemptRecord) → HasEntryOf (log_effects after.world.log) good_id vid index
+          → IsEntryToCome after.world.hosts after.past.attempts vid index j one
+          → (i : ℕ) × (other : AttemptRecord) × IsEntryToCome after.world.hosts after.past.attempts base.0 index i other
+          × (entry_by index other ≡ entry_by index one)
+      made_like index j one has comes =
+          of_base index (published_in after.world.log base.0) (entry_by index one) has
+          (published-on_the_way script range events start after is (moments.Then trail change) base.0 base_published)
+          (drawn index j one has comes (Some base) parent clone)
+
+    -- what takes the place of a disk has what that may come to have
+    pub made_in_place : PlacesStayDrawn (log_effects before.world.log) good_id before.world.hosts before.past.attempts → (tag : List ℕ)
+        → r.source ≡ sources.Snapshot base tag → (index j : ℕ) (one : AttemptRecord)
+        → HasEntryOf (log_effects after.world.log) good_id vid index
+        → IsEntryToCome after.world.hosts after.past.attempts vid index j one
+        → (i : ℕ) × (other : AttemptRecord) × IsEntryToCome after.world.hosts after.past.attempts base.0 index i other
+        × (entry_by index other ≡ entry_by index one)
+    made_in_place places tag place index j one has comes =
+        let (w, was) = was_there (inode_number vid) (entry_unit index) j one comes in
+        let (created, all) = places vid index (draft_of index has) base tag place j w.was was in
+        of_base index created.0 (entry_by index one) has
+        (created_stays script range start before after began change (inode_number base.0) created.0 created.1)
+        (subst (IsAllToCome before.world.hosts before.past.attempts base.0 index) (ap (λ (a : AttemptRecord). entry_by index a) w.same) all)

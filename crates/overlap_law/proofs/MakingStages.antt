@@ -125,11 +125,11 @@ IsPublishingStage inode (Publishing entry made) = made ≡ Some inode
 IsPublishingStage inode (Answered change) = ⊥
 
 -- the tag was written, or the creation done
-abbrev pub WasTagging : Content → Op → Type 0
-WasTagging inode op = (vid : Vid) × (old : Vid) × (op.stage ≡ Working vid (Tagging old inode))
+abbrev pub WasTagging : Content → Op → List ℕ → Type 0
+WasTagging inode op bytes = (vid : Vid) × (old : Vid) × (op.stage ≡ Working vid (Tagging old inode))
 
-abbrev pub WasMaking : Content → Op → Type 0
-WasMaking inode op = (vid : Vid) × (entry : Entry) × (op.stage ≡ Working vid (Making entry (Some inode)))
+abbrev pub WasMaking : Content → Op → List ℕ → Type 0
+WasMaking inode op bytes = (vid : Vid) × (entry : Entry) × (op.stage ≡ Working vid (Making entry (Some inode)))
 
 module _ (inode : Content) where
   no_making : IsNoneAtFirst (IsMakingStage inode)
@@ -154,7 +154,7 @@ module _ (inode : Content) where
 
   module _ (op : Op) (bytes : List ℕ) (step : OpStep) where
     tagged : (of : Vid) (task : Task) → op.stage ≡ Working of task → IsMakingStage inode (task_done op of bytes task).op.stage
-        → WasTagging inode op
+        → WasTagging inode op bytes
     tagged of (Opening true ids header) at is = absurd is
     tagged of (Opening false ids header) at is = absurd is
     tagged of (WritingBack other) at is = absurd is
@@ -163,11 +163,11 @@ module _ (inode : Content) where
     tagged of (Copying ids header) at is = absurd (cc (is))
     tagged of (Making entry made) at is = absurd is
 
-    done_tagging : op_on_done bytes op ≡ Some step → IsMakingStage inode step.op.stage → WasTagging inode op
+    done_tagging : op_on_done bytes op ≡ Some step → IsMakingStage inode step.op.stage → WasTagging inode op bytes
     unfolding op_on_done
     done_tagging next is = by_stage op.stage refl next
       where
-        by_stage : (stage : OpStage) → op.stage ≡ stage → done_at bytes op stage ≡ Some step → WasTagging inode op
+        by_stage : (stage : OpStage) → op.stage ≡ stage → done_at bytes op stage ≡ Some step → WasTagging inode op bytes
         by_stage (Asked entry) at next = absurd (cc (next))
         by_stage (Working of task) at next =
             tagged of task at
@@ -176,7 +176,7 @@ module _ (inode : Content) where
         by_stage (Answered change) at next = absurd (cc (next))
 
     created : (of : Vid) (task : Task) → op.stage ≡ Working of task → IsPublishingStage inode (task_done op of bytes task).op.stage
-        → WasMaking inode op
+        → WasMaking inode op bytes
     created of (Opening true ids header) at is = absurd is
     created of (Opening false ids header) at is = absurd is
     created of (WritingBack other) at is = absurd is
@@ -185,11 +185,11 @@ module _ (inode : Content) where
     created of (Making entry made) at is =
         (of, entry, at ∙ ap (λ (o : Option Content). Working of (Making entry o)) is)
 
-    done_making : op_on_done bytes op ≡ Some step → IsPublishingStage inode step.op.stage → WasMaking inode op
+    done_making : op_on_done bytes op ≡ Some step → IsPublishingStage inode step.op.stage → WasMaking inode op bytes
     unfolding op_on_done
     done_making next is = by_stage op.stage refl next
       where
-        by_stage : (stage : OpStage) → op.stage ≡ stage → done_at bytes op stage ≡ Some step → WasMaking inode op
+        by_stage : (stage : OpStage) → op.stage ≡ stage → done_at bytes op stage ≡ Some step → WasMaking inode op bytes
         by_stage (Asked entry) at next = absurd (cc (next))
         by_stage (Working of task) at next =
             created of task at

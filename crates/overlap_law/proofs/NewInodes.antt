@@ -1,12 +1,10 @@
 -- In the middle of a step of a run in range, an inode that a command creates next names none of its disk's own objects: a new disk has
 -- holes alone, one that takes the place of another has what that one had, and a clone has what it read of those above it. So, of ids that a
 -- test calls good, it names what is made.
-use Rattle.std.proofs.Common.{◌≡◌, ◌≢◌, ◌⊎◌, ⊎_elim, arith, ℕ, Bool, true, false, All, List, length, slice_index, Some, None, refl, sym, ap}
+use Rattle.std.proofs.Common.{◌≡◌, ◌≢◌, ◌⊎◌, ⊎_elim, arith, ℕ, Bool, true, false, All, List, length, slice_index, Some, refl, sym, ap}
 use Rattle.std.proofs.Common.{subst, ◌∙◌}
 use Rattle.std.specs.FinMap as tree
 use Rattle.std.proofs.lemmas.List.Elements.{All-replicate, All-weaker}
-use Rattle.proof_tools.proofs.FiniteMaps.{get-insert_same}
-use Rattle.object_id.specs.declared.oid.Vid.{Vid}
 use Rattle.object_id.specs.Oid.{IsVid, inode_number}
 use Rattle.object_id.specs.Spec.{objects_of}
 use Rattle.inode.specs.Layout.{Content, IsEntry, header_bytes, unread_zeros}
@@ -19,27 +17,20 @@ use Rattle.vdi_directory.specs.declared.effect.Effect.{Effect}
 use Rattle.vdi_directory.specs.declared.header.Header.{Header}
 use Rattle.vdi_directory.specs.Decisions.{log_effects}
 use Rattle.vdi_directory.specs.Effects.{header_of}
-use Rattle.peer_service.specs.LogReading.{decision_on}
 use Rattle.peer_service.specs.State.{effects_of}
 use Rattle.peer_proto.specs.declared.work.ObjWork.{ObjWork}
-use Rattle.guest_driver.specs.Driver.{Driver, begin_driver}
-use Rattle.vdi_ops.specs.InodeWorks.{create_inode, write_back}
-use Rattle.vdi_ops.specs.Op.{Opening, Working, Op}
+use Rattle.vdi_ops.specs.InodeWorks.{create_inode}
+use Rattle.vdi_ops.specs.Op.{Op}
 use Rattle.vdi_ops.specs.Kept.{IsInodeHeader}
 use Rattle.vdi_ops.specs.Tables.{holes, table_in, inode_by}
 use Rattle.vdi_ops.proofs.TableLemmas.{blank_fills, header_length}
-use Rattle.disk_check.specs.Check.{begin_check}
-use Rattle.sheep_node.specs.declared.course.Course.TheVariants.{Driving, Commanding, Checking}
+use Rattle.sheep_node.specs.declared.course.Course.TheVariants.{Commanding}
 use Rattle.sheep_node.specs.declared.event.Event.{Event}
 use Rattle.sheep_node.specs.declared.input.Input.{Input}
-use Rattle.sheep_node.specs.Changes.{EndsWork, Outcome, ToWork, RequestSteps}
-use Rattle.sheep_node.specs.Changes.{DiskBegins, DiskGoesOn, CommandBegins, CommandGoesOn, CommandDecided, CheckBegins, CheckGoesOn}
-use Rattle.sheep_node.specs.Changes.{ObjectBegins, ObjectIsDone, EntryBegins, EntryDecided}
-use Rattle.sheep_node.specs.Courses.{inode_open}
+use Rattle.sheep_node.specs.Changes.{EndsWork, ToWork, RequestSteps}
 use Rattle.sheep_node.specs.SoundWorks.{IsSoundStage}
 use Rattle.sheep_node.specs.State.{Node}
-use Rattle.sheep_node.specs.StepState.{StepState, session_in}
-use Rattle.sheep_node.proofs.ValidityChanges.{AnySent, course_valid}
+use Rattle.sheep_node.specs.StepState.{StepState}
 use Rattle.sheep_world.specs.NodeCauses.{input_of_cause}
 use Rattle.overlap_law.specs.MomentChanges.{MomentTrail, RunsAreInRange}
 use Rattle.overlap_law.specs.NamedWorks.{NamesWhatIsMade, NewInodesNameWhatIsMade, AboveIsGood}
@@ -50,19 +41,17 @@ use Rattle.overlap_law.specs.Tables.{StandsFor, EntriesAreMade, TablesAreMade}
 use Rattle.overlap_law.specs.ToDo.{entry_made}
 use Rattle.overlap_law.proofs.CausedWorks.{no_object}
 use Rattle.overlap_law.proofs.ChainTables.{IsOtherId, at_index}
-use Rattle.overlap_law.proofs.CommandWorks.{command_act, check_act}
 use Rattle.overlap_law.proofs.CreatedEntries.{created_at, created_entry}
 use Rattle.overlap_law.proofs.DriverEntries.{names_none}
-use Rattle.overlap_law.proofs.KnownDisks.{known_validity}
 use Rattle.overlap_law.proofs.KnownDiskSteps.{effects_after}
 use Rattle.overlap_law.proofs.KnownTables.{table_so}
 use Rattle.overlap_law.proofs.NewEntries.{EntriesStand, tagged_stand, copied_stand}
 use Rattle.overlap_law.proofs.OpeningReads.{knows_well, knows_tables, knows_read, knows_headers}
-use Rattle.overlap_law.proofs.OtherWorks.{HasNone, begins_with_entry, IsOfDecision, ReadsIt, CreatesIt, TagsIt, IsOfTask, Tagged, Copied}
-use Rattle.overlap_law.proofs.OtherWorks.{decided_work, done_work, check_begins_none, check_goes_none}
+use Rattle.overlap_law.proofs.OtherWorks.{IsOfTask, Tagged, Copied}
 use Rattle.overlap_law.proofs.ReadCommands.{IsTabledStage}
 use Rattle.overlap_law.proofs.WrittenBack.{header_long}
-use Rattle.overlap_law.proofs.KnownDrivers.{on_known}
+use Rattle.overlap_law.proofs.StepsToWorks.{IsNotDriven, IsOfOther, WithoutEntry, TaskCreates, TaskWritesBack, DecisionCreates}
+use Rattle.overlap_law.proofs.StepsToWorks.{comes_to_other}
 
 -- no id
 abbrev pub no_id : ℕ → Bool
@@ -133,9 +122,6 @@ module _ (script : List Statement) (range : RunsAreInRange script) (events : Lis
       EntriesStand (log_effects (moment_in_step script on start so_far).world.log) good_id
       (moment_in_step script on start so_far).past.attempts so_far.node.peer.epoch
 
-  no_entry : (work : ObjWork) → HasNone work → Names work
-  no_entry work none = names_none (log_effects here.world.log) good_id here.past.attempts so_far.node.peer.epoch work none
-
   names_inode : (inode : Content) → NamesNoOwn inode → Stand inode → Names (create_inode inode)
   names_inode inode names stand = record {
     each = λ vid index has good some.
@@ -195,50 +181,25 @@ module _ (script : List Statement) (range : RunsAreInRange script) (events : Lis
         (copied_stand script range events start ran on is by so_far leads trail good_id above_good session req number done attempt status op
         bytes ends vid ids header at live calls entries_made)
 
-    decided : (op : Op) → effects_of so_far.node.peer ≡ known
-        → IsOfDecision (effects_of so_far.node.peer) (inode_open (session_in session so_far).disk) op work → Names work
-    decided op read (ReadsIt vid spec same) = absurd (cc (same))
-    decided op read (CreatesIt vid header there same) =
-        let sound = knows_headers script range events start ran on is by so_far leads trail vid.0 header
-        (ap (λ (effects : List Effect). header_of effects vid.0) (sym read) ∙ there) in
-        subst Names (sym same) (names_inode (inode_by header vid.0 (holes header.spec)) (new_names header vid.0 sound.id sound.of_inode)
-        (new_stands header vid.0))
-    decided op read (TagsIt old from number name tag opened at same) = absurd (cc (same))
+    by_case : IsOfOther (input_of_cause on.cause) on.host.node so_far session req (create_inode inode) → Names (create_inode inode)
+    by_case (WithoutEntry none) =
+        names_none (log_effects here.world.log) good_id here.past.attempts so_far.node.peer.epoch work none
+    by_case (TaskCreates number done attempt status bytes op ends made same of) =
+        subst Names (sym same) (names_inode made (of_task op bytes made ends.ends.request of)
+        (task_stands number done attempt status op bytes made ends of))
+    by_case (TaskWritesBack number done attempt status bytes op ends vid ids header at same) = absurd (cc (same))
+    by_case (DecisionCreates entry op from read waits creates) =
+        let so = ap effects_of read ∙ knows_read script range events start ran on is by so_far leads trail entry from in
+        let sound = knows_headers script range events start ran on is by so_far leads trail creates.vid.0 creates.header
+        (ap (λ (effects : List Effect). header_of effects creates.vid.0) (sym so) ∙ creates.there) in
+        subst Names (sym creates.same) (names_inode (inode_by creates.header creates.vid.0 (holes creates.header.spec))
+        (new_names creates.header creates.vid.0 sound.id sound.of_inode) (new_stands creates.header creates.vid.0))
 
-    steps_name : (next : Outcome) (moved : StepState) → RequestSteps input node so_far session req next moved → next ≡ ToWork work
-        → ((driver : Driver) → tree.get moved.node.requests req ≢ Some (record { session = session; course = Driving driver })) → Names work
-    steps_name next moved (DiskBegins ask disk there at may) to apart =
-        absurd (apart (begin_driver disk ask).driver
-        (get-insert_same so_far.node.requests req (record { session = session; course = Driving (begin_driver disk ask).driver })))
-    steps_name next moved (DiskGoesOn number done attempt status bytes driver disk step ends at goes) to apart =
-        absurd (apart step.driver
-        (get-insert_same so_far.node.requests req (record { session = session; course = Driving step.driver })))
-    steps_name next moved (CommandBegins ask step arrival goes) to apart =
-        absurd (begins_with_entry so_far.node.me session ask (inode_open (session_in session so_far).disk) step goes work
-        (command_act step.act work to))
-    steps_name next moved (CommandGoesOn number done attempt status bytes op step ends goes) to apart = ⊎_elim
-        (λ (creates : (made : Content) × (work ≡ create_inode made) × IsOfTask op bytes made).
-        subst Names (sym creates.1) (names_inode creates.0 (of_task op bytes creates.0 ends.ends.request creates.2)
-        (task_stands number done attempt status op bytes creates.0 ends creates.2)))
-        (λ (writes : (vid : Vid) × (ids : List ℕ) × (header : Header) × (op.stage ≡ Working vid (Opening false ids header))
-        × (work ≡ write_back (inode_by header vid.0 (table_in ids header.spec bytes)) bytes)).
-        let same = writes.4 in absurd (cc (same)))
-        (done_work None op step work (command_act step.act work to) bytes goes)
-    steps_name next moved (CommandDecided entry op step from read there waits goes) to apart =
-        decided op (ap effects_of read ∙ knows_read script range events start ran on is by so_far leads trail entry from)
-        (decided_work (inode_open (session_in session so_far).disk) op step work (command_act step.act work to)
-        (effects_of so_far.node.peer) (decision_on entry node.peer) goes)
-    steps_name next moved (CheckBegins opened arrival at) to apart =
-        no_entry work (check_begins_none opened work (check_act (begin_check opened).act work to))
-    steps_name next moved (CheckGoesOn number done attempt status bytes check step ends goes) to apart =
-        let of_known = course_valid (known_validity known) AnySent session req (Checking check) so_far ends.ends.request
-        (on_known script range events start ran on is by so_far leads trail) in
-        no_entry work (check_goes_none bytes check step work goes (check_act step.act work to) of_known.disk.id of_known.within)
-    steps_name next moved (ObjectBegins one arrival) to apart =
-        absurd (no_object script start.world on.n on.host on.cause is.caused req session one arrival.from)
-    steps_name next moved (ObjectIsDone number done attempt status bytes one ends) to apart = absurd (cc (to))
-    steps_name next moved (EntryBegins entry arrival) to apart = absurd (cc (to))
-    steps_name next moved (EntryDecided entry awaited from read there waits) to apart = absurd (cc (to))
+    steps_name : (moved : StepState) → RequestSteps (input_of_cause on.cause) on.host.node so_far session req (ToWork work) moved
+        → IsNotDriven session req moved → Names work
+    steps_name moved steps apart =
+        by_case (comes_to_other so_far (knows_well script range events start ran on is by so_far leads trail)
+        (no_object script start.world on.n on.host on.cause is.caused) session req work moved steps apart)
 
 -- ---- every moment in the middle of a step
 
@@ -257,7 +218,7 @@ inodes_name script range events start before ran trail live good_id calls above_
     (subst (λ (m : MomentWithPast). AboveIsGood (log_effects m.world.log) good_id) same above_good)
     (subst (λ (m : MomentWithPast). EntriesAreMade (log_effects m.world.log) live good_id m.past.attempts) same entries_made)
     (subst (λ (m : MomentWithPast). TablesAreMade (log_effects m.world.log) good_id m.world.hosts m.past.attempts) same tables_made)
-    session req inode (ToWork (create_inode inode)) moved steps refl apart)
+    session req inode moved steps apart)
 
 -- of no id nothing is asked before
 pub inodes_name_own : (script : List Statement) → RunsAreInRange script → (events : List Event) (start before : MomentWithPast)

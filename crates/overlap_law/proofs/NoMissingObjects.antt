@@ -53,7 +53,7 @@ use Rattle.overlap_law.proofs.StartedOnce.{once-in_run}
 
 -- ---- what was there and available
 
-live_stands : (state : VdiState) → is_live_state state ≡ true → is_gone state ≡ false
+pub live_stands : (state : VdiState) → is_live_state state ≡ true → is_gone state ≡ false
 live_stands States.Unused live = absurd (cc (live))
 live_stands (States.Reserved by) live = absurd (cc (live))
 live_stands States.Working live = refl

@@ -4,13 +4,11 @@ use Rattle.std.specs.Ordering.{nat_cmp}
 use Rattle.std.specs.FinMap as tree
 use Rattle.std.proofs.lemmas.Bool.{cases_eq}
 use Rattle.proof_tools.proofs.FiniteMaps.{get-insert_same, get-insert_other, get-insert_cases, get-remove_same, get-remove_other}
-use Rattle.object_id.specs.declared.cause.Cause.TheVariants.{Halt}
 use Rattle.object_id.specs.declared.entry.Entry.{Entry}
 use Rattle.peer_proto.specs.declared.guest.GuestRsp.{GuestRsp}
 use Rattle.peer_service.specs.LogReading.{decision_on}
 use Rattle.peer_service.specs.State.{effects_of}
 use Rattle.gateway.specs.State.{Work}
-use Rattle.gateway.specs.Work.{zones_for}
 use Rattle.gateway.specs.declared.message.Status.{Status}
 use Rattle.guest_driver.specs.declared.disk.Disk.{Disk}
 use Rattle.guest_driver.specs.Driver as drivers
@@ -25,11 +23,9 @@ use Rattle.sheep_node.specs.declared.course.Course.TheVariants.{Waiting, Driving
 use Rattle.sheep_node.specs.State.{Node, new_session}
 use Rattle.sheep_node.specs.StepState.{StepState, at_first, session_in, request_ended}
 use Rattle.sheep_node.specs.Courses.{disk_after, after_driver_step, after_command_step}
-use Rattle.sheep_node.specs.Changes as changes
-use Rattle.sheep_node.specs.Changes.{Outcome, ToWork, ToEntry, ToReply, without_ended_work, without_denied_work, zones_of_members, input_received, RequestSteps, DiskBegins, DiskGoesOn, CommandBegins, CommandGoesOn, CommandDecided, CheckBegins, CheckGoesOn, ObjectBegins, ObjectIsDone, EntryBegins, EntryDecided, WorkIsNext, AtOnce, InTurn, Again, AgainAlone, Change, Leads}
+use Rattle.sheep_node.specs.Changes.{Outcome, without_ended_work, input_received, RequestSteps, DiskBegins, DiskGoesOn, CommandBegins, CommandGoesOn, CommandDecided, CheckBegins, CheckGoesOn, ObjectBegins, ObjectIsDone, EntryBegins, EntryDecided, WorkIsNext, Change, Leads}
 use Rattle.sheep_node.proofs.QueueChanges.{same_view}
 use Rattle.sheep_node.proofs.ReceivedInputs.{received_keeps}
-use Rattle.sheep_node.proofs.RefusedCourses.{course_refused-keeps, request_refused-keeps}
 use Rattle.sheep_node.proofs.StepChain.{kept_by_chain}
 use Rattle.sheep_node.proofs.WantedSteps.{IsWantedStep, driver_begins-wanted, driver_goes_on-wanted}
 use Rattle.overlap_law.specs.CommandDisks.{opened_as, opened_in, IsOpenAtStage, IsOpenAtCourse}
@@ -37,6 +33,9 @@ use Rattle.overlap_law.proofs.AwaitedChanges.{Requests, AreAwaitedSoFar}
 use Rattle.overlap_law.proofs.AwaitedCommands.{is_command}
 use Rattle.overlap_law.proofs.AwaitedSteps.{entry_of_input, MeetsCommands, change_awaited}
 use Rattle.overlap_law.proofs.OpenCommands.{begins_open, goes_on_open, decided_open, left_open}
+use Rattle.overlap_law.proofs.ChangeWalk.{IsKeptByParts, kept_by_steps, next_holds, change_holds}
+use Rattle.guest_driver.specs.InodeQueue.{InodeQueue}
+use Rattle.sheep_node.specs.SessionQueues.{session_among}
 
 abbrev Sessions : Type 0
 Sessions = tree.FinMap nat_cmp Session
@@ -72,6 +71,12 @@ pub one_alike : (requests : Requests) (sessions : Sessions) (number : ℕ) (sess
     → AreOpenSo requests sessions → AreOpenSo requests (tree.insert sessions number session)
 one_alike requests sessions number session same =
     alike_open requests sessions (tree.insert sessions number session) (same_view (λ (s : Session). opened_as s.disk) sessions number session same)
+
+-- its line of works
+lined_open : (requests : Requests) (sessions : Sessions) (number : ℕ) (queue : InodeQueue) → AreOpenSo requests sessions
+    → AreOpenSo requests (tree.insert sessions number (record (session_among number sessions) { inode_queue = queue }))
+lined_open requests sessions number queue =
+    one_alike requests sessions number (record (session_among number sessions) { inode_queue = queue }) refl
 
 -- ---- a request is put anew, or goes
 
@@ -192,38 +197,21 @@ module _ (read unread : List Entry) (input : Input) (node : Node) (meets : Meets
   steps_open so_far session req next moved (EntryBegins entry arrival) so all = sole_open session req (AwaitingDecision entry) so_far refl all
   steps_open so_far session req next moved (EntryDecided entry wanted from peer there waits) so all = all
 
+  parts : (so_far : StepState) → Is so_far → AreOpenSoFar so_far → IsKeptByParts AreOpenSo lined_open input node so_far
+  parts so_far so all =
+      kept_by_steps AreOpenSo lined_open so_far
+      (λ session req outcome moved takes. steps_open so_far session req outcome moved takes so all) ended_open
+      (λ session req ask disk arrival on.
+      one_alike (tree.insert so_far.node.requests req (record { session = session; course = Waiting ask })) so_far.node.sessions session _
+      refl (put_open so_far.node.requests so_far.node.sessions req session (Waiting ask) tt all))
+
   pub next_open : (so_far : StepState) (session req : ℕ) (asked : Work) (lined : StepState) → WorkIsNext input node so_far session req asked lined → Is so_far
       → AreOpenSoFar so_far → AreOpenSoFar lined
-  next_open so_far session req asked lined (AtOnce work moved steps begins) so all =
-      one_alike moved.node.requests moved.node.sessions session _ refl (steps_open so_far session req (ToWork work) moved steps so all)
-  next_open so_far session req asked lined (InTurn work later none is) so all = one_alike so_far.node.requests so_far.node.sessions session _ refl all
-  next_open so_far session req asked lined (Again work course from next there request) so all = all
-  next_open so_far session req asked lined (AgainAlone work from next there none) so all = all
+  next_open so_far session req asked lined comes so all =
+      next_holds AreOpenSo lined_open so_far (parts so_far so all) all session req asked lined comes
 
   pub change_open : (so_far next : StepState) → Change input node so_far next → Is so_far → AreOpenSoFar so_far → AreOpenSoFar next
-  change_open so_far next (changes.Marks req number work attempt status learns over) so all = all
-  change_open so_far next (changes.Fails session req number work attempt status course ends done why) so all = all
-  change_open so_far next (changes.Stops session req number work attempt status course bytes ends over) so all = freed_open session req work status so_far all
-  change_open so_far next (changes.Refuses session req number work attempt status course cause ends done why) so all =
-      course_refused-keeps AreOpenSoFar ended_open (λ entry before now. now) session req cause course (without_ended_work session req work status so_far)
-      (freed_open session req work status so_far all)
-  change_open so_far next (changes.Opens session req asked lined comes short) so all = next_open so_far session req asked lined comes so all
-  change_open so_far next (changes.Holds session req asked lined comes short touched) so all = next_open so_far session req asked lined comes so all
-  change_open so_far next (changes.Denies session req asked lined request comes short untouched there own) so all =
-      request_refused-keeps AreOpenSoFar ended_open (λ entry before now. now) req (Halt (zones_of_members lined.node) (zones_for asked.work)) request
-      (without_denied_work session req asked lined)
-      (one_alike lined.node.requests lined.node.sessions session _ refl (next_open so_far session req asked lined comes so all))
-  change_open so_far next (changes.Strays req work gateway there none apart) so all = all
-  change_open so_far next (changes.Lines session req work moved steps waits) so all =
-      one_alike moved.node.requests moved.node.sessions session _ refl (steps_open so_far session req (ToWork work) moved steps so all)
-  change_open so_far next (changes.Appends session req entry moved steps) so all = steps_open so_far session req (ToEntry entry) moved steps so all
-  change_open so_far next (changes.Replies session req reply moved steps) so all =
-      ended_open session req reply moved (steps_open so_far session req (ToReply reply) moved steps so all)
-  change_open so_far next (changes.Arrives session req ask disk arrival on) so all =
-      one_alike (tree.insert so_far.node.requests req (record { session = session; course = Waiting ask })) so_far.node.sessions session _ refl
-      (put_open so_far.node.requests so_far.node.sessions req session (Waiting ask) tt all)
-  change_open so_far next (changes.Rejects session req ask cause arrival) so all = all
-  change_open so_far next (changes.Recovers due) so all = all
+  change_open so_far next change so all = change_holds AreOpenSo lined_open so_far (parts so_far so all) all next change
 
   pub chain_open : {first so_far : StepState} → Leads input node first so_far → Is first → AreOpenSoFar first → AreOpenSoFar so_far
   chain_open leads so all =

@@ -30,17 +30,13 @@ use Rattle.overlap_law.specs.Reached.{Hosts}
 use Rattle.overlap_law.specs.StepMoments.{SteppingNode, IsStepping, StepsByChanges, LeadsInStep, first_in_step, hosts_in_step}
 use Rattle.overlap_law.specs.Tables.{IsOfChain}
 use Rattle.overlap_law.specs.WholeTables.{TablesAreWhole}
-use Rattle.overlap_law.proofs.CausedWorks.{by_changes, no_object}
 use Rattle.overlap_law.proofs.ChainTables.{HasChainTable, at_index, above_later}
 use Rattle.overlap_law.proofs.GrantedEpochs.{spec_stays}
-use Rattle.overlap_law.proofs.KnownDiskSteps.{effects_after}
-use Rattle.overlap_law.proofs.KnownDisksInRuns.{caused_known, nodes_know}
 use Rattle.overlap_law.proofs.LogsInMoments.{log_by_changes}
 use Rattle.overlap_law.proofs.NoRecoveredDue.{began-with_past}
-use Rattle.overlap_law.proofs.PlacesTaken.{places_taken}
-use Rattle.overlap_law.proofs.WholeInRuns.{sound_here, named, may_change, nodes_whole}
+use Rattle.overlap_law.proofs.StepsInRuns.{knows_tables}
+use Rattle.overlap_law.proofs.WholeInRuns.{nodes_whole}
 use Rattle.overlap_law.proofs.WholeNodes.{AreWholeOn, whole_grows}
-use Rattle.overlap_law.proofs.WholeSteps.{tables_so_far}
 
 -- the works of each node are whole by the log
 abbrev pub AreWholeBy : List Entry → Hosts → Type 0
@@ -72,18 +68,7 @@ module _ (script : List Statement) (range : RunsAreInRange script) where
       read = read_after (input_of_cause stepping.cause) node.peer.entries
 
       own_so_far : AreWholeOn (log_effects read) so_far.node
-      own_so_far =
-          tables_so_far (input_of_cause stepping.cause) node
-          (may_change script range start.world began stepping.n stepping.host is.there is.up stepping.cause (by_changes stepping.cause by)
-          is.caused)
-          (named script range start.world began stepping.n stepping.host is.there is.up stepping.cause is.caused)
-          (sound_here script range start.world began stepping.n stepping.host is.there is.up)
-          (caused_known script range.is_script (effects_after (input_of_cause stepping.cause) node) start.world stepping.n stepping.host
-          stepping.cause is.caused)
-          (no_object script start.world stepping.n stepping.host stepping.cause is.caused)
-          (nodes_know script range start.world began stepping.n stepping.host is.there)
-          (places_taken script range start.world began stepping.n stepping.host is.there is.up stepping.cause is.caused)
-          (nodes_whole script range start.world began stepping.n stepping.host is.there) so_far leads
+      own_so_far = knows_tables script range start began stepping is by so_far leads
 
       -- by the log then
       own_then : AreWholeOn (log_effects (log_after_cause stepping.cause start.world.log)) so_far.node

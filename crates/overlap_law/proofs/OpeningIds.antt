@@ -64,8 +64,8 @@ module _ (vid : Vid) (snapshot : Bool) (ids : List ℕ) (header : Header) where
   abbrev IsAtOpening : OpStage → Type 0
   IsAtOpening stage = stage ≡ Working vid (Opening snapshot ids header)
 
-  abbrev NeverCame : Op → Type 0
-  NeverCame op = ⊥
+  abbrev NeverCame : Op → List ℕ → Type 0
+  NeverCame op bytes = ⊥
 
   -- the ids are those that the node knows of, as the lock is granted that was asked for
   record IsOfKnown (known : List Effect) (op : Op) (decision : Decision) : Type 0 where

@@ -74,24 +74,21 @@ use Rattle.overlap_law.specs.StepMoments.{SteppingNode, IsStepping, StepsByChang
 use Rattle.overlap_law.specs.Tables.{entry_unit, entry_by, OwnEntriesAreMade}
 use Rattle.overlap_law.specs.ToldPieces.{IsUnansweredOf, offset_read, IsPieceOfAttempts}
 use Rattle.overlap_law.specs.Units.{unit_start, unit_size, bytes_by, covers_unit}
-use Rattle.overlap_law.proofs.CausedWorks.{by_changes, no_object}
 use Rattle.overlap_law.proofs.ClaimsInRuns.{up_not_lost}
 use Rattle.overlap_law.proofs.CopyUnits.{whole_part}
 use Rattle.overlap_law.proofs.EntryWrites.{entry_start, entry_size}
 use Rattle.overlap_law.proofs.CreatedStays.{created-by}
 use Rattle.overlap_law.proofs.DoneWorks.{wanted, bytes_long}
 use Rattle.overlap_law.proofs.KnownDisks.{kind-of_inode, vid-of_inode}
-use Rattle.overlap_law.proofs.KnownDisksInRuns.{caused_known, nodes_know}
 use Rattle.overlap_law.proofs.KnownDiskSteps.{effects_after}
 use Rattle.overlap_law.proofs.KnownSteps.{IsKnownStep, together, known_step}
 use Rattle.overlap_law.proofs.OpenStatuses.{WasMessage, IsNewMessage, known_so_far}
 use Rattle.overlap_law.proofs.OverlapLemmas.{filter-passed}
-use Rattle.overlap_law.proofs.PlacesTaken.{places_taken}
+use Rattle.overlap_law.proofs.StepsInRuns as steps
 use Rattle.overlap_law.proofs.NoRecoveredDue.{began-with_past}
 use Rattle.overlap_law.proofs.ToldPieces.{IsToldPiece, ReadsAreTold, piece_stays, reads-on_the_way}
-use Rattle.overlap_law.proofs.WholeInRuns.{sound_here, named, may_change, nodes_whole}
 use Rattle.overlap_law.proofs.WholeNodes.{AreWholeOn}
-use Rattle.overlap_law.proofs.WholeSteps.{IsWellKnown, well, tables_so_far, read_so, headers_after}
+use Rattle.overlap_law.proofs.WholeSteps.{IsWellKnown}
 use Rattle.sheep_node.proofs.SoundCommands.{HeadersAreSound}
 use Rattle.sheep_node.specs.LogReading.{entry_read as log_entry_read}
 use Rattle.overlap_law.proofs.DoneReads.{AwaitedAt, awaited_at, only_one, marked_one, inode_gives, inode_whole, piece_told, number_in_piece}
@@ -146,57 +143,17 @@ module _ (script : List Statement) (range : RunsAreInRange script) (events : Lis
   here_up = up_not_lost script range stepping.host is.up
 
   pub knows_well : IsWellKnown known input node so_far
-  knows_well =
-      well input node
-      (may_change script range start.world began stepping.n stepping.host is.there is.up stepping.cause (by_changes stepping.cause by)
-      is.caused)
-      (named script range start.world began stepping.n stepping.host is.there is.up stepping.cause is.caused)
-      (sound_here script range start.world began stepping.n stepping.host is.there is.up)
-      (caused_known script range.is_script known start.world stepping.n stepping.host stepping.cause is.caused)
-      (no_object script start.world stepping.n stepping.host stepping.cause is.caused)
-      (nodes_know script range start.world began stepping.n stepping.host is.there)
-      (places_taken script range start.world began stepping.n stepping.host is.there is.up stepping.cause is.caused)
-      (nodes_whole script range start.world began stepping.n stepping.host is.there) so_far leads
+  knows_well = steps.knows_well script range start began stepping is by so_far leads
 
   -- the tables of its commands are those of their disks, of what it knows then
   pub knows_tables : AreWholeOn known so_far.node
-  knows_tables =
-      tables_so_far input node
-      (may_change script range start.world began stepping.n stepping.host is.there is.up stepping.cause (by_changes stepping.cause by)
-      is.caused)
-      (named script range start.world began stepping.n stepping.host is.there is.up stepping.cause is.caused)
-      (sound_here script range start.world began stepping.n stepping.host is.there is.up)
-      (caused_known script range.is_script known start.world stepping.n stepping.host stepping.cause is.caused)
-      (no_object script start.world stepping.n stepping.host stepping.cause is.caused)
-      (nodes_know script range start.world began stepping.n stepping.host is.there)
-      (places_taken script range start.world began stepping.n stepping.host is.there is.up stepping.cause is.caused)
-      (nodes_whole script range start.world began stepping.n stepping.host is.there) so_far leads
+  knows_tables = steps.knows_tables script range start began stepping is by so_far leads
 
   pub knows_read : (entry : Entry) → input ≡ inputs.LogEntry entry → effects_of (log_entry_read entry node).peer ≡ known
-  knows_read =
-      read_so input node
-      (may_change script range start.world began stepping.n stepping.host is.there is.up stepping.cause (by_changes stepping.cause by)
-      is.caused)
-      (named script range start.world began stepping.n stepping.host is.there is.up stepping.cause is.caused)
-      (sound_here script range start.world began stepping.n stepping.host is.there is.up)
-      (caused_known script range.is_script known start.world stepping.n stepping.host stepping.cause is.caused)
-      (no_object script start.world stepping.n stepping.host stepping.cause is.caused)
-      (nodes_know script range start.world began stepping.n stepping.host is.there)
-      (places_taken script range start.world began stepping.n stepping.host is.there is.up stepping.cause is.caused)
-      (nodes_whole script range start.world began stepping.n stepping.host is.there)
+  knows_read = steps.knows_read script range start began stepping is by
 
   pub knows_headers : HeadersAreSound known
-  knows_headers =
-      headers_after input node
-      (may_change script range start.world began stepping.n stepping.host is.there is.up stepping.cause (by_changes stepping.cause by)
-      is.caused)
-      (named script range start.world began stepping.n stepping.host is.there is.up stepping.cause is.caused)
-      (sound_here script range start.world began stepping.n stepping.host is.there is.up)
-      (caused_known script range.is_script known start.world stepping.n stepping.host stepping.cause is.caused)
-      (no_object script start.world stepping.n stepping.host stepping.cause is.caused)
-      (nodes_know script range start.world began stepping.n stepping.host is.there)
-      (places_taken script range start.world began stepping.n stepping.host is.there is.up stepping.cause is.caused)
-      (nodes_whole script range start.world began stepping.n stepping.host is.there)
+  knows_headers = steps.knows_headers script range start began stepping is by
 
   -- what the step is told of a message is a reply in the wire at its beginning
   pub told_reply : (cause : NodeCause) → IsCause script start.world stepping.n stepping.host cause → (number : ℕ) (bytes : List ℕ)
@@ -223,16 +180,16 @@ module _ (script : List Statement) (range : RunsAreInRange script) (events : Lis
   told_reply WorkIsRetried so number bytes some told = absurd told
 
   -- the message was unanswered at the beginning too
-  record WasAwaitedAtFirst (req number : ℕ) (work : Work) : Type 0 where
-    first : Work
-    current : gateways.Attempt
-    place : ℕ
-    message : Message
-    of : IsUnansweredOf node.gateway.works req first current place message
-    number_so : message.number ≡ number
-    work_so : work.work ≡ first.work
+  pub record WasAwaitedAtFirst (req number : ℕ) (work : Work) : Type 0 where
+    pub first : Work
+    pub current : gateways.Attempt
+    pub place : ℕ
+    pub message : Message
+    pub of : IsUnansweredOf node.gateway.works req first current place message
+    pub number_so : message.number ≡ number
+    pub work_so : work.work ≡ first.work
 
-  awaited_at_first : (req place : ℕ) (work : Work) (current : gateways.Attempt) (m : Message)
+  pub awaited_at_first : (req place : ℕ) (work : Work) (current : gateways.Attempt) (m : Message)
       → IsUnansweredOf so_far.node.gateway.works req work current place m → m.number < node.sends → WasAwaitedAtFirst req m.number work
   awaited_at_first req place work current m of below = ⊎_elim
       (λ (old : WasMessage input node req work current place m). ⊎_elim

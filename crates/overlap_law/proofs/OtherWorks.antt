@@ -39,7 +39,7 @@ use Rattle.vdi_ops.specs.Steps.{task_done, done_at, op_on_done}
 use Rattle.vdi_ops.specs.Tables.{holes, table_in, inode_by}
 use Rattle.disk_check.specs.Check.{Check, CheckStage, CheckStep, Comparing, check_on, begun_check, begin_check, check_done_at}
 use Rattle.disk_check.specs.Check.{check_on_done}
-use Rattle.disk_check.specs.Check.{read_copies, write_value, left_of}
+use Rattle.disk_check.specs.Check.{read_copies, left_of}
 use Rattle.disk_check.specs.Check as checks
 use Rattle.disk_check.specs.Table.{own_indexes}
 use Rattle.disk_check.specs.declared.act.CheckAct.{CheckAct}
@@ -89,15 +89,29 @@ begins_with_entry by session ask disk step next work = by_entry (first_entry by 
     by_entry (Some entry) is act =
         let same = ap (λ (s : OpStep). s.act) (same_Some (first_step by session entry) step is) in cc (same, act)
 
--- what it asks for as its entry is decided: it reads an inode, creates one, or writes the tag that was asked for to the open one
-pub data IsOfDecision (known : List Effect) (disk : Option Content) (op : Op) (work : ObjWork) : Type 0 where
-  ReadsIt : (vid : ℕ) (spec : VdiSpec) → work ≡ read_inode vid spec → IsOfDecision known disk op work
-  CreatesIt : (vid : Vid) (header : Header) → header_of known vid.0 ≡ Some header
-      → work ≡ create_inode (inode_by header vid.0 (holes header.spec)) → IsOfDecision known disk op work
-  TagsIt : (inode : Content) (by : NodeId) (session : ℕ) (name tag : List ℕ) → disk ≡ Some inode
-      → op.stage ≡ Asked (entries.Reserve by session name (SnapshotOf tag)) → work ≡ write_tag inode tag → IsOfDecision known disk op work
+-- it creates a disk as it is granted its id
+pub record CreatesDisk (known : List Effect) (decision : Decision) (op : Op) (work : ObjWork) : Type 0 where
+  pub by : NodeId
+  pub session : ℕ
+  pub name : List ℕ
+  pub spec : VdiSpec
+  pub vid : Vid
+  pub header : Header
+  pub asked : op.stage ≡ Asked (entries.Reserve by session name (Fresh spec))
+  pub granted : decision ≡ decisions.Granted vid
+  pub there : header_of known vid.0 ≡ Some header
+  pub same : work ≡ create_inode (inode_by header vid.0 (holes header.spec))
 
--- an inode is the one that was to be created as its task is done: that of a disk that was taken the place of, or with the table that was read
+-- what it asks for as its entry is decided: it reads an inode, creates one, or writes the tag that was asked for to the open one
+pub data IsOfDecision (known : List Effect) (disk : Option Content) (decision : Decision) (op : Op) (work : ObjWork) : Type 0 where
+  ReadsIt : (vid : ℕ) (spec : VdiSpec) → work ≡ read_inode vid spec → IsOfDecision known disk decision op work
+  CreatesIt : CreatesDisk known decision op work → IsOfDecision known disk decision op work
+  TagsIt : (inode : Content) (by : NodeId) (session : ℕ) (name tag : List ℕ) → disk ≡ Some inode
+      → op.stage ≡ Asked (entries.Reserve by session name (SnapshotOf tag)) → work ≡ write_tag inode tag
+      → IsOfDecision known disk decision op work
+
+-- an inode is the one that was to be created as its task is done: that of a disk that was taken the place of, or with the table that was
+-- read
 pub data IsOfTask (op : Op) (bytes : List ℕ) (inode : Content) : Type 0 where
   Tagged : (vid old : Vid) → op.stage ≡ Working vid (Tagging old inode) → IsOfTask op bytes inode
   Copied : (vid : Vid) (ids : List ℕ) (header : Header) → op.stage ≡ Working vid (Copying ids header)
@@ -105,8 +119,9 @@ pub data IsOfTask (op : Op) (bytes : List ℕ) (inode : Content) : Type 0 where
 
 -- and as its work is done: it creates an inode, or writes back what it read
 abbrev pub WritesBackOrCreates : Op → ObjWork → List ℕ → Type 0
-WritesBackOrCreates op work bytes = ((inode : Content) × (work ≡ create_inode inode) × IsOfTask op bytes inode) ⊎ ((vid : Vid) × (ids : List ℕ) × (header : Header)
-    × (op.stage ≡ Working vid (Opening false ids header))
+WritesBackOrCreates op work bytes =
+    ((inode : Content) × (work ≡ create_inode inode) × IsOfTask op bytes inode)
+    ⊎ ((vid : Vid) × (ids : List ℕ) × (header : Header) × (op.stage ≡ Working vid (Opening false ids header))
     × (work ≡ write_back (inode_by header vid.0 (table_in ids header.spec bytes)) bytes))
 
 module _ (disk : Option Content) (op : Op) (step : OpStep) (work : ObjWork) (act : step.act ≡ op_acts.Work work) where
@@ -118,58 +133,73 @@ module _ (disk : Option Content) (op : Op) (step : OpStep) (work : ObjWork) (act
   no_work : {P : Type 0} (one : OpStep) → Some one ≡ Some step → (one.act ≢ op_acts.Work work) → P
   no_work one is never = absurd (never (ap (λ (s : OpStep). s.act) (same_Some one step is) ∙ act))
 
-  of_grant : (known : List Effect) (vid : Vid) (chain : List ℕ) (entry : Entry) (header : Header) → header_of known vid.0 ≡ Some header
-      → op.stage ≡ Asked entry → step_after_grant op vid chain disk entry header ≡ Some step → IsOfDecision known disk op work
-  of_grant known vid chain (entries.Format members) header there at is = absurd (cc (is))
-  of_grant known vid chain (entries.Join node zone vnodes) header there at is = absurd (cc (is))
-  of_grant known vid chain (entries.Leave node) header there at is = absurd (cc (is))
-  of_grant known vid chain (entries.Reweight node vnodes) header there at is = absurd (cc (is))
-  of_grant known vid chain (entries.Recovered node epoch) header there at is = absurd (cc (is))
-  of_grant known vid chain (entries.Reserve by session name (Fresh spec)) header there at is =
-      CreatesIt vid header there (of_step _ is (create_inode (inode_by header vid.0 (holes header.spec))) refl)
-  of_grant known vid chain (entries.Reserve by session name (SnapshotOf tag)) header there at is = by_disk disk refl is
-    where
-      by_disk : (o : Option Content) → disk ≡ o → option_map (tag_step op vid tag header) o ≡ Some step
-          → IsOfDecision known disk op work
-      by_disk None on is = absurd (cc (is))
-      by_disk (Some inode) on is = TagsIt inode by session name tag on at (of_step (tag_step op vid tag header inode) is
-          (write_tag inode tag) refl)
-  of_grant known vid chain (entries.Reserve by session name (CloneOf base tag)) header there at is = by_parent header.parent is
-    where
-      by_parent : (o : Option Vid) → option_map (copy_step op vid chain header) o ≡ Some step → IsOfDecision known disk op work
-      by_parent None is = absurd (cc (is))
-      by_parent (Some parent) is =
-          ReadsIt parent.0 header.spec (of_step (copy_step op vid chain header parent) is (read_inode parent.0 header.spec) refl)
-  of_grant known vid chain (entries.Publish by id) header there at is = absurd (cc (is))
-  of_grant known vid chain (entries.Clone by id) header there at is = absurd (cc (is))
-  of_grant known vid chain (entries.Snapshot by old id) header there at is = absurd (cc (is))
-  of_grant known vid chain (entries.Delete by session name tag) header there at is = no_work _ is (λ same. cc (same))
-  of_grant known vid chain (entries.Lock by session name tag) header there at is = ReadsIt vid.0 header.spec (of_step _ is
-      (read_inode vid.0 header.spec) refl)
-  of_grant known vid chain (entries.Unlock by session id) header there at is = no_work _ is (λ same. cc (same))
+  module _ (known : List Effect) (decision : Decision) where
+    abbrev Decides : Type 0
+    Decides = IsOfDecision known disk decision op work
 
-  of_decision : (known : List Effect) (entry : Entry) (decision : Decision) → op.stage ≡ Asked entry
-      → step_after_decision known disk op entry decision ≡ Some step → IsOfDecision known disk op work
-  of_decision known entry decisions.None at is = no_work _ is (λ same. cc (same))
-  of_decision known entry (decisions.Granted vid) at is = by_header (header_of known vid.0) refl is
-    where
-      by_header : (o : Option Header) → header_of known vid.0 ≡ o
-          → option_and_then (step_after_grant op vid (chain_of known vid.0) disk entry) o ≡ Some step → IsOfDecision known disk op work
-      by_header None none is = absurd (cc (is))
-      by_header (Some header) there is = of_grant known vid (chain_of known vid.0) entry header there at is
-  of_decision known entry (decisions.Refused cause) at is = no_work _ is (λ same. cc (same))
+    of_grant : (vid : Vid) (chain : List ℕ) (entry : Entry) (header : Header) → decision ≡ decisions.Granted vid
+        → header_of known vid.0 ≡ Some header → op.stage ≡ Asked entry → step_after_grant op vid chain disk entry header ≡ Some step
+        → Decides
+    of_grant vid chain (entries.Format members) header granted there at is = absurd (cc (is))
+    of_grant vid chain (entries.Join node zone vnodes) header granted there at is = absurd (cc (is))
+    of_grant vid chain (entries.Leave node) header granted there at is = absurd (cc (is))
+    of_grant vid chain (entries.Reweight node vnodes) header granted there at is = absurd (cc (is))
+    of_grant vid chain (entries.Recovered node epoch) header granted there at is = absurd (cc (is))
+    of_grant vid chain (entries.Reserve by session name (Fresh spec)) header granted there at is =
+        CreatesIt (record {
+          by = by;
+          session = session;
+          name = name;
+          spec = spec;
+          vid = vid;
+          header = header;
+          asked = at;
+          granted = granted;
+          there = there;
+          same = of_step _ is (create_inode (inode_by header vid.0 (holes header.spec))) refl;
+        })
+    of_grant vid chain (entries.Reserve by session name (SnapshotOf tag)) header granted there at is = by_disk disk refl is
+      where
+        by_disk : (o : Option Content) → disk ≡ o → option_map (tag_step op vid tag header) o ≡ Some step
+            → Decides
+        by_disk None on is = absurd (cc (is))
+        by_disk (Some inode) on is = TagsIt inode by session name tag on at (of_step (tag_step op vid tag header inode) is
+            (write_tag inode tag) refl)
+    of_grant vid chain (entries.Reserve by session name (CloneOf base tag)) header granted there at is = by_parent header.parent is
+      where
+        by_parent : (o : Option Vid) → option_map (copy_step op vid chain header) o ≡ Some step → Decides
+        by_parent None is = absurd (cc (is))
+        by_parent (Some parent) is =
+            ReadsIt parent.0 header.spec (of_step (copy_step op vid chain header parent) is (read_inode parent.0 header.spec) refl)
+    of_grant vid chain (entries.Publish by id) header granted there at is = absurd (cc (is))
+    of_grant vid chain (entries.Clone by id) header granted there at is = absurd (cc (is))
+    of_grant vid chain (entries.Snapshot by old id) header granted there at is = absurd (cc (is))
+    of_grant vid chain (entries.Delete by session name tag) header granted there at is = no_work _ is (λ same. cc (same))
+    of_grant vid chain (entries.Lock by session name tag) header granted there at is = ReadsIt vid.0 header.spec (of_step _ is
+        (read_inode vid.0 header.spec) refl)
+    of_grant vid chain (entries.Unlock by session id) header granted there at is = no_work _ is (λ same. cc (same))
 
-  pub decided_work : (known : List Effect) (decision : Decision) → on_decision known disk decision op ≡ Some step
-      → IsOfDecision known disk op work
-  unfolding on_decision
-  decided_work known decision next = by_stage op.stage refl next
-    where
-      by_stage : (stage : OpStage) → op.stage ≡ stage → decided_at known disk decision op stage ≡ Some step
-          → IsOfDecision known disk op work
-      by_stage (Asked entry) at is = of_decision known entry decision at is
-      by_stage (Working vid task) at is = absurd (cc (is))
-      by_stage (Publishing entry opened) at is = no_work _ is (λ same. cc (same))
-      by_stage (Answered change) at is = absurd (cc (is))
+    of_decision : (entry : Entry) (made : Decision) → decision ≡ made → op.stage ≡ Asked entry
+        → step_after_decision known disk op entry made ≡ Some step → Decides
+    of_decision entry decisions.None so at is = no_work _ is (λ same. cc (same))
+    of_decision entry (decisions.Granted vid) so at is = by_header (header_of known vid.0) refl is
+      where
+        by_header : (o : Option Header) → header_of known vid.0 ≡ o
+            → option_and_then (step_after_grant op vid (chain_of known vid.0) disk entry) o ≡ Some step → Decides
+        by_header None none is = absurd (cc (is))
+        by_header (Some header) there is = of_grant vid (chain_of known vid.0) entry header so there at is
+    of_decision entry (decisions.Refused cause) so at is = no_work _ is (λ same. cc (same))
+
+    pub decided_work : on_decision known disk decision op ≡ Some step → IsOfDecision known disk decision op work
+    unfolding on_decision
+    decided_work next = by_stage op.stage refl next
+      where
+        by_stage : (stage : OpStage) → op.stage ≡ stage → decided_at known disk decision op stage ≡ Some step
+            → Decides
+        by_stage (Asked entry) at is = of_decision entry decision refl at is
+        by_stage (Working vid task) at is = absurd (cc (is))
+        by_stage (Publishing entry opened) at is = no_work _ is (λ same. cc (same))
+        by_stage (Answered change) at is = absurd (cc (is))
 
   pub done_work : (bytes : List ℕ) → op_on_done bytes op ≡ Some step → WritesBackOrCreates op work bytes
   unfolding op_on_done

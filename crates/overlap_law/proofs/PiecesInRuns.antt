@@ -31,15 +31,14 @@ use Rattle.sheep_world.proofs.BegunWorlds.{goes_on, by_induction}
 use Rattle.sheep_world.proofs.LogFrontLaws.{all_read}
 use Rattle.overlap_law.specs.MomentChanges.{RunsAreInRange}
 use Rattle.overlap_law.specs.PiecesInRange.{PiecesEndInRows, PiecesAreInRange}
-use Rattle.overlap_law.proofs.CausedWorks.{IsNotServed, no_object}
+use Rattle.overlap_law.proofs.CausedWorks.{IsNotServed}
 use Rattle.overlap_law.proofs.GrantedEpochs.{spec_known}
 use Rattle.overlap_law.proofs.KnownDiskSteps.{effects_after, work_known}
 use Rattle.overlap_law.proofs.KnownDisksInRuns.{caused_known, read_reservable, nodes_know}
-use Rattle.overlap_law.proofs.PlacesTaken.{places_taken}
 use Rattle.overlap_law.proofs.SendsOfWorks.{SendIs, attempt_sends, step_sends}
 use Rattle.overlap_law.proofs.SentByTheLog.{StepsSendSo, step_so, opens_so, asks_after}
 use Rattle.overlap_law.proofs.SentPieces.{pieces_asked, asks_no_piece, pieces_stay}
-use Rattle.overlap_law.proofs.WholeInRuns.{sound_world, sound_here, named, may_change, nodes_whole}
+use Rattle.overlap_law.proofs.WholeInRuns.{sound_world, from_beginning}
 use Rattle.overlap_law.proofs.WholeSteps.{turn_whole}
 
 -- by a log
@@ -96,12 +95,8 @@ module _ (script : List Statement) (range : RunsAreInRange script) where
           attempt_sends (PiecesEndInRows (log_effects log_then)) asked lined.node
           (λ index. grown (ask_for asked.work index)
           (pieces_asked (log_effects entries) (spec_valid entries reservable) asked.work
-          (turn_whole input host.node (may_change script range world began n host there up cause not caused)
-          (named script range world began n host there up cause caused) (sound_here script range world began n host there up)
-          (caused_known script range.is_script (effects_after input host.node) world n host cause caused)
-          (no_object script world n host cause caused) (nodes_know script range world began n host there)
-          (places_taken script range world began n host there up cause caused)
-          (nodes_whole script range world began n host there) so_far leads session req asked lined comes)
+          (from_beginning script range world began n host there up cause not caused (turn_whole input host.node) so_far leads session req
+          asked lined comes)
           (work_known input host.node reservable
           (caused_known script range.is_script (effects_after input host.node) world n host cause caused)
           (nodes_know script range world began n host there) so_far leads session req asked lined comes) index))) received

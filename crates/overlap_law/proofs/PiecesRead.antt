@@ -1,10 +1,12 @@
 -- What comes of a piece may be read of its blocks, where what a block may come to be read as may be, whichever requests are refused; so may
 -- zeros of holes; and what may be read so may be read.
-use Rattle.std.proofs.Common.{◌≡◌, ◌≢◌, inl, inr, ⊎_elim, ℕ, zero, suc, ◌*◌, ◌-◌, Bool, true, false, List, [], ◌∷◌, Some, None, refl, sym, ap, ◌∙◌}
+use Rattle.std.proofs.Common.{◌≡◌, ◌≢◌, inl, inr, ⊎_elim, ℕ, zero, suc, ◌*◌, ◌-◌, Bool, true, false, List, [], ◌∷◌, Some, None}
+use Rattle.std.proofs.Common.{refl, sym, ap, ◌∙◌}
 use Rattle.std.specs.Prelude.{slice_get}
 use Rattle.std.specs.List.{list_any}
 use Rattle.std.specs.Str.{bytes_eq}
 use Rattle.std.proofs.lemmas.Bool.{and_parts, or_left, or_right}
+use Rattle.std.proofs.lemmas.List.Elements.{All-nil, All-cons, All-head, All-tail}
 use Rattle.std.proofs.lemmas.Option.{same_Some}
 use Rattle.object_id.specs.declared.limits.TheConstants.{BLOCK_BYTES}
 use Rattle.object_id.specs.declared.oid.Kind.TheVariants.{Block}
@@ -18,9 +20,11 @@ use Rattle.guest_driver.specs.declared.extent.Extent.{Extent}
 use Rattle.guest_driver.specs.Pieces.{Piece}
 use Rattle.overlap_law.specs.Attempts.{AttemptRecord}
 use Rattle.overlap_law.specs.StayingBlocks.{MayStay, Stays, WasServed, IsHomeToCome, BlocksStayWritten}
-use Rattle.overlap_law.specs.ToldReads.{MayBeReadAs, MayStayReadAs, IsReadUpTo, PieceMayBeRead, HolesMayBeRead, PieceIsToCome, HolesAreToCome}
+use Rattle.overlap_law.specs.ToldReads.{MayBeReadAs, MayStayReadAs, IsReadUpTo, PieceMayBeRead, PieceIsToCome, HoleMayBeRead}
+use Rattle.overlap_law.specs.ToldReads.{HolesMayBeRead, HoleIsToCome, HolesAreToCome}
 use Rattle.overlap_law.specs.Words.{Hosts, bytes_by}
 use Rattle.overlap_law.specs.WrittenBlocks.{items_at, is_torn_here}
+use Rattle.overlap_law.proofs.BlocksOfAnyDisk.{any_block}
 
 -- ---- what stays may be read
 
@@ -76,7 +80,8 @@ module _ (ledger : Ledger) (effects : List Effect) (good_id : ℕ → Bool) (hos
         served_stays attempts (items_at disk inode.spec piece.index unit) attempt.req (bytes_by unit attempt.work)
         (piece_at bytes (BLOCK_BYTES * unit - piece.offset) BLOCK_BYTES)
         (record { place = j; attempt = attempt; there = comes.there; of = refl; served = loud }) same
-        (written.each inode.vid piece.index unit disk inode.spec block whole home to_come some j attempt comes));
+        (written.each inode.vid piece.index unit disk inode.spec
+        (any_block ledger effects good_id inode.vid disk inode.spec piece.index unit block) whole home to_come some j attempt comes));
   }
     where
       by_torn : (items : List Item) (read : List ℕ) (b : Bool) → is_torn_here inode.spec items ≡ b
@@ -84,9 +89,17 @@ module _ (ledger : Ledger) (effects : List Effect) (good_id : ℕ → Bool) (hos
       by_torn items read true is may = inl (and_parts (is_in_strips inode.spec.policy Block) (is_torn items) is).1
       by_torn items read false is may = inr (may is)
 
-  pub holes_read : HolesAreToCome hosts attempts inode → HolesMayBeRead (MayStayReadAs attempts) ledger effects good_id inode
-  holes_read holes = record {
-    each = λ index unit disk hole block.
-        let (j, entry, comes, is) = holes.each index block.object hole in
-        inr (written.holes inode.vid index unit disk inode.spec block j entry comes is);
-  }
+  hole_read : (piece : Piece) → HoleIsToCome effects good_id hosts attempts inode piece
+      → HoleMayBeRead (MayStayReadAs attempts) ledger effects good_id inode piece
+  hole_read piece to_come = λ unit disk hole block.
+      let (j, entry, comes, is) = to_come block.good block.live block.object hole in
+      inr (written.holes inode.vid piece.index unit disk inode.spec
+      (any_block ledger effects good_id inode.vid disk inode.spec piece.index unit block) j entry comes is)
+
+  pub holes_read : (pieces : List Piece) → HolesAreToCome effects good_id hosts attempts inode pieces
+      → HolesMayBeRead (MayStayReadAs attempts) ledger effects good_id inode pieces
+  holes_read [] to_come = All-nil (HoleMayBeRead (MayStayReadAs attempts) ledger effects good_id inode)
+  holes_read (piece ∷ pieces) to_come =
+      All-cons (HoleMayBeRead (MayStayReadAs attempts) ledger effects good_id inode) piece pieces
+      (hole_read piece (All-head (HoleIsToCome effects good_id hosts attempts inode) piece pieces to_come))
+      (holes_read pieces (All-tail (HoleIsToCome effects good_id hosts attempts inode) piece pieces to_come))

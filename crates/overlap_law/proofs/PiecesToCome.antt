@@ -1,9 +1,9 @@
--- A unit of a copy that an open read was told is one that the object may come to have: the last made attempt that covers it is owed, so
--- its bytes are of that one or of a later one that some target has served. And a part of strips is that of a made attempt, if what came
--- behind it adds nothing.
+-- A unit of a copy that an open read was told is one that the object may come to have: the last attempt that covers it and isn't doomed is
+-- owed, so its bytes are of that one or of a later one that some target has served. And a part of strips is that of a made attempt, if what
+-- came behind it adds nothing.
 use Rattle.std.proofs.Common.{◌≡◌, ⊎_elim, arith, ℕ, ◌+◌, ◌-◌, ◌≤◌, ◌<◌, ◌==◌, ◌&&◌, Bool, true, false, List, length, slice_get, Some}
-use Rattle.std.proofs.Common.{sym, ap, subst, ◌∙◌}
-use Rattle.std.proofs.lemmas.Bool.{and_from, and_parts, cases_lt, eq-eqb, eqb-true}
+use Rattle.std.proofs.Common.{not, refl, sym, ap, subst, ◌∙◌}
+use Rattle.std.proofs.lemmas.Bool.{and_from, and_parts, both_ways, cases_lt, eq-eqb, eqb-true, false_from_ne_true}
 use Rattle.std.proofs.lemmas.Option.{same_Some}
 use Rattle.object_id.specs.declared.entry.Entry.{Entry}
 use Rattle.object_id.specs.declared.node.NodeId.{NodeId}
@@ -20,7 +20,7 @@ use Rattle.overlap_law.specs.Each.{policy_in}
 use Rattle.overlap_law.specs.Fates.{FatesAreOfTheWire, AttemptsAreShaped}
 use Rattle.overlap_law.specs.Holders.{targets_by}
 use Rattle.overlap_law.specs.InodesRead.{IsUnitToCome}
-use Rattle.overlap_law.specs.Packets.{Wire}
+use Rattle.overlap_law.specs.Packets.{HasPacket, Wire}
 use Rattle.overlap_law.specs.Reached.{Hosts}
 use Rattle.overlap_law.specs.Since.{reading_by, reading_of, owes_attempt, AddNothingAfter, IsCopyFrom, IsSince}
 use Rattle.overlap_law.specs.ToldPieces.{IsPieceSince}
@@ -33,6 +33,7 @@ use Rattle.overlap_law.proofs.FateLemmas.{made-not_doomed}
 use Rattle.overlap_law.proofs.FilteredOrder.{filter-there, StandsAmongAll, stands_among_all}
 use Rattle.overlap_law.proofs.LastAttempts.{IsLast, last_there}
 use Rattle.overlap_law.proofs.PiecesOfRows.{piece-of_piece}
+use Rattle.overlap_law.proofs.ServedOrDoomed.{quiet-made}
 use Rattle.overlap_law.proofs.SinceAtEntries.{owed_earlier, owed_served}
 
 -- ---- what is owed of the attempts on the object
@@ -112,9 +113,6 @@ module _ (log : List Entry) (hosts : Hosts) (wire : Wire) (attempts : List Attem
   abbrev on : List AttemptRecord
   on = attempts_on oid attempts
 
-  abbrev is_base : AttemptRecord → Bool
-  is_base attempt = covers_unit unit attempt && is_made attempt
-
   -- an attempt on the object
   module _ (j : ℕ) (attempt : AttemptRecord) (at : slice_get (attempts_on oid attempts) j ≡ Some attempt) where
     among : StandsAmongAll (λ (a : AttemptRecord). object_of a == oid) attempts (attempts_on oid attempts) j attempt
@@ -138,7 +136,36 @@ module _ (log : List Entry) (hosts : Hosts) (wire : Wire) (attempts : List Attem
   -- ---- copies
 
   module _ (whole : is_in_strips policy (kind_of oid) ≡ false) (above : offset ≤ unit_start (kind_of oid) unit)
-      (below : unit_end (kind_of oid) unit ≤ offset + length bytes) where
+      (below : unit_end (kind_of oid) unit ≤ offset + length bytes)
+      (flying : (j : ℕ) (attempt : AttemptRecord) → slice_get attempts j ≡ Some attempt → object_of attempt ≡ oid → (place : ℕ)
+      (node : NodeId) → HasPacket wire attempt place node → attempt.epoch < epoch) where
+    -- what isn't doomed is owed: it is of an earlier epoch; or it has nothing in flight, so each target has served it
+    standing_owed : (j : ℕ) (attempt : AttemptRecord) → slice_get (attempts_on oid attempts) j ≡ Some attempt
+        → is_doomed hosts attempt ≡ false → owes_attempt from epoch epoch attempt ≡ true
+    standing_owed j attempt at stands_still = ⊎_elim
+        (λ (less : attempt.epoch < epoch). owed_earlier from epoch epoch attempt less)
+        (λ (least : epoch ≤ attempt.epoch).
+        owed log hosts wire attempts fates shape from oid epoch policy known target last j attempt at
+        (quiet-made hosts wire attempt (fates.whole stood.place attempt stood.there) (fates.each stood.place attempt stood.there)
+        (λ place node packet.
+        let less = flying stood.place attempt stood.there (is_on j attempt at) place node packet in
+        omega (arith, least, less)) stands_still))
+        (cases_lt attempt.epoch epoch)
+      where
+        stood : StandsAmongAll (λ (a : AttemptRecord). object_of a == oid) attempts (attempts_on oid attempts) j attempt
+        stood = among j attempt at
+
+    standing_reads : (j : ℕ) (attempt : AttemptRecord) → slice_get (attempts_on oid attempts) j ≡ Some attempt
+        → is_doomed hosts attempt ≡ false → covers_unit unit attempt ≡ true
+        → reading_of policy oid (attempts_on oid attempts) unit j index (row_bytes_at policy (kind_of oid) unit piece.row)
+    standing_reads j attempt at stands_still covers = ⊎_elim
+        (λ (doomed : is_doomed hosts attempt ≡ true). absurd (both_ways (is_doomed hosts attempt) stands_still doomed))
+        (λ (read : reading_of policy oid (attempts_on oid attempts) unit j index (row_bytes_at policy (kind_of oid) unit piece.row)). read)
+        (piece.since.each j attempt at unit covers (standing_owed j attempt at stands_still))
+
+    abbrev is_standing : AttemptRecord → Bool
+    is_standing attempt = covers_unit unit attempt && not (is_doomed hosts attempt)
+
     -- what the unit has of an attempt
     bytes_so : (j : ℕ) (attempt : AttemptRecord) → slice_get (attempts_on oid attempts) j ≡ Some attempt
         → unit_part_by index unit attempt.work ≡ bytes_by unit attempt.work
@@ -163,48 +190,63 @@ module _ (log : List Entry) (hosts : Hosts) (wire : Wire) (attempts : List Attem
     IsToComeHere = IsUnitToCome hosts attempts oid epoch unit
         (piece_at bytes (unit_start (kind_of oid) unit - offset) (unit_size (kind_of oid) unit))
 
-    -- it is of the last made attempt, or of a later one
-    of_copy : (base : AttemptRecord) (last_one : IsLast is_base (attempts_on oid attempts) base)
+    -- it is of the last one that isn't doomed, or of a later one
+    of_copy : (base : AttemptRecord) (last_one : IsLast is_standing (attempts_on oid attempts) base)
         → IsCopyFrom (attempts_on oid attempts) unit last_one.place index (row_bytes_at policy (kind_of oid) unit piece.row) → IsToComeHere
     of_copy base last_one read =
-        let j : ℕ = read.place in
-        let one : AttemptRecord = read.attempt in
-        let stood = among j one read.there in
         record {
           place = stood.place;
-          one = one;
+          one = read.attempt;
           to_come = record {
             there = stood.there;
-            object = is_on j one read.there;
+            object = is_on read.place read.attempt read.there;
             covers = read.covering;
-            stands = heard_stands hosts one (fates.whole stood.place one stood.there) read.served;
-            last = λ later_place later later_at behind later_object later_covers.
-                let (b, b_at, b_behind) = stood.later later_place later later_at behind (eq-eqb (object_of later) oid later_object) in
-                let low = read.no_earlier in
-                unmade (covers_unit unit later) (is_made later) later_covers (last_one.none b later b_at (omega (arith, low, b_behind)));
+            stands = heard_stands hosts read.attempt (fates.whole stood.place read.attempt stood.there) read.served;
+            last = λ k later at behind later_object later_covers. false_from_ne_true (is_made later) (λ made.
+                both_ways (is_doomed hosts later) (made-not_doomed hosts later made)
+                (doomed_behind k later at behind later_object later_covers));
           };
           served = read.served;
-          within = latest j one read.there;
-          same = sym (bytes_so j one read.there) ∙ sym read.same ∙ in_piece;
+          within = latest read.place read.attempt read.there;
+          same = sym (bytes_so read.place read.attempt read.there) ∙ sym read.same ∙ in_piece;
+          behind = doomed_behind;
         }
       where
-        unmade : (a b : Bool) → a ≡ true → (a && b) ≡ false → b ≡ false
-        unmade true b is none = none
-        unmade false b is none = absurd (cc (is))
+        stood : StandsAmongAll (λ (a : AttemptRecord). object_of a == oid) attempts (attempts_on oid attempts) read.place read.attempt
+        stood = among read.place read.attempt read.there
+
+        standing_not : (a b : Bool) → a ≡ true → (a && not b) ≡ false → b ≡ true
+        standing_not true true is none = refl
+        standing_not true false is none = absurd (cc (none))
+        standing_not false b is none = absurd (cc (is))
+
+        doomed_behind : (k : ℕ) (later : AttemptRecord) → slice_get attempts k ≡ Some later → stood.place < k → object_of later ≡ oid
+            → covers_unit unit later ≡ true → is_doomed hosts later ≡ true
+        doomed_behind k later at behind later_object later_covers =
+            let (b, b_at, b_behind) = stood.later k later at behind (eq-eqb (object_of later) oid later_object) in
+            let low = read.no_earlier in
+            standing_not (covers_unit unit later) (is_doomed hosts later) later_covers
+            (last_one.none b later b_at (omega (arith, low, b_behind)))
 
     pub unit_to_come : (k : ℕ) (made : AttemptRecord) → slice_get attempts k ≡ Some made → object_of made ≡ oid
         → covers_unit unit made ≡ true → is_made made ≡ true → IsToComeHere
     unit_to_come k made at object_so covers is =
         let own = filter-there (λ (a : AttemptRecord). object_of a == oid) attempts k made at (eq-eqb (object_of made) oid object_so) in
-        let (base, last_one) = last_there is_base on own.0 made own.1 (and_from (covers_unit unit made) (is_made made) covers is) in
+        let (base, last_one) = last_there is_standing on own.0 made own.1
+        (and_from (covers_unit unit made) (not (is_doomed hosts made)) covers (ap not (made-not_doomed hosts made is))) in
         by_base base last_one
       where
-        by_base : (base : AttemptRecord) → IsLast is_base (attempts_on oid attempts) base → IsToComeHere
+        not_so : (b : Bool) → not b ≡ true → b ≡ false
+        not_so true is = absurd (cc (is))
+        not_so false is = refl
+
+        by_base : (base : AttemptRecord) → IsLast is_standing (attempts_on oid attempts) base → IsToComeHere
         by_base base last_one =
-            let (covers_base, made_base) = and_parts (covers_unit unit base) (is_made base) last_one.passed in
+            let (covers_base, stands_still) = and_parts (covers_unit unit base) (not (is_doomed hosts base)) last_one.passed in
             of_copy base last_one
             (subst (λ (b : Bool). reading_by b (attempts_on oid attempts) unit last_one.place index
-            (row_bytes_at policy (kind_of oid) unit piece.row)) whole (reads_as last_one.place base last_one.there made_base covers_base))
+            (row_bytes_at policy (kind_of oid) unit piece.row)) whole
+            (standing_reads last_one.place base last_one.there (not_so (is_doomed hosts base) stands_still) covers_base))
 
   -- ---- strips
 

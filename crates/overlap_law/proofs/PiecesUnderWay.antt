@@ -38,11 +38,11 @@ use Rattle.overlap_law.proofs.StartedWrites.{blocks_open-in_run}
 use Rattle.overlap_law.proofs.WorksInMoments.{well_in_world}
 
 -- a request to write, of which the pieces are, with all its bytes
-record IsWriteOf (script : List Statement) (req shift : ℕ) (payload : List ℕ) (piece : Piece) : Type 0 where
-  offset : ℕ
-  asked : asked_by script req ≡ Some (asks.Disk (disk_asks.Write offset payload))
-  place : ℕ
-  there : slice_get (pieces shift offset (length payload)) place ≡ Some piece
+pub record IsWriteOf (script : List Statement) (req shift : ℕ) (payload : List ℕ) (piece : Piece) : Type 0 where
+  pub offset : ℕ
+  pub asked : asked_by script req ≡ Some (asks.Disk (disk_asks.Write offset payload))
+  pub place : ℕ
+  pub there : slice_get (pieces shift offset (length payload)) place ≡ Some piece
 
 module _ (script : List Statement) (req : ℕ) (opened : Disk) (piece : Piece) where
   by_ask : (ask : DiskAsk) (i : ℕ) → asked_by script req ≡ Some (asks.Disk ask)
@@ -65,7 +65,7 @@ module _ (script : List Statement) (req : ℕ) (opened : Disk) (piece : Piece) w
       }
   by_driver Answered ask i asked is got = absurd is
 
-  by_course : (course : Course) (began : Option ℕ) (i : ℕ) → IsCourseOfAsk (asked_by script req) (Some opened) began course
+  pub by_course : (course : Course) (began : Option ℕ) (i : ℕ) → IsCourseOfAsk (asked_by script req) (Some opened) began course
       → slice_get (left_to_write opened.inode.spec.shift course) i ≡ Some piece
       → IsWriteOf script req opened.inode.spec.shift (payload_at course) piece
   by_course (Waiting ask) began i is got = by_ask ask i is.0 got
@@ -98,7 +98,7 @@ module _ (opened : Disk) (piece : Piece) where
 -- a write goes by whole blocks
 module _ (script : List Statement) (range : RunsAreInRange script) (req offset : ℕ) (payload : List ℕ)
     (asked : asked_by script req ≡ Some (asks.Disk (disk_asks.Write offset payload))) (host : Host) where
-  whole_blocks : (offset % 512 ≡ 0) × (length payload % 512 ≡ 0)
+  pub whole_blocks : (offset % 512 ≡ 0) × (length payload % 512 ≡ 0)
   whole_blocks = by_line (request_at script req) refl asked
     where
       by_line : (o : Option Statement) → request_at script req ≡ o

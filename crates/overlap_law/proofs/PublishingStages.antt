@@ -1,26 +1,21 @@
 -- A command that waits for the publication of an id waited for it before a change of its node, or the work was done just now by which it
 -- makes the id's inode.
-use Rattle.std.proofs.Common.{◌≡◌, ◌≢◌, ◌⊎◌, inl, inr, ⊎_elim, ℕ, true, false, List, Option, Some, None, option_map, refl, sym, ap, subst}
+use Rattle.std.proofs.Common.{◌≡◌, ◌⊎◌, inl, inr, ℕ, true, false, List, Option, Some, None, option_map, refl, sym, ap, subst}
 use Rattle.std.proofs.Common.{◌∙◌}
 use Rattle.std.specs.Option.{option_and_then}
 use Rattle.std.specs.FinMap as tree
-use Rattle.std.proofs.lemmas.Bool.{cases_eq}
 use Rattle.std.proofs.lemmas.Option.{same_Some}
-use Rattle.proof_tools.proofs.FiniteMaps.{get-remove_same, get-remove_other, get-insert_cases}
-use Rattle.object_id.specs.declared.cause.Cause.TheVariants.{Halt}
 use Rattle.object_id.specs.declared.entry.Entry.{Entry}
 use Rattle.object_id.specs.declared.entry.Entry.TheVariants as entries
 use Rattle.object_id.specs.declared.entry.Origin.TheVariants.{Fresh, SnapshotOf, CloneOf}
 use Rattle.object_id.specs.declared.node.NodeId.{NodeId}
 use Rattle.object_id.specs.declared.oid.Vid.{Vid}
 use Rattle.inode.specs.Layout.{Content}
-use Rattle.peer_proto.specs.declared.guest.GuestRsp.{GuestRsp}
 use Rattle.peer_proto.specs.declared.guest.VdiAsk.{VdiAsk}
 use Rattle.peer_service.specs.State.{effects_of}
 use Rattle.peer_service.specs.LogReading.{decision_on}
 use Rattle.gateway.specs.declared.message.Status.{Status}
 use Rattle.gateway.specs.Attempt as gateways
-use Rattle.gateway.specs.Work.{zones_for}
 use Rattle.gateway.specs.State.{Work}
 use Rattle.guest_driver.specs.Driver as drivers
 use Rattle.disk_check.specs.Check.{begin_check}
@@ -40,16 +35,15 @@ use Rattle.sheep_node.specs.declared.course.Request.{Request}
 use Rattle.sheep_node.specs.declared.course.Course.TheVariants.{Waiting, Driving, Commanding, Checking, DoingWork, AwaitingDecision}
 use Rattle.sheep_node.specs.declared.input.Input.{Input}
 use Rattle.sheep_node.specs.State.{Node}
-use Rattle.sheep_node.specs.StepState.{StepState, session_in, request_ended}
+use Rattle.sheep_node.specs.StepState.{StepState, session_in}
 use Rattle.sheep_node.specs.Courses.{inode_open}
-use Rattle.sheep_node.specs.Changes as changes
-use Rattle.sheep_node.specs.Changes.{without_ended_work, Outcome, ToWork, ToEntry, ToReply, without_denied_work, zones_of_members, EndsWork}
+use Rattle.sheep_node.specs.Changes.{Outcome, EndsWork}
 use Rattle.sheep_node.specs.Changes.{RequestSteps, DiskBegins, DiskGoesOn, CommandBegins, CommandGoesOn, CommandDecided, CheckBegins}
-use Rattle.sheep_node.specs.Changes.{CheckGoesOn, ObjectBegins, ObjectIsDone, EntryBegins, EntryDecided, WorkIsNext, AtOnce, InTurn, Again}
-use Rattle.sheep_node.specs.Changes.{AgainAlone, Change}
+use Rattle.sheep_node.specs.Changes.{CheckGoesOn, ObjectBegins, ObjectIsDone, EntryBegins, EntryDecided}
+use Rattle.sheep_node.specs.Changes.{Change}
 use Rattle.sheep_node.proofs.OneWorkParts.{Requests}
-use Rattle.sheep_node.proofs.RefusedCourses.{course_refused-keeps, request_refused-keeps}
 use Rattle.overlap_law.specs.Drafts.{published_by}
+use Rattle.overlap_law.proofs.RequestWalk.{IsWhereThere, put_there, change_there}
 
 -- ---- what a command publishes
 
@@ -195,30 +189,20 @@ module _ (q : ℕ) (vid : Vid) (input : Input) (node : Node) where
   abbrev pub HadOrMade : StepState → Type 0
   HadOrMade so_far = HadPublication q vid so_far ⊎ IsMadeNow input node q vid so_far
 
-  module _ (origin : StepState) where
-    abbrev AreFrom : Requests → Type 0
-    AreFrom requests = (r : Request) → tree.get requests q ≡ Some r → published_in_course r.course ≡ Some vid → HadOrMade origin
+  abbrev IsFrom : StepState → Request → Type 0
+  IsFrom origin r = published_in_course r.course ≡ Some vid → HadOrMade origin
 
-    abbrev From : StepState → Type 0
-    From so_far = AreFrom so_far.node.requests
+  abbrev AreFrom : StepState → Requests → Type 0
+  AreFrom origin = IsWhereThere q (IsFrom origin)
 
-    ended_from : (session req : ℕ) (reply : GuestRsp) (so_far : StepState) → From so_far → From (request_ended session req reply so_far)
-    unfolding request_ended
-    ended_from session req reply so_far from r got says = ⊎_elim
-        (λ (own : q ≡ req).
-        let none = ap (tree.get (tree.remove so_far.node.requests req)) own
-        ∙ get-remove_same so_far.node.requests req in absurd (cc (none, got)))
-        (λ (other : q ≢ req). from r (sym (get-remove_other so_far.node.requests req q other) ∙ got) says)
-        (cases_eq q req)
+  abbrev From : StepState → StepState → Type 0
+  From origin so_far = AreFrom origin so_far.node.requests
 
-    put_from : (requests : Requests) (session req : ℕ) (course : Course)
-        → (q ≡ req → published_in_course course ≡ Some vid → HadOrMade origin)
-        → AreFrom requests → AreFrom (tree.insert requests req (record { session = session; course = course }))
-    put_from requests session req course own from r got says = ⊎_elim
-        (λ (here : (q ≡ req) × (record { session = session; course = course } ≡ r)).
-        own here.0 (ap (λ (r : Request). published_in_course r.course) here.1 ∙ says))
-        (λ (other : (q ≢ req) × (tree.get requests q ≡ Some r)). from r other.1 says)
-        (get-insert_cases requests req (record { session = session; course = course }) q r got)
+  put_from : (origin : StepState) (requests : Requests) (session req : ℕ) (course : Course)
+      → (q ≡ req → published_in_course course ≡ Some vid → HadOrMade origin)
+      → AreFrom origin requests → AreFrom origin (tree.insert requests req (record { session = session; course = course }))
+  put_from origin requests session req course =
+      put_there q (IsFrom origin) requests req (record { session = session; course = course })
 
   from_itself : (so_far : StepState) → From so_far so_far
   from_itself so_far r got says = inl (record { request = r; there = got; says = says })
@@ -265,33 +249,6 @@ module _ (q : ℕ) (vid : Vid) (input : Input) (node : Node) where
   steps_from so_far session req next moved (EntryBegins entry arrival) = put_none so_far session req (AwaitingDecision entry) refl
   steps_from so_far session req next moved (EntryDecided entry wanted from read there waits) = from_itself so_far
 
-  next_from : (so_far : StepState) (session req : ℕ) (asked : Work) (lined : StepState)
-      → WorkIsNext input node so_far session req asked lined
-      → From so_far lined
-  next_from so_far session req asked lined (AtOnce work moved steps begins) = steps_from so_far session req (ToWork work) moved steps
-  next_from so_far session req asked lined (InTurn work later none is) = from_itself so_far
-  next_from so_far session req asked lined (Again work course from next there request) = from_itself so_far
-  next_from so_far session req asked lined (AgainAlone work from next there none) = from_itself so_far
-
   pub publication_from : (so_far next : StepState) → Change input node so_far next → From so_far next
-  publication_from so_far next (changes.Marks req number work attempt status learns over) = from_itself so_far
-  publication_from so_far next (changes.Fails session req number work attempt status course ends done why) = from_itself so_far
-  publication_from so_far next (changes.Stops session req number work attempt status course bytes ends over) = from_itself so_far
-  publication_from so_far next (changes.Refuses session req number work attempt status course cause ends done why) =
-      course_refused-keeps (From so_far) (ended_from so_far) (λ entry before now. now) session req cause course
-      (without_ended_work session req work status so_far)
-      (from_itself so_far)
-  publication_from so_far next (changes.Opens session req asked lined comes enough) = next_from so_far session req asked lined comes
-  publication_from so_far next (changes.Holds session req asked lined comes short touched) = next_from so_far session req asked lined comes
-  publication_from so_far next (changes.Denies session req asked lined request comes short untouched there own) =
-      request_refused-keeps (From so_far) (ended_from so_far) (λ entry before now. now) req
-      (Halt (zones_of_members lined.node) (zones_for asked.work)) request
-      (without_denied_work session req asked lined) (next_from so_far session req asked lined comes)
-  publication_from so_far next (changes.Strays req work gateway there none apart) = from_itself so_far
-  publication_from so_far next (changes.Lines session req work moved steps waits) = steps_from so_far session req (ToWork work) moved steps
-  publication_from so_far next (changes.Appends session req entry moved steps) = steps_from so_far session req (ToEntry entry) moved steps
-  publication_from so_far next (changes.Replies session req reply moved steps) =
-      ended_from so_far session req reply moved (steps_from so_far session req (ToReply reply) moved steps)
-  publication_from so_far next (changes.Arrives session req ask disk arrival on) = put_none so_far session req (Waiting ask) refl
-  publication_from so_far next (changes.Rejects session req ask cause arrival) = from_itself so_far
-  publication_from so_far next (changes.Recovers due) = from_itself so_far
+  publication_from so_far =
+      change_there q (IsFrom so_far) so_far (steps_from so_far) (λ session req ask arrival own says. absurd (cc (says))) (from_itself so_far)

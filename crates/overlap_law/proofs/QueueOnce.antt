@@ -10,9 +10,7 @@ use Rattle.std.proofs.lemmas.List.Elements.{Contains-push_cases}
 use Rattle.std.proofs.lemmas.Option.{same_Some}
 use Rattle.proof_tools.proofs.FiniteMaps.{get-insert_other, get-insert_same}
 use Rattle.proof_tools.proofs.Lists.{Contains-nil, Contains-head, Contains-cons, filter-contains}
-use Rattle.object_id.specs.declared.cause.Cause.TheVariants.{Halt}
 use Rattle.peer_proto.specs.declared.guest.GuestRsp.{GuestRsp}
-use Rattle.gateway.specs.Work.{zones_for}
 use Rattle.gateway.specs.State.{Work}
 use Rattle.gateway.specs.declared.message.Status.{Status}
 use Rattle.gateway_queue.specs.declared.queue.Queued.{Queued}
@@ -20,7 +18,7 @@ use Rattle.gateway_queue.specs.Queue.{queue_without, has_request_number, earlier
 use Rattle.gateway_queue.proofs.QueueLemmas.{before_first-more}
 use Rattle.guest_driver.specs.declared.disk.Disk.{Disk}
 use Rattle.guest_driver.specs.Driver.{DriverStep, begin_driver}
-use Rattle.guest_driver.specs.InodeQueue.{queue_with_open, queue_with_waiting, queue_after_end}
+use Rattle.guest_driver.specs.InodeQueue.{queue_after_end}
 use Rattle.disk_check.specs.Check.{begin_check}
 use Rattle.vdi_ops.specs.Op.{OpStep, disk_change}
 use Rattle.sheep_node.specs.declared.input.Input.{Input}
@@ -33,13 +31,16 @@ use Rattle.sheep_node.specs.Courses.{after_driver_step, disk_after, after_comman
 use Rattle.sheep_node.specs.Guests.{queued_as}
 use Rattle.sheep_node.specs.SessionQueues.{is_disk_request_of, queue_in, AreDiskRequests}
 use Rattle.sheep_node.specs.Changes as changes
-use Rattle.sheep_node.specs.Changes.{IsSoundStep, Outcome, ToWork, ToEntry, ToReply, RequestSteps, DiskBegins, DiskGoesOn, CommandBegins, CommandGoesOn, CommandDecided, CheckBegins, CheckGoesOn, ObjectBegins, ObjectIsDone, EntryBegins, EntryDecided, WorkIsNext, AtOnce, InTurn, Again, AgainAlone, input_received, Change, Leads}
+use Rattle.sheep_node.specs.Changes.{IsSoundStep, Outcome, RequestSteps, DiskBegins, DiskGoesOn, CommandBegins, CommandGoesOn, CommandDecided, CheckBegins, CheckGoesOn, ObjectBegins, ObjectIsDone, EntryBegins, EntryDecided, input_received, Change, Leads}
 use Rattle.sheep_node.proofs.OneWorkParts.{Sessions}
 use Rattle.sheep_node.proofs.QueueChanges.{QueuesAre, change_keeps_queues, none_queued}
 use Rattle.sheep_node.proofs.ReceivedInputs.{received_keeps}
-use Rattle.sheep_node.proofs.RefusedCourses.{course_refused-keeps, request_refused-keeps}
 use Rattle.sheep_node.proofs.StepChain.{kept_by_chain}
 use Rattle.overlap_law.proofs.AttemptMessages.{contains_at}
+use Rattle.overlap_law.proofs.ChangeWalk.{kept_by_steps, change_holds}
+use Rattle.guest_driver.specs.InodeQueue.{InodeQueue}
+use Rattle.sheep_node.proofs.OneWorkParts.{Requests}
+use Rattle.sheep_node.specs.SessionQueues.{session_among}
 
 -- no two of a queue are of one request
 abbrev pub IsOnce : List Queued → Type 0
@@ -90,6 +91,11 @@ same_once : (number : ℕ) (after : Session) (so_far : StepState) → after.queu
     → AreOnceIn (tree.insert so_far.node.sessions number after)
 same_once number after so_far same all =
     session_once so_far.node.sessions number after (subst IsOnce (sym same) (all number)) all
+
+lined_once : (requests : Requests) (sessions : Sessions) (number : ℕ) (queue : InodeQueue) → AreOnceIn sessions
+    → AreOnceIn (tree.insert sessions number (record (session_among number sessions) { inode_queue = queue }))
+lined_once requests sessions number queue all =
+    session_once sessions number (record (session_among number sessions) { inode_queue = queue }) (all number) all
 
 ended_once : (session req : ℕ) (reply : GuestRsp) (so_far : StepState) → QueuesAreOnce so_far → QueuesAreOnce (request_ended session req reply so_far)
 unfolding request_ended
@@ -151,46 +157,18 @@ module _ {input : Input} {node : Node} where
   steps_once so_far session req next moved (EntryBegins entry arrival) all = sole_once session req (AwaitingDecision entry) so_far all
   steps_once so_far session req next moved (EntryDecided entry wanted from read there waits) all = all
 
-  comes_once : (so_far : StepState) (session req : ℕ) (asked : Work) (lined : StepState) → WorkIsNext input node so_far session req asked lined
-      → QueuesAreOnce so_far → QueuesAreOnce lined
-  comes_once so_far session req asked lined (AtOnce work moved steps begins) all =
-      same_once session (record (session_in session moved) { inode_queue = queue_with_open (session_in session moved).inode_queue req work }) moved refl
-      (steps_once so_far session req (ToWork work) moved steps all)
-  comes_once so_far session req asked lined (InTurn work later none is) all =
-      same_once session (record (session_in session so_far) { inode_queue = record { current = Some req; waiting = later } }) so_far refl all
-  comes_once so_far session req asked lined (Again work course from next there request) all = all
-  comes_once so_far session req asked lined (AgainAlone work from next there none) all = all
-
-  change_once : IsSoundStep input node → (so_far next : StepState) → Change input node so_far next → QueuesAre so_far → QueuesAreOnce so_far → QueuesAreOnce next
-  change_once sound so_far next (changes.Marks req number work attempt status learns over) queued all = all
-  change_once sound so_far next (changes.Fails session req number work attempt status course ends done why) queued all = all
-  change_once sound so_far next (changes.Stops session req number work attempt status course bytes ends over) queued all =
-      freed_once session req work status so_far all
-  change_once sound so_far next (changes.Refuses session req number work attempt status course cause ends done why) queued all =
-      course_refused-keeps QueuesAreOnce ended_once (λ entry before now. now) session req cause course
-      (changes.without_ended_work session req work status so_far) (freed_once session req work status so_far all)
-  change_once sound so_far next (changes.Opens session req asked lined comes short) queued all = comes_once so_far session req asked lined comes all
-  change_once sound so_far next (changes.Holds session req asked lined comes short touched) queued all = comes_once so_far session req asked lined comes all
-  change_once sound so_far next (changes.Denies session req asked lined request comes short untouched there own) queued all =
-      request_refused-keeps QueuesAreOnce ended_once (λ entry before now. now) req (Halt (changes.zones_of_members lined.node) (zones_for asked.work)) request
-      (changes.without_denied_work session req asked lined)
-      (same_once session (record (session_in session lined) { inode_queue = queue_after_end (session_in session lined).inode_queue asked.work }) lined refl
-      (comes_once so_far session req asked lined comes all))
-  change_once sound so_far next (changes.Strays req work gateway there none apart) queued all = all
-  change_once sound so_far next (changes.Lines session req work moved steps waits) queued all =
-      same_once session (record (session_in session moved) { inode_queue = queue_with_waiting (session_in session moved).inode_queue req work }) moved refl
-      (steps_once so_far session req (ToWork work) moved steps all)
-  change_once sound so_far next (changes.Appends session req entry moved steps) queued all = steps_once so_far session req (ToEntry entry) moved steps all
-  change_once sound so_far next (changes.Replies session req reply moved steps) queued all =
-      ended_once session req reply moved (steps_once so_far session req (ToReply reply) moved steps all)
-  change_once sound so_far next (changes.Arrives session req ask disk arrival on) queued all =
+  change_once : IsSoundStep input node → (so_far next : StepState) → Change input node so_far next → QueuesAre so_far
+      → QueuesAreOnce so_far → QueuesAreOnce next
+  change_once sound so_far next change queued all =
+      change_holds (λ (requests : Requests) (sessions : Sessions). AreOnceIn sessions) lined_once so_far
+      (kept_by_steps (λ (requests : Requests) (sessions : Sessions). AreOnceIn sessions) lined_once so_far
+      (λ session req outcome moved takes. steps_once so_far session req outcome moved takes all) ended_once
+      (λ session req ask disk arrival on.
       let new = queued_as disk.inode.spec.shift req ask in
       session_once so_far.node.sessions session
       (record (session_in session so_far) { queue = (session_in session so_far).queue ++ new ∷ [] })
       (once_pushed (session_in session so_far).queue new
-      (λ other there. free_in so_far session req (arrival.none sound) queued other there) (all session)) all
-  change_once sound so_far next (changes.Rejects session req ask cause arrival) queued all = all
-  change_once sound so_far next (changes.Recovers due) queued all = all
+      (λ other there. free_in so_far session req (arrival.none sound) queued other there) (all session)) all)) all next change
 
   -- along a sound step
   pub once_so_far : IsSoundStep input node → {so_far : StepState} → Leads input node (input_received input (at_first node)) so_far

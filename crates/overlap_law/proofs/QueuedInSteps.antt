@@ -67,6 +67,6 @@ begun_at_others so_far queues once all session req q first second there there_to
           runs_apart queue its.place mine.place its.one mine.one (once session)
           (omega (arith, behind, differ)) its.got mine.got run index covered own)
           (cases_lt mine.place its.place);
-      left = here.1 mine.one mine.there mine.number;
-      left_too = here_too.1 its.one its.there its.number;
+      left = (here.1 mine.one mine.there mine.number).0;
+      left_too = (here_too.1 its.one its.there its.number).0;
     }

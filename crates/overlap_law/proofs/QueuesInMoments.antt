@@ -106,7 +106,7 @@ module _ (script : List Statement) (range : RunsAreInRange script) where
           covered_in_chain (input_of_cause cause) host.node (caused_may script range world began n host there up cause not so)
           (sound_step script world n host cause so ready) guests.queues guests.alone covered so_far leads
 
-      queues_then : HasGoodQueues so_far.node
+      pub queues_then : HasGoodQueues so_far.node
       queues_then =
           let sound = sound_step script world n host cause so ready in
           let both = once_so_far sound leads guests.queues guests.once in
@@ -152,7 +152,7 @@ module _ (script : List Statement) (range : RunsAreInRange script) where
     joins = λ world n began control. none_covered;
   }
 
-  covered_in_world : (world : World) → Began script world → (n : ℕ) (host : Host) → tree.get world.hosts n ≡ Some host
+  pub covered_in_world : (world : World) → Began script world → (n : ℕ) (host : Host) → tree.get world.hosts n ≡ Some host
       → AreCovered host.node.requests host.node.sessions
   covered_in_world =
       each_where script (Began script) (λ (world : World) (n : ℕ) (host : Host). AreCovered host.node.requests host.node.sessions) (λ world began. began)

@@ -1,10 +1,10 @@
 -- In each run in range, where a session's read of whole copies ends in the middle of a step, each unit inside what it read is one that the
 -- object may come to have, if the object was good as the event began, and was created.
-use Rattle.std.proofs.Common.{◌≡◌, arith, ℕ, ◌+◌, ◌-◌, ◌≤◌, ◌<◌, nat_le, Bool, true, false, List, [], ◌∷◌, length, take, Some}
+use Rattle.std.proofs.Common.{◌≡◌, arith, ℕ, ◌+◌, ◌-◌, ◌≤◌, ◌<◌, ◌==◌, nat_le, Bool, true, false, List, [], ◌∷◌, length, take, Some}
 use Rattle.std.proofs.Common.{option_map, sym, ap, subst, ◌∙◌}
 use Rattle.std.specs.FinMap as tree
 use Rattle.std.specs.List.{list_any}
-use Rattle.std.proofs.lemmas.Bool.{le-leb}
+use Rattle.std.proofs.lemmas.Bool.{le-leb, eqb-true}
 use Rattle.proof_tools.proofs.FiniteMaps.{get-insert_same}
 use Rattle.object_id.specs.declared.entry.Entry.{Entry}
 use Rattle.object_id.specs.declared.entry.VdiSpec.{VdiSpec}
@@ -42,7 +42,8 @@ use Rattle.sheep_node.specs.StepState.{StepState}
 use Rattle.sheep_world.specs.World.{Host}
 use Rattle.sheep_world.specs.NodeCauses.{NodeCause, GuestAsks, RequestComes, ReplyComes, LossIsTold, EntryIsRead, EntryIsPut}
 use Rattle.sheep_world.specs.NodeCauses.{RecoveryTicks, WorkIsRetried, input_of_cause, host_with_node}
-use Rattle.overlap_law.specs.Attempts.{object_of}
+use Rattle.overlap_law.specs.Attempts.{AttemptRecord, object_of, attempts_on}
+use Rattle.overlap_law.specs.BornObjects.{IsBorn}
 use Rattle.overlap_law.specs.Each.{policy_in, spec_in}
 use Rattle.overlap_law.specs.Fates.{IsCreated, IsWhole}
 use Rattle.overlap_law.specs.Holders.{is_create_work}
@@ -51,17 +52,21 @@ use Rattle.overlap_law.specs.MomentChanges.{MomentTrail, RunsAreInRange, Still, 
 use Rattle.overlap_law.specs.Packets.{IsAnswering}
 use Rattle.overlap_law.specs.Past.{MomentWithPast, run_with_past}
 use Rattle.overlap_law.specs.StepMoments.{SteppingNode, IsStepping, StepsByChanges, LeadsInStep, first_in_step, moment_in_step}
-use Rattle.overlap_law.specs.ToldPieces.{IsUnansweredOf, offset_read, ToldPiecesAreSince}
+use Rattle.overlap_law.specs.ToldPieces.{IsUnansweredOf, offset_read, IsPieceOfAttempts, ToldPiecesAreSince}
 use Rattle.overlap_law.specs.Units.{unit_start, unit_size, unit_end, covers_by, covers_unit}
+use Rattle.overlap_law.proofs.BornFirst.{of_the_born}
 use Rattle.overlap_law.proofs.DoneReads.{AwaitedAt, awaited_at, only_one, marked_one}
 use Rattle.overlap_law.proofs.DoneWorks.{bytes_long}
+use Rattle.overlap_law.proofs.FilteredOrder.{stands_among_all}
 use Rattle.overlap_law.proofs.GrantedEpochs.{spec_stays}
 use Rattle.overlap_law.proofs.HeardUnits.{piece_is_to_come}
 use Rattle.overlap_law.proofs.KnownDiskSteps.{effects_after}
 use Rattle.overlap_law.proofs.LogsInMoments.{LogGrows, log_grows}
-use Rattle.overlap_law.proofs.OpeningReads.{step_known, here_up, knows_well, knows_tables, told_reply}
+use Rattle.overlap_law.proofs.OpeningReads.{step_known, here_up, knows_well, knows_tables, told_reply, awaited_at_first}
+use Rattle.overlap_law.proofs.MakingInRuns.{creates_first-in_run}
 use Rattle.overlap_law.proofs.ReadWorks.{IsReadOn}
 use Rattle.overlap_law.proofs.TellersOfPieces.{TellersAreTargets, tellers-on_the_way}
+use Rattle.overlap_law.proofs.ToldPieces.{told_pieces-on_the_way}
 use Rattle.overlap_law.proofs.WholeInRuns.{whole-on_the_way}
 use Rattle.overlap_law.proofs.WholeNodes.{IsWholeWork}
 
@@ -202,6 +207,43 @@ module _ (script : List Statement) (range : RunsAreInRange script) (events : Lis
         subst PolicyIn (sym is_read)
         (ap (option_map (λ (s : VdiSpec). s.policy)) known ∙ ap (λ (p : Policy). Some p) (sym read_on.policy_so))
 
+    -- an attempt on the object was there as the step began, so a create of it was
+    module _ (unit : ℕ) (above : offset ≤ unit_start (kind_of oid) unit) (below : unit_end (kind_of oid) unit ≤ offset + size)
+        (some : 1 ≤ size) where
+      abbrev IsOf : ObjWork → ℕ → Type 0
+      IsOf w part = IsPieceOfAttempts (kind_of (oid_of w)) (attempts_on (oid_of w) start.past.attempts) part (offset_read w) bytes
+
+      of_attempts : (part : ℕ) × IsPieceOfAttempts (kind_of oid) (attempts_on oid start.past.attempts) part offset bytes
+      of_attempts =
+          let m : Message = awaited.1 in
+          let low = (step_known script range events start ran stepping is by so_far leads trail).given number (statuses.Succeeded bytes)
+          told_now in
+          let long = read_size in
+          let same = awaited.3 in
+          let (from, rsp, answering, said) = told_reply script range events start ran stepping is by so_far leads trail stepping.cause
+          is.caused number bytes (omega (arith, long, some)) told_now in
+          let old = awaited_at_first script range events start ran stepping is by so_far leads trail req awaited.0 work attempt m unanswered
+          (omega (arith, low, same)) in
+          let numbered : number ≡ old.message.number = sym same ∙ sym old.number_so in
+          let piece : IsOf old.first.work old.message.index
+          = (told_pieces-on_the_way script range events start start ran Still).each stepping.n stepping.host is.there up req old.place
+          old.first old.current old.message from rsp bytes old.of
+          (subst (λ (k : ℕ). IsAnswering start.world.wire (message_name stepping.n k) from rsp) numbered answering) said
+          (subst PolicyIn old.work_so policy_known)
+          (ap (λ (w : ObjWork). is_in_strips (policy_of w) (kind_of (oid_of w))) (sym old.work_so ∙ is_read) ∙ whole) in (
+            old.message.index,
+            subst (λ (w : ObjWork). IsOf w old.message.index) (sym old.work_so ∙ is_read) piece,
+          )
+
+      pub read_born : IsBorn start.past.attempts oid
+      read_born =
+          let long = read_size in
+          let (part, of) = of_attempts in
+          let (j, one, at, has) = of.each unit above (omega (arith, below, long)) in
+          let among = stands_among_all (λ (a : AttemptRecord). object_of a == oid) start.past.attempts j one at in
+          subst (IsBorn start.past.attempts) (eqb-true (object_of one) oid among.passed)
+          (of_the_born start.past.attempts (creates_first-in_run script range events start start ran Still) among.place one among.there)
+
     -- a unit of it
     module _ (is_good : good oid ≡ true) (epoch unit : ℕ) (created : IsCreated here.past.attempts oid epoch)
         (above : offset ≤ unit_start (kind_of oid) unit) (below : unit_end (kind_of oid) unit ≤ offset + size) (some : 1 ≤ size) where
@@ -255,4 +297,5 @@ module _ (script : List Statement) (range : RunsAreInRange script) (events : Lis
             served = found.served;
             within = omega (arith, past, within);
             same = found.same;
+            behind = found.behind;
           }

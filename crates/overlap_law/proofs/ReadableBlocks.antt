@@ -35,7 +35,9 @@ use Rattle.overlap_law.specs.Tables.{entry_by, EntriesAreMade, PublishedInodesAr
 use Rattle.overlap_law.specs.Units.{unit_end, covers_by}
 use Rattle.overlap_law.specs.Words.{Hosts, bytes_by}
 use Rattle.overlap_law.specs.WrittenBlocks.{is_allowed, IsBlockOfDisk, items_at, is_torn_here, blocks_per_object, IsCandidate, IsHome, outcomes_in, AreAllowed, BlocksAreWritten}
+use Rattle.overlap_law.proofs.BlocksOfAnyDisk.{live_alive, any_block}
 use Rattle.overlap_law.proofs.LiveIds.{few_objects}
+use Rattle.overlap_law.proofs.PublishedInodes.{live_was}
 use Rattle.overlap_law.proofs.Candidates.{HasMade, candidate_comes, are_candidates}
 use Rattle.overlap_law.proofs.CreatedInodes.{created_made}
 use Rattle.overlap_law.proofs.KnownDisks.{IsKnownDisk, vid-of_object, kind-of_object}
@@ -89,7 +91,8 @@ module _ (ledger : Ledger) (log : List Entry) (reservable : All IsReservable log
     holes_read vid index unit disk spec block of =
         let (j, entry, comes, is) = candidate_comes hosts attempts whole vid index of.entries of.there of.place 0 of.among in
         may_allowed attempts (items_at disk spec index unit) None (zeros BLOCK_BYTES)
-        (written.holes vid index unit disk spec block j entry comes is)
+        (written.holes vid index unit disk spec (any_block ledger (log_effects log) good_id vid disk spec index unit block) j entry
+        comes is)
 
     outcomes_allowed : (vid index unit home : ℕ) (disk : Disk) (spec : VdiSpec) → IsBlock vid disk spec index unit
         → IsHome attempts vid index home → home ≢ 0 → is_torn_here spec (items_at disk spec index unit) ≡ false
@@ -100,7 +103,8 @@ module _ (ledger : Ledger) (log : List Entry) (reservable : All IsReservable log
         (λ p attempt at.
         let (j, comes) = outcomes_come hosts (object_number home index) unit (home == vid) attempts whole p attempt at in
         may_allowed attempts (items_at disk spec index unit) (Some attempt.req) (bytes_by unit attempt.work)
-        (written.each vid index unit disk spec block sound home (home_comes vid index home to_come) some j attempt comes))
+        (written.each vid index unit disk spec (any_block ledger (log_effects log) good_id vid disk spec index unit block) sound home
+        (home_comes vid index home to_come) some j attempt comes))
 
     module _ (live : ℕ → Bool) (inodes : InodesAreLive (log_effects log) live good_id)
         (published : PublishedInodesAreMade log good_id attempts)
@@ -161,7 +165,8 @@ module _ (ledger : Ledger) (log : List Entry) (reservable : All IsReservable log
             → nat_lt 0 (length (outcomes_in hosts attempts vid home index unit)) ≡ true
         has_outcome home of some =
             let (j, entry, comes, is) = candidate_comes hosts attempts whole vid index of.entries of.there of.place home of.among in
-            let stands = made.each j entry comes.there vid index comes.object (inodes.each vid block.live block.good) block.good few
+            let stands = made.each j entry comes.there vid index comes.object
+            (inodes.each vid (live_was vid log block.live) (live_alive (log_effects log) vid block.live) block.good) block.good few
             comes.covers (λ none. some (sym is ∙ none)) in
             subst (λ (h : ℕ). nat_lt 0 (length (outcomes_in hosts attempts vid h index unit)) ≡ true) is
             (made_comes hosts (object_number (entry_by index entry) index) unit (entry_by index entry == vid) attempts

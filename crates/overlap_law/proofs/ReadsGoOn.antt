@@ -1,9 +1,11 @@
 -- A read goes on with what may be read: where what it was told so far may be read of its blocks, and so may what comes of a piece, and
 -- zeros of holes, then all that it has been told by its next piece, or by its reply, may.
-use Rattle.std.proofs.Common.{◌≡◌, ⊎_elim, arith, ℕ, zero, suc, ◌+◌, ◌*◌, ◌-◌, ◌<◌, ◌≤◌, ◌==◌, Bool, true, false, cond, List, [], ◌++◌, length, take, drop, Some, refl, sym, ap, subst, ◌∙◌}
+use Rattle.std.proofs.Common.{◌≡◌, ⊎_elim, arith, ℕ, zero, suc, ◌+◌, ◌*◌, ◌-◌, ◌<◌, ◌≤◌, ◌==◌, Bool, true, false}
+use Rattle.std.proofs.Common.{cond, All, List, [], ◌∷◌, ◌++◌, length, take, drop, Some, refl, sym, ap, subst, ◌∙◌}
 use Rattle.std.specs.Prelude.{slice_index}
 use Rattle.std.proofs.lemmas.Bool.{cases_lt, eqb-true}
 use Rattle.std.proofs.lemmas.List.{drop-append-le, drop-replicate, length-append, length-drop, length-replicate, take-append-le, take-replicate}
+use Rattle.std.proofs.lemmas.List.Elements.{All-head, All-tail}
 use Rattle.std.proofs.lemmas.Option.{same_Some}
 use Rattle.std.proofs.Math.Seq.{drop-append-add}
 use Rattle.object_id.specs.declared.limits.TheConstants.{BLOCK_BYTES}
@@ -19,7 +21,7 @@ use Rattle.guest_driver.specs.Driver.{Reads, DriverStep, work_step, read_on, dri
 use Rattle.guest_driver.specs.Extent.{IsExtent, Touches, first_index_of, last_index_of, piece_at_index, pieces_from, place_at}
 use Rattle.guest_driver.proofs.ExtentLemmas.{pieces_from-cons, pieces_from-past, place_at-here, place_at-next, place_at-first, piece-blocks, first-le-last}
 use Rattle.overlap_law.specs.Pieces.{IsInPiece, bytes_for}
-use Rattle.overlap_law.specs.ToldReads.{Reading, IsReadUpTo, PieceMayBeRead, HolesMayBeRead, ReadStands}
+use Rattle.overlap_law.specs.ToldReads.{Reading, IsReadUpTo, PieceMayBeRead, HoleMayBeRead, ReadStands}
 use Rattle.overlap_law.specs.WrittenBlocks.{IsBlockOfDisk, items_at}
 
 -- ---- bytes behind others
@@ -127,72 +129,82 @@ module _ (May : Reading) (ledger : Ledger) (effects : List Effect) (good_id : �
 
   -- ---- holes, up to the next piece that is none
 
-  module _ (holes : HolesMayBeRead May ledger effects good_id inode) where
-    hole-piece : (index : ℕ) → Touches extent index → slice_index inode.table index ≡ 0
-        → PieceMayBeRead May ledger effects good_id inode (piece_at_index extent index) (zeros (piece_at_index extent index).size)
-    hole-piece index at hole = record {
-      long = length-replicate (piece_at_index extent index).size 0;
-      each = λ unit disk inside block.
-          let ends = block-inside index unit at inside in
-          let first = inside.first in
-          subst (λ (list : List ℕ). May (items_at disk inode.spec index unit) list)
-          (sym (piece-of_zeros (piece_at_index extent index).size (BLOCK_BYTES * unit - (piece_at_index extent index).offset) BLOCK_BYTES
-          (omega (arith, ends, first))))
-          (holes.each index unit disk hole block);
-    }
+  abbrev Hole : Piece → Type 0
+  Hole = HoleMayBeRead May ledger effects good_id inode
 
-    abbrev Stands : DriverStep → Type 0
-    Stands step = ReadStands May ledger effects good_id inode extent step.driver step.act
+  hole-piece : (index : ℕ) → Touches extent index → Hole (piece_at_index extent index) → slice_index inode.table index ≡ 0
+      → PieceMayBeRead May ledger effects good_id inode (piece_at_index extent index) (zeros (piece_at_index extent index).size)
+  hole-piece index at may hole = record {
+    long = length-replicate (piece_at_index extent index).size 0;
+    each = λ unit disk inside block.
+        let ends = block-inside index unit at inside in
+        let first = inside.first in
+        subst (λ (list : List ℕ). May (items_at disk inode.spec index unit) list)
+        (sym (piece-of_zeros (piece_at_index extent index).size (BLOCK_BYTES * unit - (piece_at_index extent index).offset) BLOCK_BYTES
+        (omega (arith, ends, first))))
+        (may unit disk hole block);
+  }
 
-    goes : (n index : ℕ) (told : List ℕ) → index + n ≡ last_index_of extent + 1 → first_index_of extent ≤ index → UpTo index told
-        → Stands (read_on inode told (pieces_from extent index))
-    unfolding read_on
-    goes zero index told e low up =
-        let past : index ≡ last_index_of extent + 1 = omega (arith, e) in
-        subst (λ (rest : List Piece). Stands (read_on inode told rest)) (sym (pieces_from-past extent index (omega (arith, past))))
-        (told, refl, subst (λ (i : ℕ). UpTo i told) past up)
-    goes (suc n) index told e low up =
-        subst (λ (rest : List Piece). Stands (read_on inode told rest)) (sym (pieces_from-cons extent index high))
-        (by_entry (entry_of inode piece == 0) refl
-        (λ next. goes n (index + 1) (told ++ zeros (piece_at_index extent index).size) (omega (arith, e)) (omega (arith, low)) next))
-      where
-        piece : Piece
-        piece = piece_at_index extent index
+  abbrev Stands : DriverStep → Type 0
+  Stands step = ReadStands May ledger effects good_id inode extent step.driver step.act
 
-        high : index ≤ last_index_of extent
-        high = omega (arith, e)
+  goes : (n index : ℕ) (told : List ℕ) → index + n ≡ last_index_of extent + 1 → first_index_of extent ≤ index
+      → All (HoleMayBeRead May ledger effects good_id inode) (pieces_from extent index) → UpTo index told
+      → Stands (read_on inode told (pieces_from extent index))
+  unfolding read_on
+  goes zero index told e low holes up =
+      let past : index ≡ last_index_of extent + 1 = omega (arith, e) in
+      subst (λ (rest : List Piece). Stands (read_on inode told rest)) (sym (pieces_from-past extent index (omega (arith, past))))
+      (told, refl, subst (λ (i : ℕ). UpTo i told) past up)
+  goes (suc n) index told e low holes up =
+      subst (λ (rest : List Piece). Stands (read_on inode told rest)) (sym (pieces_from-cons extent index high))
+      (by_entry (entry_of inode piece == 0) refl
+      (λ next. goes n (index + 1) (told ++ zeros (piece_at_index extent index).size) (omega (arith, e)) (omega (arith, low))
+      (All-tail Hole piece (pieces_from extent (index + 1)) these) next))
+    where
+      piece : Piece
+      piece = piece_at_index extent index
 
-        by_entry : (b : Bool) → (entry_of inode piece == 0) ≡ b
-            → (UpTo (index + 1) (told ++ zeros piece.size)
-            → Stands (read_on inode (told ++ zeros piece.size) (pieces_from extent (index + 1))))
-            → Stands (cond b (read_on inode (told ++ zeros piece.size) (pieces_from extent (index + 1)))
-            (work_step inode (Reads told piece (pieces_from extent (index + 1))) (read_piece inode piece (entry_of inode piece))))
-        by_entry true hole further =
-            further
-            (one_more index told (zeros piece.size) (touches index low high) up
-            (hole-piece index (touches index low high) (eqb-true (entry_of inode piece) 0 hole)))
-        by_entry false some further = (index, touches index low high, refl, refl, up)
+      high : index ≤ last_index_of extent
+      high = omega (arith, e)
 
-    -- a read that begins
-    pub begins : Stands (read_on inode [] (pieces_from extent (first_index_of extent)))
-    begins =
-        let ordered = first-le-last extent is in
-        goes (last_index_of extent + 1 - first_index_of extent) (first_index_of extent) [] (omega (arith, ordered)) (omega arith)
-        (record {
-          long = sym (place_at-first extent is);
-          each = λ k unit disk low less inside block. absurd (omega (arith, low, less));
-        })
+      these : All (HoleMayBeRead May ledger effects good_id inode) (piece_at_index extent index ∷ pieces_from extent (index + 1))
+      these = subst (All Hole) (pieces_from-cons extent index high) holes
 
-    -- a read of which a piece came
-    pub goes_on : (told bytes : List ℕ) (piece : Piece) (rest : List Piece) (step : DriverStep)
-        → ReadStands May ledger effects good_id inode extent (Reads told piece rest) step.act
-        → PieceMayBeRead May ledger effects good_id inode piece bytes → driver_on_done inode bytes (Reads told piece rest) ≡ Some step
-        → Stands step
-    unfolding driver_on_done
-    goes_on told bytes piece rest step (index, at, same, behind, up) may next =
-        let low = at.first in
-        let high = at.last in
-        subst Stands
-        (ap (read_on inode (told ++ bytes)) (sym behind) ∙ same_Some (read_on inode (told ++ bytes) rest) step next)
-        (goes (last_index_of extent - index) (index + 1) (told ++ bytes) (omega (arith, high)) (omega (arith, low))
-        (one_more index told bytes at up (subst (λ (p : Piece). PieceMayBeRead May ledger effects good_id inode p bytes) same may)))
+      by_entry : (b : Bool) → (entry_of inode piece == 0) ≡ b
+          → (UpTo (index + 1) (told ++ zeros piece.size)
+          → Stands (read_on inode (told ++ zeros piece.size) (pieces_from extent (index + 1))))
+          → Stands (cond b (read_on inode (told ++ zeros piece.size) (pieces_from extent (index + 1)))
+          (work_step inode (Reads told piece (pieces_from extent (index + 1))) (read_piece inode piece (entry_of inode piece))))
+      by_entry true hole further =
+          further
+          (one_more index told (zeros piece.size) (touches index low high) up
+          (hole-piece index (touches index low high) (All-head Hole piece (pieces_from extent (index + 1)) these)
+          (eqb-true (entry_of inode piece) 0 hole)))
+      by_entry false some further = (index, touches index low high, refl, refl, up)
+
+  -- a read that begins
+  pub begins : All (HoleMayBeRead May ledger effects good_id inode) (pieces_from extent (first_index_of extent))
+      → Stands (read_on inode [] (pieces_from extent (first_index_of extent)))
+  begins holes =
+      let ordered = first-le-last extent is in
+      goes (last_index_of extent + 1 - first_index_of extent) (first_index_of extent) [] (omega (arith, ordered)) (omega arith) holes
+      (record {
+        long = sym (place_at-first extent is);
+        each = λ k unit disk low less inside block. absurd (omega (arith, low, less));
+      })
+
+  -- a read of which a piece came
+  pub goes_on : (told bytes : List ℕ) (piece : Piece) (rest : List Piece) (step : DriverStep)
+      → ReadStands May ledger effects good_id inode extent (Reads told piece rest) step.act
+      → PieceMayBeRead May ledger effects good_id inode piece bytes → All (HoleMayBeRead May ledger effects good_id inode) rest
+      → driver_on_done inode bytes (Reads told piece rest) ≡ Some step → Stands step
+  unfolding driver_on_done
+  goes_on told bytes piece rest step (index, at, same, behind, up) may holes next =
+      let low = at.first in
+      let high = at.last in
+      subst Stands
+      (ap (read_on inode (told ++ bytes)) (sym behind) ∙ same_Some (read_on inode (told ++ bytes) rest) step next)
+      (goes (last_index_of extent - index) (index + 1) (told ++ bytes) (omega (arith, high)) (omega (arith, low))
+      (subst (All Hole) behind holes)
+      (one_more index told bytes at up (subst (λ (p : Piece). PieceMayBeRead May ledger effects good_id inode p bytes) same may)))

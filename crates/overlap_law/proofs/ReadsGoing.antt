@@ -1,6 +1,6 @@
 -- Reads may go on in the middle of a step, where what comes of their pieces is to come, and the holes of open disks are, if what blocks may
 -- come to be read as may be read of them.
-use Rattle.std.proofs.Common.{◌≡◌, ℕ, Bool, List, Option, Some, None, IfSome, refl, sym, ap, subst, ◌∙◌}
+use Rattle.std.proofs.Common.{◌≡◌, ◌≢◌, ℕ, Bool, true, List, length, Option, Some, None, IfSome, refl, sym, ap, subst, ◌∙◌}
 use Rattle.std.specs.Prelude.{unwrap_or}
 use Rattle.std.specs.Option.{option_and_then}
 use Rattle.std.specs.FinMap as tree
@@ -9,6 +9,8 @@ use Rattle.object_id.specs.Spec.{IsSpec}
 use Rattle.cluster_script.specs.declared.statement.Statement.{Statement}
 use Rattle.disk_history.specs.Ledger.{Ledger}
 use Rattle.guest_driver.specs.declared.disk.Disk.{Disk}
+use Rattle.guest_driver.specs.Pieces.{Piece, pieces}
+use Rattle.inode.specs.Layout.{Content}
 use Rattle.sheep_node.specs.declared.ask.Ask.{Ask}
 use Rattle.sheep_node.specs.declared.input.Input.TheVariants as inputs
 use Rattle.sheep_node.specs.declared.session.Session.{Session}
@@ -18,12 +20,14 @@ use Rattle.sheep_world.specs.Began.{Began}
 use Rattle.sheep_world.specs.NodeCauses.{NodeCause, GuestAsks, RequestComes, ReplyComes, LossIsTold, EntryIsRead, EntryIsPut, RecoveryTicks, WorkIsRetried, host_with_node, input_of_cause, IsCause}
 use Rattle.sheep_world.specs.World.{Host, World}
 use Rattle.vdi_directory.specs.declared.effect.Effect.{Effect}
+use Rattle.vdi_directory.specs.States.{state_of, is_live_state}
+use Rattle.overlap_law.specs.Attempts.{AttemptRecord}
 use Rattle.overlap_law.specs.MomentChanges.{MomentTrail, RunsAreInRange}
 use Rattle.overlap_law.specs.Past.{MomentWithPast}
-use Rattle.overlap_law.specs.StandingReads.{asked_in, ReadsMayGoOnIn, ReadPiecesAreToCome, OpenHolesAreToCome}
-use Rattle.overlap_law.specs.StayingBlocks.{BlocksStayWritten}
-use Rattle.overlap_law.specs.ToldReads.{MayStayReadAs}
-use Rattle.overlap_law.proofs.AnswersInMoments.{not_lost}
+use Rattle.overlap_law.specs.StandingReads.{asked_in, ReadsMayGoOnIn, ReadPiecesAreToCome, ReadHolesAreToCome}
+use Rattle.overlap_law.specs.StayingBlocks.{BlocksStayWritten, IsHomeToCome}
+use Rattle.overlap_law.specs.ToldReads.{MayStayReadAs, PieceIsToCome, PieceMayBeRead}
+use Rattle.overlap_law.specs.Words.{Hosts}
 use Rattle.overlap_law.proofs.CausedWorks.{HasWellWorks}
 use Rattle.overlap_law.proofs.KnownDisks.{IsKnownInode}
 use Rattle.overlap_law.proofs.PiecesRead.{piece_read, holes_read}
@@ -58,9 +62,23 @@ open_sound node well session disk opened = (by_session (tree.get node.sessions s
 
 module _ (script : List Statement) (range : RunsAreInRange script) (start : MomentWithPast) (began : Began script start.world)
     (ledger : Ledger) (effects : List Effect) (good_id : ℕ → Bool) where
+  -- what is to come of a piece of a good disk may be read of it
+  piece_may : (hosts : Hosts) (attempts : List AttemptRecord) → BlocksStayWritten ledger effects good_id hosts attempts → (inode : Content)
+      (piece : Piece) (bytes : List ℕ) → length bytes ≡ piece.size
+      → (good_id inode.vid ≡ true → is_live_state (state_of effects inode.vid) ≡ true
+      → (home : ℕ) × IsHomeToCome hosts attempts inode.vid piece.index home × (home ≢ 0)
+      × PieceIsToCome ledger effects good_id hosts attempts inode home piece bytes)
+      → PieceMayBeRead (MayStayReadAs attempts) ledger effects good_id inode piece bytes
+  piece_may hosts attempts written inode piece bytes long comes = record {
+    long = long;
+    each = λ unit disk inside block.
+        let (home, of, some, to_come) = comes block.good block.live in
+        (piece_read ledger effects good_id hosts attempts written inode home piece bytes of some to_come).each unit disk inside block;
+  }
+
   pub reads_may_go_on : (before : MomentWithPast) → MomentTrail script start before
-      → BlocksStayWritten ledger effects good_id before.world.hosts before.past.attempts → OpenHolesAreToCome before
-      → ReadPiecesAreToCome script start before ledger effects good_id
+      → BlocksStayWritten ledger effects good_id before.world.hosts before.past.attempts
+      → ReadHolesAreToCome script start before effects good_id → ReadPiecesAreToCome script start before ledger effects good_id
       → ReadsMayGoOnIn script start before (MayStayReadAs before.past.attempts) ledger effects good_id
   reads_may_go_on before trail written holes come = record {
     each = λ stepping so_far is by leads before_so.
@@ -71,12 +89,17 @@ module _ (script : List Statement) (range : RunsAreInRange script) (start : Mome
           brought = brings script start.world stepping.n stepping.host stepping.cause is.caused;
           sound = open_sound so_far.node
               (well_along script range start began trail stepping.n (host_with_node stepping.host so_far.node) at);
-          holes = λ session disk opened.
+          begins = λ session req offset size disk there opened runs.
               holes_read ledger effects good_id before.world.hosts before.past.attempts written disk.inode
-              (holes.each stepping.n (host_with_node stepping.host so_far.node) at (not_lost stepping.host is.up) session disk opened);
+              (pieces disk.inode.spec.shift offset size)
+              (holes.begins stepping so_far is by leads before_so session req offset size disk there opened runs);
           comes = λ session req number work attempt status told bytes piece rest disk ends opened.
-              let (home, of, some, to_come) = come.each stepping so_far is by leads before_so session req number work attempt status told
-              bytes piece rest disk ends opened in
-              piece_read ledger effects good_id before.world.hosts before.past.attempts written disk.inode home piece bytes of some to_come;
+              let of_piece = come.each stepping so_far is by leads before_so session req number work attempt status told bytes piece rest
+              disk ends opened in (
+                piece_may before.world.hosts before.past.attempts written disk.inode piece bytes of_piece.0 of_piece.1,
+                holes_read ledger effects good_id before.world.hosts before.past.attempts written disk.inode rest
+                    (holes.behind stepping so_far is by leads before_so session req number work attempt status told bytes piece rest disk
+                    ends opened),
+              );
         };
   }

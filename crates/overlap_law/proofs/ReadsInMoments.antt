@@ -61,7 +61,7 @@ reads_known moment sound claimed fit own well reading = record {
 }
 
 module _ (script : List Statement) (range : RunsAreInRange script) where
-  reading_in_world : (world : World) → Began script world → AreReadingWell world.hosts
+  pub reading_in_world : (world : World) → Began script world → AreReadingWell world.hosts
   reading_in_world world began n host there = record {
     waited = works_waited script range world began n host there;
     sound = ((sound_world script range world began).hosts n host there).node.sound_works;
@@ -106,7 +106,7 @@ module _ (script : List Statement) (range : RunsAreInRange script) where
     at_end : (event : Event) (made : EventOutcome) → step script event start.world ≡ Some made → AreReadingWell made.world.hosts
     at_end event made happened = reading_in_world made.world (goes_on script event start.world made began happened)
 
-    reading_after : {before after : MomentWithPast} → MomentChange script start before after → AreReadingWell after.world.hosts
+    pub reading_after : {before after : MomentWithPast} → MomentChange script start before after → AreReadingWell after.world.hosts
     reading_after (moments.StepBegins stepping is by) = in_step stepping is by (first_in_step stepping) changes.Still
     reading_after (moments.StepGoesOn stepping so_far next is by within) =
         in_step stepping is by next (changes.Then within.leads within.change)

@@ -18,6 +18,7 @@ use Rattle.sheep_node.specs.declared.course.Request.{Request}
 use Rattle.sheep_node.specs.State.{Node, session_at}
 use Rattle.overlap_law.specs.Attempts.{AttemptRecord}
 use Rattle.overlap_law.specs.Headline.{ledger_of}
+use Rattle.overlap_law.specs.Overlap.{CallsFewer}
 use Rattle.overlap_law.specs.StandingReads.{IsDriverStanding, IsCourseStanding, ReadsStand, ReadsAreKept, DisksWereThere}
 use Rattle.overlap_law.specs.ToldReads.{AllKeepReadsOf, MayStayReadAs, Reading, IsReadUpTo, extent_on}
 use Rattle.overlap_law.specs.WrittenBlocks.{IsBlockOfDisk, blocks_per_object, items_at}
@@ -25,7 +26,7 @@ use Rattle.overlap_law.proofs.ReadsStay.{stood}
 
 -- ---- by another ledger
 
-module _ (May_be Later : Reading) (ledger later : Ledger) (effects after : List Effect) (good_id : ℕ → Bool) where
+module _ (May_be Later : Reading) (ledger later : Ledger) (effects after : List Effect) (good_id good_after : ℕ → Bool) where
   -- a block was one before, and what might be read of it may be
   record WasBlock (vid : ℕ) (spec : VdiSpec) (index unit : ℕ) (disk : histories.Disk) : Type 0 where
     was : histories.Disk
@@ -34,13 +35,13 @@ module _ (May_be Later : Reading) (ledger later : Ledger) (effects after : List 
 
   -- so it is of each disk that has the block now
   abbrev Keeps : ℕ → VdiSpec → ℕ → ℕ → Type 0
-  Keeps vid spec index unit = (disk : histories.Disk) → IsBlockOfDisk later after good_id vid disk spec index unit
+  Keeps vid spec index unit = (disk : histories.Disk) → IsBlockOfDisk later after good_after vid disk spec index unit
       → WasBlock vid spec index unit disk
 
   told_by : (inode : Content) (offset size index : ℕ) (told : List ℕ)
       → ((k unit : ℕ) → k < index → Keeps inode.vid inode.spec k unit)
       → IsReadUpTo May_be ledger effects good_id inode (extent_on inode offset size) index told
-      → IsReadUpTo Later later after good_id inode (extent_on inode offset size) index told
+      → IsReadUpTo Later later after good_after inode (extent_on inode offset size) index told
   told_by inode offset size index told keep is = record {
     long = is.long;
     each = λ k unit disk low less inside block.
@@ -52,7 +53,7 @@ module _ (May_be Later : Reading) (ledger later : Ledger) (effects after : List 
       → ((told : List ℕ) (piece : Piece) (rest : List Piece) → driver ≡ Reads told piece rest → (k unit : ℕ) → k < piece.index
       → Keeps inode.vid inode.spec k unit)
       → IsDriverStanding May_be ledger effects good_id inode offset size driver
-      → IsDriverStanding Later later after good_id inode offset size driver
+      → IsDriverStanding Later later after good_after inode offset size driver
   driver_by inode offset size (Reads told piece rest) keep is = (
     is.0,
     is.1,
@@ -72,7 +73,8 @@ module _ (May_be Later : Reading) (ledger later : Ledger) (effects after : List 
   course_by : (asked : Option Ask) (opened : Option Disk) (course : Course)
       → ((told : List ℕ) (piece : Piece) (rest : List Piece) (disk : Disk) → course ≡ Driving (Reads told piece rest) → opened ≡ Some disk
       → (k unit : ℕ) → k < piece.index → Keeps disk.inode.vid disk.inode.spec k unit)
-      → IsCourseStanding May_be ledger effects good_id asked opened course → IsCourseStanding Later later after good_id asked opened course
+      → IsCourseStanding May_be ledger effects good_id asked opened course
+      → IsCourseStanding Later later after good_after asked opened course
   course_by asked opened (Waiting ask) keep is = is
   course_by asked None (Driving driver) keep is = is
   course_by asked (Some disk) (Driving driver) keep (disk_asks.Write offset payload, asks_so, is) =
@@ -91,7 +93,7 @@ module _ (May_be Later : Reading) (ledger later : Ledger) (effects after : List 
       → ((req : ℕ) (request : Request) (told : List ℕ) (piece : Piece) (rest : List Piece) (disk : Disk)
       → tree.get node.requests req ≡ Some request → request.course ≡ Driving (Reads told piece rest)
       → (session_at request.session node).disk ≡ Some disk → (k unit : ℕ) → k < piece.index → Keeps disk.inode.vid disk.inode.spec k unit)
-      → ReadsStand May_be ledger effects good_id asked node → ReadsStand Later later after good_id asked node
+      → ReadsStand May_be ledger effects good_id asked node → ReadsStand Later later after good_after asked node
   stand_by asked node kept stand = record {
     each = λ req request got.
         course_by (asked req) (session_at request.session node).disk request.course
@@ -106,7 +108,7 @@ module _ (May_be : Reading) (ledger later : Ledger) (effects : List Effect) (goo
   pub stand_alike : (asked : ℕ → Option Ask) (node : Node) → ReadsStand May_be ledger effects good_id asked node
       → ReadsStand May_be later effects good_id asked node
   stand_alike asked node stand =
-      stand_by May_be May_be ledger later effects effects good_id asked node
+      stand_by May_be May_be ledger later effects effects good_id good_id asked node
       (λ req request told piece rest disk got course on k unit less now block. record {
         was = now;
         block = record {
@@ -123,6 +125,29 @@ module _ (May_be : Reading) (ledger later : Ledger) (effects : List Effect) (goo
       })
       stand
 
+-- ---- of fewer disks
+
+module _ (May_be : Reading) (ledger : Ledger) (effects : List Effect) (many few : ℕ → Bool) (fewer : CallsFewer few many) where
+  pub stand_fewer : (asked : ℕ → Option Ask) (node : Node) → ReadsStand May_be ledger effects many asked node
+      → ReadsStand May_be ledger effects few asked node
+  stand_fewer asked node stand =
+      stand_by May_be May_be ledger ledger effects effects many few asked node
+      (λ req request told piece rest disk got course on k unit less now block. record {
+        was = now;
+        block = record {
+          there = block.there;
+          kept = block.kept;
+          live = block.live;
+          good = fewer disk.inode.vid block.good;
+          made_with = block.made_with;
+          object = block.object;
+          inside = block.inside;
+          block = block.block;
+        };
+        stays = λ bytes may. may;
+      })
+      stand
+
 -- ---- by a later history
 
 module _ (attempts later : List AttemptRecord)
@@ -130,8 +155,8 @@ module _ (attempts later : List AttemptRecord)
     (history grown : List HistEvent) (effects after : List Effect) (good_id : ℕ → Bool) (were : DisksWereThere effects after history) where
   was_block : (vid : ℕ) (spec : VdiSpec) (index unit : ℕ)
       → AllKeepReadsOf attempts (ledger_of history) vid (index * blocks_per_object spec + unit) grown
-      → Keeps (MayStayReadAs attempts) (MayStayReadAs later) (ledger_of history) (ledger_of (history ++ grown)) effects after good_id vid
-      spec index unit
+      → Keeps (MayStayReadAs attempts) (MayStayReadAs later) (ledger_of history) (ledger_of (history ++ grown)) effects after good_id
+      good_id vid spec index unit
   was_block vid spec index unit keep disk block =
       let before = stood attempts history grown vid (index * blocks_per_object spec + unit) disk keep block.there block.kept in
       record {
@@ -154,7 +179,7 @@ module _ (attempts later : List AttemptRecord)
       → ReadsStand (MayStayReadAs later) (ledger_of (history ++ grown)) after good_id asked node
   stand_later asked node kept stand =
       stand_by (MayStayReadAs attempts) (MayStayReadAs later) (ledger_of history) (ledger_of (history ++ grown)) effects after good_id
-      asked node
+      good_id asked node
       (λ req request told piece rest disk got course on k unit less.
       was_block disk.inode.vid disk.inode.spec k unit (kept.each req request told piece rest disk got course on k unit less))
       stand

@@ -63,7 +63,7 @@ refused_replies session req cause (DoingWork work) so_far free = Replied (req, r
 refused_replies session req cause (AwaitingDecision entry) so_far free = Silent
 
 module _ (input : Input) (node : Node) where
-  steps_silent : (so_far : StepState) (session req : ℕ) (next : Outcome) (moved : StepState)
+  pub steps_silent : (so_far : StepState) (session req : ℕ) (next : Outcome) (moved : StepState)
       → RequestSteps input node so_far session req next moved
       → moved.outputs.replies ≡ so_far.outputs.replies
   steps_silent so_far session req next moved (DiskBegins ask disk there on may) = refl
@@ -104,7 +104,7 @@ module _ (input : Input) (node : Node) where
   steps_free so_far session req next moved (EntryDecided entry wanted from read there waits) apart =
       λ one among. apart req _ one there among
 
-  comes_silent : (so_far : StepState) (session req : ℕ) (tried : Work) (lined : StepState)
+  pub comes_silent : (so_far : StepState) (session req : ℕ) (tried : Work) (lined : StepState)
       → WorkIsNext input node so_far session req tried lined
       → lined.outputs.replies ≡ so_far.outputs.replies
   comes_silent so_far session req tried lined (AtOnce work moved steps begins) = steps_silent so_far session req (ToWork work) moved steps

@@ -43,7 +43,7 @@ use Rattle.overlap_law.proofs.QueueOnce.{IsOnce, runs_apart}
 use Rattle.overlap_law.proofs.QueuesInMoments.{HasGoodQueues}
 
 -- two requests of a queue that may both run have no index in common
-turns_apart : (queue : List Queued) (one two : Queued) → IsOnce queue → Contains queue one → Contains queue two → one.req ≢ two.req
+pub turns_apart : (queue : List Queued) (one two : Queued) → IsOnce queue → Contains queue one → Contains queue two → one.req ≢ two.req
     → may_run one.req queue ≡ true → may_run two.req queue ≡ true → AreApart one two
 turns_apart queue one two once there there_too apart may may_too =
     let (place, at) = place_of queue one there in
@@ -154,7 +154,8 @@ module _ (node : Node) (well : HasWellWorks node) (queues : HasGoodQueues node) 
         (subst (IsSeen size_and_queue (IsCovered req) node.sessions) p.there (queues.covered req)))
 
     covers : Covers queued.0 p.piece.index
-    covers = All-head (CoversPiece queued.0) p.piece p.rest (subst (All (CoversPiece queued.0)) p.left (covered.1 queued.0 queued.1 queued.2))
+    covers = All-head (CoversPiece queued.0) p.piece p.rest (subst (All (CoversPiece queued.0)) p.left
+        (covered.1 queued.0 queued.1 queued.2).0)
 
     runs : may_run queued.0.req (queue_in session node.sessions) ≡ true
     runs = ap (λ (k : ℕ). may_run k (queue_in session node.sessions)) queued.2 ∙ covered.0

@@ -79,7 +79,7 @@ pub record IsTaking (moment : MomentWithPast) (n : ℕ) (host : Host) (vid : ℕ
   pub writer : writer_of (log_effects moment.world.log) vid ≡ Some (session_holder n request.session)
 
 -- what a session among some has open is a session's
-opened_there : (sessions : tree.FinMap nat_cmp Session) (number vid : ℕ) (snapshot : Bool)
+pub opened_there : (sessions : tree.FinMap nat_cmp Session) (number vid : ℕ) (snapshot : Bool)
     → opened_in number sessions ≡ Some (snapshot, vid)
     → (session : Session) × (disk : Disk) × (tree.get sessions number ≡ Some session) × (session.disk ≡ Some disk)
     × (disk.snapshot ≡ snapshot) × (disk.inode.vid ≡ vid)

@@ -42,8 +42,8 @@ use Rattle.object_id.specs.declared.entry.Entry.{Entry}
 use Rattle.object_id.specs.declared.node.NodeId.{NodeId}
 use Rattle.vdi_directory.specs.declared.decision.Decision.{Decision}
 
--- it comes to be so of the command of a request, of this session, as a work is done
-pub record ComesNow (Came : Op → Type 0) (input : Input) (node : Node) (q session : ℕ) (so_far : StepState) : Type 0 where
+-- it comes to be so of the command of a request, of this session, as a work is done, which gives it bytes
+pub record ComesNow (Came : Op → List ℕ → Type 0) (input : Input) (node : Node) (q session : ℕ) (so_far : StepState) : Type 0 where
   pub number : ℕ
   pub work : Work
   pub attempt : gateways.Attempt
@@ -51,15 +51,15 @@ pub record ComesNow (Came : Op → Type 0) (input : Input) (node : Node) (q sess
   pub bytes : List ℕ
   pub op : Op
   pub ends : EndsWork input node so_far session q number work attempt status (Commanding op) bytes
-  pub came : Came op
+  pub came : Came op bytes
 
 -- a command doesn't begin with it, and has it by no decision
-pub record IsOfWorks (P : OpStage → Type 0) (Came : Op → Type 0) : Type 0 where
+pub record IsOfWorks (P : OpStage → Type 0) (Came : Op → List ℕ → Type 0) : Type 0 where
   pub begins : (by : NodeId) (session : ℕ) (ask : VdiAsk) (disk : Option Content) (step : OpStep)
       → begin_command by session ask disk ≡ Some step → P step.op.stage → ⊥
   pub decided : (known : List Effect) (disk : Option Content) (decision : Decision) (op : Op) (step : OpStep)
       → on_decision known disk decision op ≡ Some step → P step.op.stage → ⊥
-  pub goes : (op : Op) (bytes : List ℕ) (step : OpStep) → op_on_done bytes op ≡ Some step → P step.op.stage → Came op
+  pub goes : (op : Op) (bytes : List ℕ) (step : OpStep) → op_on_done bytes op ≡ Some step → P step.op.stage → Came op bytes
 
 -- or as its entry is decided
 pub record IsDecidedNow (input : Input) (node : Node) (so_far : StepState) (request : Request) : Type 0 where
@@ -74,17 +74,17 @@ pub record IsDecidedNow (input : Input) (node : Node) (so_far : StepState) (requ
   pub course_so : request.course ≡ Commanding step.op
 
 -- how a command that doesn't begin with it comes to have it by works
-pub record IsNotAtFirst (P : OpStage → Type 0) (Came : Op → Type 0) : Type 0 where
+pub record IsNotAtFirst (P : OpStage → Type 0) (Came : Op → List ℕ → Type 0) : Type 0 where
   pub begins : (by : NodeId) (session : ℕ) (ask : VdiAsk) (disk : Option Content) (step : OpStep)
       → begin_command by session ask disk ≡ Some step → P step.op.stage → ⊥
-  pub goes : (op : Op) (bytes : List ℕ) (step : OpStep) → op_on_done bytes op ≡ Some step → P step.op.stage → Came op
+  pub goes : (op : Op) (bytes : List ℕ) (step : OpStep) → op_on_done bytes op ≡ Some step → P step.op.stage → Came op bytes
 
-module _ (P : OpStage → Type 0) (Came : Op → Type 0) (first : IsNotAtFirst P Came) (q : ℕ) (input : Input) (node : Node) where
+module _ (P : OpStage → Type 0) (Came : Op → List ℕ → Type 0) (first : IsNotAtFirst P Came) (q : ℕ) (input : Input) (node : Node) where
   abbrev begins : (by : NodeId) (session : ℕ) (ask : VdiAsk) (disk : Option Content) (step : OpStep)
       → begin_command by session ask disk ≡ Some step → P step.op.stage → ⊥
   begins = first.begins
 
-  abbrev goes : (op : Op) (bytes : List ℕ) (step : OpStep) → op_on_done bytes op ≡ Some step → P step.op.stage → Came op
+  abbrev goes : (op : Op) (bytes : List ℕ) (step : OpStep) → op_on_done bytes op ≡ Some step → P step.op.stage → Came op bytes
   goes = first.goes
 
   abbrev pub HadOrComes : StepState → Request → Type 0
@@ -210,7 +210,7 @@ module _ (P : OpStage → Type 0) (Came : Op → Type 0) (first : IsNotAtFirst P
   stage_or_decided so_far next (changes.Recovers due) = from_itself so_far
 
 -- one that has it by no decision
-pub stage_from : (P : OpStage → Type 0) (Came : Op → Type 0) → IsOfWorks P Came → (q : ℕ) (input : Input) (node : Node)
+pub stage_from : (P : OpStage → Type 0) (Came : Op → List ℕ → Type 0) → IsOfWorks P Came → (q : ℕ) (input : Input) (node : Node)
     (so_far next : StepState)
     → Change input node so_far next → (r : Request) (op : Op) → tree.get next.node.requests q ≡ Some r → r.course ≡ Commanding op
     → P op.stage

@@ -1,14 +1,14 @@
 -- In each run in range what a check under way began to write stands: its session holds the disk, and begins no write on it but the check's.
-use Rattle.std.proofs.Common.{◌≡◌, inr, ⊎_elim, ℕ, ◌==◌, Bool, true, false, ◌||◌, List, [], ◌∷◌, Contains, Option, Some, None, is_none, refl, sym, ap, ◌∙◌}
+use Rattle.std.proofs.Common.{◌≡◌, inr, ⊎_elim, ℕ, ◌==◌, Bool, true, false, not, ◌&&◌, ◌||◌, List, [], ◌∷◌, Contains, Option, Some, None, is_none, refl, sym, ap, ◌∙◌}
 use Rattle.std.specs.List.{list_any}
 use Rattle.std.specs.Option.{option_map_or}
 use Rattle.std.specs.FinMap as tree
-use Rattle.std.proofs.lemmas.Bool.{eq-eqb, or_parts}
+use Rattle.std.proofs.lemmas.Bool.{eq-eqb, eqb-true, or_parts}
 use Rattle.std.proofs.lemmas.List.Elements.{Contains-append_cases}
 use Rattle.std.proofs.lemmas.Option.{same_Some}
 use Rattle.object_id.specs.declared.entry.Entry.{Entry}
 use Rattle.disk_history.specs.declared.event.HistEvent.{HistEvent}
-use Rattle.disk_history.specs.declared.event.HistEvent.TheVariants.{WriteStart}
+use Rattle.disk_history.specs.declared.event.HistEvent.TheVariants.{Create, Copy, Delete, WriteStart, WriteDone, WriteRefused, WriterLost, Read}
 use Rattle.disk_history.specs.Changes.{items_in}
 use Rattle.disk_history.specs.Ledger.{has_block}
 use Rattle.cluster_script.specs.declared.statement.Statement.{Statement}
@@ -41,7 +41,7 @@ use Rattle.overlap_law.proofs.ItemsAtBegin.{request_begins}
 use Rattle.overlap_law.proofs.ItemsOfReplies.{is_check_at, is_write_at, replies_none}
 use Rattle.overlap_law.proofs.OpenItemsInRuns.{fewer_make, kept_then}
 use Rattle.overlap_law.proofs.SessionsOfRequests.{IsAskedIn, are_asked}
-use Rattle.overlap_law.proofs.ItemsOfChecks.{Stands, disturbs, stands_begins, stands_item, stands_stays}
+use Rattle.overlap_law.proofs.StandingBefore.{Stands, disturbs, stands_begins, stands_item, stands_stays}
 use Rattle.overlap_law.proofs.UnansweredRequests.{requests_tied}
 use Rattle.overlap_law.proofs.UnderWay.{IsKeptOnHeld}
 use Rattle.overlap_law.proofs.UnderWayInRuns.{holds-in_run}
@@ -59,15 +59,41 @@ check_no_write None is = absurd (cc (is))
 check_no_write (Some (lines.Check session)) is = refl
 check_no_write (Some s) is = absurd (cc (is))
 
--- what passes neither of two tests passes none of both
-neither : (p q : HistEvent → Bool) (events : List HistEvent) → list_any p events ≡ false → list_any q events ≡ false
-    → list_any (λ (event : HistEvent). p event || q event) events ≡ false
-neither p q [] first then = refl
-neither p q (event ∷ later) first then =
-    let one = or_parts (p event) (list_any p later) first in
-    let two = or_parts (q event) (list_any q later) then in
-    let rest = neither p q later one.1 two.1 in
-    λ i. (one.0 i || two.0 i) || rest i
+-- what neither ends the check nor begins another's write on the disk doesn't disturb what the check began
+module _ (req vid block : ℕ) where
+  one_calm : (event : HistEvent) → ends_write_of req event ≡ false → begins_by_others vid (λ (other : ℕ). other == req) event ≡ false
+      → disturbs req (λ (other : ℕ). other == req) vid block event ≡ false
+  one_calm (Create disk blocks) ends begins = refl
+  one_calm (Copy old new) ends begins = refl
+  one_calm (Delete disk) ends begins = refl
+  one_calm (WriteStart other disk at coded bytes) ends begins = by_disk (vid == disk) refl
+    where
+      by_disk : (b : Bool) → (vid == disk) ≡ b → ((b && block == at) && not (other == req)) ≡ false
+      by_disk false apart = refl
+      by_disk true on =
+          let here : (disk == vid) ≡ true = eq-eqb disk vid (sym (eqb-true vid disk on)) in
+          let own : not (other == req) ≡ false = sym (ap (λ (b : Bool). b && not (other == req)) here) ∙ begins in
+          by_block (block == at) own
+        where
+          by_block : (b : Bool) → not (other == req) ≡ false → (b && not (other == req)) ≡ false
+          by_block true own = own
+          by_block false own = refl
+  one_calm (WriteDone other) ends begins = λ i. ends i || ends i
+  one_calm (WriteRefused other) ends begins = ends
+  one_calm (WriterLost other) ends begins = ends
+  one_calm (Read disk at bytes) ends begins = refl
+
+  all_calm : (events : List HistEvent) → list_any (ends_write_of req) events ≡ false
+      → list_any (begins_by_others vid (λ (other : ℕ). other == req)) events ≡ false
+      → list_any (disturbs req (λ (other : ℕ). other == req) vid block) events ≡ false
+  all_calm [] ends begins = refl
+  all_calm (event ∷ later) ends begins =
+      let one = or_parts (ends_write_of req event) (list_any (ends_write_of req) later) ends in
+      let two = or_parts (begins_by_others vid (λ (other : ℕ). other == req) event)
+      (list_any (begins_by_others vid (λ (other : ℕ). other == req)) later) begins in
+      let first = one_calm event one.0 two.0 in
+      let rest = all_calm later one.1 two.1 in
+      λ i. first i || rest i
 
 module _ (script : List Statement) (range : RunsAreInRange script) (req : ℕ) (checks : is_check_at script req ≡ true) where
   writer : IsWriterAt script req
@@ -127,15 +153,17 @@ module _ (script : List Statement) (range : RunsAreInRange script) (req : ℕ) (
   abbrev StandsOn : List Entry → List HistEvent → ℕ → Type 0
   StandsOn log history vid = (block : ℕ) (coded : Bool) (bytes : List ℕ) → Contains history (WriteStart req vid block coded bytes)
       → has_block ((ledger_of history).disks vid) block ≡ true
-      → Stands req bytes (items_in ((ledger_of history).disks vid) block)
+      → Stands req (λ (other : ℕ). other == req) bytes (items_in ((ledger_of history).disks vid) block)
 
   stands_keeps : IsKeptOnHeld script range req writer StandsOn
   stands_keeps world began event made happened grows n host there up request got disk opened working others ends history was
       block coded bytes there_is has =
-      kept_then req disk.inode.vid block coded bytes (Stands req bytes) (disturbs req disk.inode.vid)
-      (stands_stays req bytes disk.inode.vid block) (stands_begins req coded bytes) history made.grown
+      kept_then req disk.inode.vid block coded bytes (Stands req (λ (other : ℕ). other == req) bytes)
+      (disturbs req (λ (other : ℕ). other == req) disk.inode.vid block)
+      (stands_stays req (λ (other : ℕ). other == req) bytes disk.inode.vid block)
+      (stands_begins req (λ (other : ℕ). other == req) coded bytes) history made.grown
       (fewer_make (is_asked_in script request.session) disk.inode.vid block made.grown others)
-      (neither (ends_write_of req) (begins_by_others disk.inode.vid (λ (other : ℕ). other == req)) made.grown ends
+      (all_calm req disk.inode.vid block made.grown ends
       (only_own world began n host there request got up disk opened working event made happened))
       has (was block coded bytes) there_is
 
@@ -169,7 +197,7 @@ pub checks_stand-in_run : (script : List Statement) → RunsAreInRange script �
     → run_with_past script events ≡ Some moment → WritesOfChecksStand script moment.past.history moment.world.hosts
 checks_stand-in_run script range events moment is = record {
   each = λ n host there up req block opened coded bytes way checks there_is has.
-      stands_item req bytes (items_in ((ledger_of moment.past.history).disks opened.inode.vid) block)
+      stands_item req (λ (other : ℕ). other == req) bytes (items_in ((ledger_of moment.past.history).disks opened.inode.vid) block)
       (holds-in_run script range req (writer script range req checks) (StandsOn script range req checks)
       (stands_keeps script range req checks) (stands_starts script range req checks) events moment is n host there up opened way
       block coded bytes there_is has);

@@ -56,7 +56,7 @@ use Rattle.overlap_law.proofs.UnderWayInRuns.{holds-in_run}
 use Rattle.overlap_law.proofs.UnderWayOfEvents.{HoldsAtBegin}
 
 -- numbers in a row
-in_range : (first count k : ℕ) → first ≤ k → k < first + count → Contains (range_with_len first count) k
+pub in_range : (first count k : ℕ) → first ≤ k → k < first + count → Contains (range_with_len first count) k
 in_range first zero k from below = absurd (omega (arith, from, below))
 in_range first (suc count) k from below = ⊎_elim
     (λ (own : first ≡ k). Contains-first first k (range_with_len (first + 1) count) own)
@@ -67,10 +67,10 @@ in_range first (suc count) k from below = ⊎_elim
     Contains-cons first (range_with_len (first + 1) count) k (in_range (first + 1) count k next within))
     (cases_eq first k)
 
-abbrev WritesBytes : ℕ → List ℕ → Option Ask → Type 0
+abbrev pub WritesBytes : ℕ → List ℕ → Option Ask → Type 0
 WritesBytes offset payload asked = asked ≡ Some (asks.Disk (disk_asks.Write offset payload))
 
-writes_is : (offset : ℕ) (payload : List ℕ) (s : Option Statement) → WritesBytes offset payload (option_and_then ask_of_statement s)
+pub writes_is : (offset : ℕ) (payload : List ℕ) (s : Option Statement) → WritesBytes offset payload (option_and_then ask_of_statement s)
     → option_map_or is_write s false ≡ true
 writes_is offset payload None is = absurd (cc (is))
 writes_is offset payload (Some (lines.Write number from size pattern)) is = refl
@@ -86,7 +86,7 @@ writes_is offset payload (Some s) is = absurd (cc (is))
 
 -- a write that begins on an open disk begins each of its blocks
 module _ (other offset place : ℕ) (payload : List ℕ) (disk : Disk) (inside : place < length payload / BLOCK_BYTES) where
-  abbrev Begun : List HistEvent → ℕ → List ℕ → Type 0
+  abbrev pub Begun : List HistEvent → ℕ → List ℕ → Type 0
   Begun events from bytes =
       Contains events (WriteStart other disk.inode.vid (from / BLOCK_BYTES + place) (is_in_strips disk.inode.spec.policy Block)
       (block_in bytes place))
@@ -116,7 +116,7 @@ module _ (other offset place : ℕ) (payload : List ℕ) (disk : Disk) (inside :
   block_begins (lines.Check session) is = absurd (cc (is))
   block_begins s is = absurd (cc (is))
 
-  block_of : (o : Option Disk) (s : Option Statement) → o ≡ Some disk → WritesBytes offset payload (option_and_then ask_of_statement s)
+  pub block_of : (o : Option Disk) (s : Option Statement) → o ≡ Some disk → WritesBytes offset payload (option_and_then ask_of_statement s)
       → Begun (option_map_or (begins_on other o) s []) offset payload
   block_of o None opened is = absurd (cc (is))
   block_of o (Some s) opened is =

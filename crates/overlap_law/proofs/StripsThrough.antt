@@ -106,7 +106,7 @@ later_parts w unit (p ∷ parts) =
 first_parts : (w : ℕ) (parts : List (List ℕ)) → map (take w) parts ≡ map (λ (p : List ℕ). take w (drop (zero * w) p)) parts
 first_parts w parts = ap (λ (k : ℕ). map (λ (p : List ℕ). take w (drop k p)) parts) (sym (zero-mul w))
 
-piece-through : (d : ℕ) (points : List ℕ) (blocks unit : ℕ) (parts : List (List ℕ)) → unit < blocks
+pub piece-through : (d : ℕ) (points : List ℕ) (blocks unit : ℕ) (parts : List (List ℕ)) → unit < blocks
     → take 512 (drop (unit * 512) (blocks_through d points blocks parts))
     ≡ block_through d points (map (λ (p : List ℕ). take (512 / d) (drop (unit * (512 / d)) p)) parts)
 unfolding blocks_through
@@ -134,12 +134,12 @@ offset_so : (d p unit : ℕ) → IsPolicy (Coded d p) → 512 * unit / d ≡ uni
 offset_so d p unit is =
     widths.by_cases (λ (n : ℕ). 512 * unit / n ≡ unit * (512 / n)) (omega arith) (omega arith) (omega arith) (omega arith) d is.0
 
-blocks_most : (d p unit long : ℕ) → IsPolicy (Coded d p) → unit * (512 / d) + 512 / d ≤ long → unit < long / (512 / d)
+pub blocks_most : (d p unit long : ℕ) → IsPolicy (Coded d p) → unit * (512 / d) + 512 / d ≤ long → unit < long / (512 / d)
 blocks_most d p unit long is =
     widths.by_cases (λ (n : ℕ). unit * (512 / n) + 512 / n ≤ long → unit < long / (512 / n)) (λ fits. omega (arith, fits))
     (λ fits. omega (arith, fits)) (λ fits. omega (arith, fits)) (λ fits. omega (arith, fits)) d is.0
 
-width_some : (d p : ℕ) → IsPolicy (Coded d p) → 1 ≤ 512 / d
+pub width_some : (d p : ℕ) → IsPolicy (Coded d p) → 1 ≤ 512 / d
 width_some d p is = widths.by_cases (λ (n : ℕ). 1 ≤ 512 / n) (omega arith) (omega arith) (omega arith) (omega arith) d is.0
 
 -- ---- the strip that rows make

@@ -2,7 +2,6 @@
 -- is where an entry is entered, where an inode is read as its disk is opened, and where an id takes the place of its disk.
 use Rattle.std.proofs.Common.{◌≡◌, arith, ℕ, true, Bool, List, [], ◌∷◌, ◌++◌, length, Option, Some, sym, ap, subst, ◌∙◌}
 use Rattle.std.specs.FinMap as tree
-use Rattle.object_id.specs.declared.cause.Cause.TheVariants.{Halt}
 use Rattle.object_id.specs.declared.entry.Entry.{Entry}
 use Rattle.object_id.specs.declared.oid.Vid.{Vid}
 use Rattle.object_id.specs.Oid.{IsVid}
@@ -13,10 +12,8 @@ use Rattle.vdi_directory.specs.declared.effect.Effect.{Effect}
 use Rattle.vdi_directory.specs.declared.header.Header.{Header}
 use Rattle.gateway.specs.Attempt.{Attempt}
 use Rattle.gateway.specs.State.{Work}
-use Rattle.gateway.specs.Work.{zones_for}
 use Rattle.gateway.specs.declared.message.Status.{Status}
 use Rattle.guest_driver.specs.declared.disk.Disk.{Disk}
-use Rattle.guest_driver.specs.InodeQueue as lines
 use Rattle.guest_driver.specs.Driver.{begin_driver}
 use Rattle.guest_driver.specs.Pieces.{Piece}
 use Rattle.guest_driver.specs.PieceWorks.{write_entry, table_with_entry}
@@ -36,13 +33,10 @@ use Rattle.sheep_node.specs.LogReading.{entry_read}
 use Rattle.sheep_node.specs.SoundWorks.{IsSoundWork, HasSoundWorks}
 use Rattle.sheep_node.specs.WantedWorks.{IsWorkWanted}
 use Rattle.sheep_node.specs.Guests.{queued_as}
-use Rattle.sheep_node.specs.Changes as changes
-use Rattle.sheep_node.specs.Changes.{HasRequest, IsSoundStep, Outcome, ToWork, ToEntry, ToReply, EndsWork, without_ended_work}
-use Rattle.sheep_node.specs.Changes.{without_denied_work}
-use Rattle.sheep_node.specs.Changes.{zones_of_members, RequestSteps, DiskBegins, DiskGoesOn, CommandBegins, CommandGoesOn, CommandDecided}
-use Rattle.sheep_node.specs.Changes.{CheckBegins, CheckGoesOn, ObjectBegins, ObjectIsDone, EntryBegins, EntryDecided, WorkIsNext}
-use Rattle.sheep_node.specs.Changes.{AtOnce, InTurn, Again, AgainAlone, Change}
-use Rattle.sheep_node.proofs.RefusedCourses.{course_refused-keeps, request_refused-keeps}
+use Rattle.sheep_node.specs.Changes.{HasRequest, IsSoundStep, Outcome, EndsWork, without_ended_work}
+use Rattle.sheep_node.specs.Changes.{RequestSteps, DiskBegins, DiskGoesOn, CommandBegins, CommandGoesOn, CommandDecided}
+use Rattle.sheep_node.specs.Changes.{CheckBegins, CheckGoesOn, ObjectBegins, ObjectIsDone, EntryBegins, EntryDecided}
+use Rattle.sheep_node.specs.Changes.{Change}
 use Rattle.sheep_node.proofs.SoundChanges.{IsKnown}
 use Rattle.sheep_node.proofs.ValidityChanges.{AnySent, disk_valid, course_valid}
 use Rattle.overlap_law.proofs.DoneWorks.{wanted, same_disk}
@@ -52,6 +46,8 @@ use Rattle.overlap_law.proofs.KnownDiskSteps.{AreOnKnown, IsKnownSoFar}
 use Rattle.overlap_law.proofs.TableWalk.{IsSoOpen, AreSoFar, TakesOver, open_so, opened_so, session_so, request_so, ended_so, freed_so}
 use Rattle.overlap_law.proofs.TableWalk.{sole_so}
 use Rattle.overlap_law.proofs.TableWalk.{driven_so, goes_so, commanded_so, command_begins-so, command_goes_on-so, command_decided-so}
+use Rattle.overlap_law.proofs.ChangeWalk.{kept_by_steps, change_holds}
+use Rattle.overlap_law.proofs.TableWalk.{AreSo as AreTablesSo, lined_so}
 
 -- where the reading of an inode ends, as its disk is opened, it is so of the inode with the table that was read
 abbrev pub OpeningsRead : (Content → Type 0) → Input → Node → StepState → Type 0
@@ -131,55 +127,13 @@ module _ (T : Content → Type 0) (known : List Effect) {input : Input} {node : 
       sole_so T session req (AwaitingDecision entry) so_far tt all
   steps_so so_far session req next moved (EntryDecided entry awaited from reading there waits) knows all = all
 
-  next_so : (so_far : StepState) (session req : ℕ) (asked : Work) (lined : StepState)
-      → WorkIsNext input node so_far session req asked lined
-      → KnowsTables so_far → AreSo so_far → AreSo lined
-  next_so so_far session req asked lined (AtOnce work moved steps begins) knows all =
-      let now = steps_so so_far session req (ToWork work) moved steps knows all in
-      session_so T moved.node.requests moved.node.sessions session
-      (record (session_in session moved) { inode_queue = lines.queue_with_open (session_in session moved).inode_queue req work })
-      (open_so T session moved now) now
-  next_so so_far session req asked lined (InTurn work later none is) knows all =
-      session_so T so_far.node.requests so_far.node.sessions session
-      (record (session_in session so_far) { inode_queue = record { current = Some req; waiting = later } }) (open_so T session so_far all)
-      all
-  next_so so_far session req asked lined (Again work course from next there request) knows all = all
-  next_so so_far session req asked lined (AgainAlone work from next there none) knows all = all
-
   pub change_so : (so_far next : StepState) → Change input node so_far next → KnowsTables so_far → AreSo so_far → AreSo next
-  change_so so_far next (changes.Marks req number work attempt status learns over) knows all = all
-  change_so so_far next (changes.Fails session req number work attempt status course ends done why) knows all = all
-  change_so so_far next (changes.Stops session req number work attempt status course bytes ends over) knows all =
-      freed_so T session req work status so_far all
-  change_so so_far next (changes.Refuses session req number work attempt status course cause ends done why) knows all =
-      course_refused-keeps AreSo (ended_so T) (λ entry before now. now) session req cause course
-      (without_ended_work session req work status so_far) (freed_so T session req work status so_far all)
-  change_so so_far next (changes.Opens session req asked lined comes short) knows all =
-      next_so so_far session req asked lined comes knows all
-  change_so so_far next (changes.Holds session req asked lined comes short touched) knows all =
-      next_so so_far session req asked lined comes knows all
-  change_so so_far next (changes.Denies session req asked lined request comes short untouched there own) knows all =
-      let now = next_so so_far session req asked lined comes knows all in
-      request_refused-keeps AreSo (ended_so T) (λ entry before now. now) req (Halt (zones_of_members lined.node) (zones_for asked.work))
-      request
-      (without_denied_work session req asked lined)
-      (session_so T lined.node.requests lined.node.sessions session
-      (record (session_in session lined) { inode_queue = lines.queue_after_end (session_in session lined).inode_queue asked.work })
-      (open_so T session lined now) now)
-  change_so so_far next (changes.Strays req work gateway there none apart) knows all = all
-  change_so so_far next (changes.Lines session req work moved steps waits) knows all =
-      let now = steps_so so_far session req (ToWork work) moved steps knows all in
-      session_so T moved.node.requests moved.node.sessions session
-      (record (session_in session moved) { inode_queue = lines.queue_with_waiting (session_in session moved).inode_queue req work })
-      (open_so T session moved now) now
-  change_so so_far next (changes.Appends session req entry moved steps) knows all =
-      steps_so so_far session req (ToEntry entry) moved steps knows all
-  change_so so_far next (changes.Replies session req reply moved steps) knows all =
-      ended_so T session req reply moved (steps_so so_far session req (ToReply reply) moved steps knows all)
-  change_so so_far next (changes.Arrives session req ask disk arrival on) knows all =
+  change_so so_far next change knows all =
+      change_holds (AreTablesSo T) (lined_so T) so_far
+      (kept_by_steps (AreTablesSo T) (lined_so T) so_far
+      (λ session req outcome moved takes. steps_so so_far session req outcome moved takes knows all) (ended_so T)
+      (λ session req ask disk arrival on.
       session_so T (tree.insert so_far.node.requests req (record { session = session; course = Waiting ask })) so_far.node.sessions session
       (record (session_in session so_far) { queue = (session_in session so_far).queue ++ queued_as disk.inode.spec.shift req ask ∷ [] })
       (open_so T session so_far all)
-      (request_so T so_far.node.requests so_far.node.sessions req session (Waiting ask) tt all)
-  change_so so_far next (changes.Rejects session req ask cause arrival) knows all = all
-  change_so so_far next (changes.Recovers due) knows all = all
+      (request_so T so_far.node.requests so_far.node.sessions req session (Waiting ask) tt all))) all next change

@@ -23,7 +23,6 @@ use Rattle.gateway.specs.State.{Work}
 use Rattle.gateway.specs.declared.message.Status.{Status}
 use Rattle.gateway_queue.specs.Queue.{queue_without}
 use Rattle.guest_driver.specs.declared.disk.Disk.{Disk}
-use Rattle.guest_driver.specs.InodeQueue as lines
 use Rattle.guest_driver.specs.Driver as drivers
 use Rattle.guest_driver.specs.Driver.{DriverStage, InPlace, Fetching, Creating, Entering, Driver, Reads, Writes, DriverStep, write_done}
 use Rattle.guest_driver.specs.Driver.{driver_on_done}
@@ -52,6 +51,9 @@ use Rattle.sheep_node.proofs.ValidityChanges.{put_is, gone_is}
 use Rattle.overlap_law.specs.MadeTables.{inode_to_open, inode_of_course}
 use Rattle.overlap_law.proofs.DriverNames.{read_stays, write_stays}
 use Rattle.overlap_law.proofs.KnownDisks.{FewAt}
+use Rattle.overlap_law.proofs.ChangeWalk.{freed_holds}
+use Rattle.guest_driver.specs.InodeQueue.{InodeQueue}
+use Rattle.sheep_node.specs.SessionQueues.{session_among}
 
 module _ (T : Content → Type 0) where
   -- ---- of requests and sessions
@@ -69,12 +71,16 @@ module _ (T : Content → Type 0) where
   abbrev pub AreSoFar : StepState → Type 0
   AreSoFar so_far = AreSo so_far.node.requests so_far.node.sessions
 
-  pub open_so : (number : ℕ) (so_far : StepState) → AreSoFar so_far → IsSoOpen (session_in number so_far).disk
-  open_so number so_far all = by_got (tree.get so_far.node.sessions number) refl
+  open_in_so : (requests : Requests) (sessions : Sessions) (number : ℕ) → AreSo requests sessions
+      → IsSoOpen (session_among number sessions).disk
+  open_in_so requests sessions number all = by_got (tree.get sessions number) refl
     where
-      by_got : (o : Option Session) → tree.get so_far.node.sessions number ≡ o → IsSoOpen (unwrap_or o new_session).disk
+      by_got : (o : Option Session) → tree.get sessions number ≡ o → IsSoOpen (unwrap_or o new_session).disk
       by_got None none = tt
       by_got (Some session) got = all.opened number session got
+
+  pub open_so : (number : ℕ) (so_far : StepState) → AreSoFar so_far → IsSoOpen (session_in number so_far).disk
+  open_so number so_far all = open_in_so so_far.node.requests so_far.node.sessions number all
 
   inode_so : (disk : Option Disk) → IsSoOpen disk → IfSome (inode_open disk) T
   inode_so None is = tt
@@ -108,12 +114,15 @@ module _ (T : Content → Type 0) where
         opened = all.opened;
       })
 
+  pub lined_so : (requests : Requests) (sessions : Sessions) (number : ℕ) (queue : InodeQueue) → AreSo requests sessions
+      → AreSo requests (tree.insert sessions number (record (session_among number sessions) { inode_queue = queue }))
+  lined_so requests sessions number queue all =
+      session_so requests sessions number (record (session_among number sessions) { inode_queue = queue })
+      (open_in_so requests sessions number all) all
+
   pub freed_so : (number req : ℕ) (work : Work) (status : Status) (so_far : StepState) → AreSoFar so_far
       → AreSoFar (without_ended_work number req work status so_far)
-  freed_so number req work status so_far all =
-      session_so so_far.node.requests so_far.node.sessions number
-      (record (session_in number so_far) { inode_queue = lines.queue_after_end (session_in number so_far).inode_queue work.work })
-      (open_so number so_far all) all
+  freed_so = freed_holds AreSo lined_so
 
   pub sole_so : (number req : ℕ) (course : Course) (so_far : StepState) → IsSoCourse course → AreSoFar so_far
       → AreSoFar (with_sole_request number req course so_far)

@@ -41,19 +41,19 @@ use Rattle.overlap_law.specs.MomentChanges.{MomentChange, RunsAreInRange}
 use Rattle.overlap_law.specs.Past.{MomentWithPast}
 use Rattle.overlap_law.specs.Reached.{Hosts}
 use Rattle.overlap_law.specs.StepMoments.{SteppingNode, IsStepping, StepsByChanges, IsWithinStep, moment_in_step}
-use Rattle.overlap_law.proofs.CausedWorks.{by_changes, no_object}
+use Rattle.overlap_law.proofs.CausedWorks.{by_changes}
 use Rattle.overlap_law.proofs.ChainTables.{HasChains, log_chains}
 use Rattle.overlap_law.proofs.ClaimsInRuns.{up_not_lost}
 use Rattle.overlap_law.proofs.EpochsRise.{epochs_rise, same_so_far}
 use Rattle.overlap_law.proofs.GuestsInMoments.{GuestsChange, GuestsStay, GuestsAreNone, IsGoingOn, IsBetween, between}
-use Rattle.overlap_law.proofs.KnownDisksInRuns.{caused_known, nodes_know}
 use Rattle.overlap_law.proofs.KnownDiskSteps.{IsKnownSoFar, effects_after}
-use Rattle.overlap_law.proofs.PlacesTaken.{places_taken}
+use Rattle.overlap_law.proofs.KnownDrivers.{on_known}
+use Rattle.overlap_law.proofs.StepsInRuns.{knows_read, knows_well, knows_tables}
 use Rattle.overlap_law.proofs.TableSteps.{KnowsTables, change_so}
 use Rattle.overlap_law.proofs.TableWalk.{IsSoCourse, IsSoOpen, AreSo}
-use Rattle.overlap_law.proofs.WholeInRuns.{sound_here, named, may_change, nodes_whole}
+use Rattle.overlap_law.proofs.WholeInRuns.{sound_here, may_change}
 use Rattle.overlap_law.proofs.WholeNodes.{IsWholeSoFar}
-use Rattle.overlap_law.proofs.WholeSteps.{IsWellKnown, read_so, well, tables_so_far}
+use Rattle.overlap_law.proofs.WholeSteps.{IsWellKnown}
 
 -- ---- what is weaker
 
@@ -180,48 +180,19 @@ module _ (script : List Statement) (range : RunsAreInRange script) (start : Mome
 
   pub reading : (entry : Entry) → input_of_cause stepping.cause ≡ inputs.LogEntry entry
       → effects_of (entry_read entry stepping.host.node).peer ≡ effects_after (input_of_cause stepping.cause) stepping.host.node
-  reading =
-      read_so input node may (named script range start.world began stepping.n stepping.host is.there is.up stepping.cause is.caused) sound
-      (caused_known script range.is_script known start.world stepping.n stepping.host stepping.cause is.caused)
-      (no_object script start.world stepping.n stepping.host stepping.cause is.caused)
-      (nodes_know script range start.world began stepping.n stepping.host is.there)
-      (places_taken script range start.world began stepping.n stepping.host is.there is.up stepping.cause is.caused)
-      (nodes_whole script range start.world began stepping.n stepping.host is.there)
+  reading = knows_read script range start began stepping is by
 
   pub knows_here : IsWellKnown (effects_after (input_of_cause stepping.cause) stepping.host.node) (input_of_cause stepping.cause)
       stepping.host.node so_far
-  knows_here =
-      well input node may (named script range start.world began stepping.n stepping.host is.there is.up stepping.cause is.caused) sound
-      (caused_known script range.is_script known start.world stepping.n stepping.host stepping.cause is.caused)
-      (no_object script start.world stepping.n stepping.host stepping.cause is.caused)
-      (nodes_know script range start.world began stepping.n stepping.host is.there)
-      (places_taken script range start.world began stepping.n stepping.host is.there is.up stepping.cause is.caused)
-      (nodes_whole script range start.world began stepping.n stepping.host is.there) so_far within.leads
+  knows_here = knows_well script range start began stepping is by so_far within.leads
 
   pub known_so_far : IsKnownSoFar (effects_after (input_of_cause stepping.cause) stepping.host.node) (length so_far.outputs.sends) so_far
-  known_so_far = (
-    knows_here.on_known,
-    record {
-      few = omega arith;
-      sent = λ k d within. tt;
-      to_put = λ k d within. tt;
-    },
-  )
+  known_so_far = on_known so_far knows_here
 
   pub whole_so_far : IsWholeSoFar (effects_after (input_of_cause stepping.cause) stepping.host.node) (length so_far.outputs.sends) so_far
   whole_so_far = (
-    tables_so_far input node may (named script range start.world began stepping.n stepping.host is.there is.up stepping.cause is.caused)
-        sound
-        (caused_known script range.is_script known start.world stepping.n stepping.host stepping.cause is.caused)
-        (no_object script start.world stepping.n stepping.host stepping.cause is.caused)
-        (nodes_know script range start.world began stepping.n stepping.host is.there)
-        (places_taken script range start.world began stepping.n stepping.host is.there is.up stepping.cause is.caused)
-        (nodes_whole script range start.world began stepping.n stepping.host is.there) so_far within.leads,
-    record {
-      few = omega arith;
-      sent = λ k d within. tt;
-      to_put = λ k d within. tt;
-    },
+    knows_tables script range start began stepping is by so_far within.leads,
+    record { few = omega arith; sent = λ k d within. tt; to_put = λ k d within. tt },
   )
 
   -- what the node has read by then has its chains, and is the front of the log

@@ -103,7 +103,7 @@ pub record HasEntered (inode : Content) (driver : Driver) (work : ObjWork) (step
   pub writes : work ≡ write_entry inode piece
   pub table : step.inode ≡ table_with_entry inode piece
 
-entered_step : (inode : Content) (bytes payload : List ℕ) (piece : Piece) (rest : List Piece) (step : DriverStep)
+pub entered_step : (inode : Content) (bytes payload : List ℕ) (piece : Piece) (rest : List Piece) (step : DriverStep)
     → driver_on_done inode bytes (Writes payload Entering piece rest) ≡ Some step → step.inode ≡ table_with_entry inode piece
 unfolding driver_on_done
 entered_step inode bytes payload piece rest step goes =

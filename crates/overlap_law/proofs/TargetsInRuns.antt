@@ -47,20 +47,19 @@ use Rattle.overlap_law.specs.Each.{policy_in}
 use Rattle.overlap_law.specs.Holders.{targets_by}
 use Rattle.overlap_law.specs.MomentChanges.{RunsAreInRange}
 use Rattle.overlap_law.specs.Past.{MomentWithPast, run_with_past}
-use Rattle.overlap_law.proofs.CausedWorks.{IsNotServed, no_object}
+use Rattle.overlap_law.proofs.CausedWorks.{IsNotServed}
 use Rattle.overlap_law.proofs.EpochsInRuns.{members_read}
 use Rattle.overlap_law.proofs.KnownDiskSteps.{effects_after, work_known}
 use Rattle.overlap_law.proofs.KnownDisksInRuns.{caused_known, read_reservable, nodes_know}
 use Rattle.overlap_law.proofs.LackedAtEntries.{policy_stays}
 use Rattle.overlap_law.proofs.NoRecoveredDue.{began-with_past}
 use Rattle.overlap_law.proofs.PlacedRows.{some_by_policy}
-use Rattle.overlap_law.proofs.PlacesTaken.{places_taken}
 use Rattle.overlap_law.proofs.SendsOfChanges.{in_order_so_far}
 use Rattle.overlap_law.proofs.SendsOfWorks.{sends_for, steps_send}
 use Rattle.overlap_law.proofs.SentByTheLog.{StepsSendSo, step_so, opens_so, asks_after}
 use Rattle.overlap_law.proofs.SentToTargets.{SendGoesTo, targets_stay_asked, asks_no_row, policy_of_work, attempt_goes}
 use Rattle.overlap_law.proofs.ShapedAttempts.{entered_newest}
-use Rattle.overlap_law.proofs.WholeInRuns.{sound_world, sound_here, named, may_change, nodes_whole}
+use Rattle.overlap_law.proofs.WholeInRuns.{sound_world, from_beginning}
 use Rattle.overlap_law.proofs.WholeSteps.{turn_whole}
 
 -- by a log
@@ -132,12 +131,8 @@ module _ (script : List Statement) (range : RunsAreInRange script) where
         opens not =
             let known : policy_in (log_effects entries) (oid_of asked.work) ≡ Some (policy_of asked.work)
             = policy_of_work (log_effects entries) asked.work
-            (turn_whole input host.node (may_change script range world began n host there up cause not caused)
-            (named script range world began n host there up cause caused) (sound_here script range world began n host there up)
-            (caused_known script range.is_script (effects_after input host.node) world n host cause caused)
-            (no_object script world n host cause caused) (nodes_know script range world began n host there)
-            (places_taken script range world began n host there up cause caused)
-            (nodes_whole script range world began n host there) so_far leads session req asked lined comes)
+            (from_beginning script range world began n host there up cause not caused (turn_whole input host.node) so_far leads session req
+            asked lined comes)
             (work_known input host.node reservable
             (caused_known script range.is_script (effects_after input host.node) world n host cause caused)
             (nodes_know script range world began n host there) so_far leads session req asked lined comes) in

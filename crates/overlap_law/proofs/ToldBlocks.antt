@@ -24,12 +24,12 @@ use Rattle.overlap_law.specs.WrittenBlocks.{blocks_per_object, items_at, is_allo
 -- ---- where a block stands
 
 -- the part of a request in an object, whose borders are low and high, has the byte p of the disk, which stands so far in it
-record Stands (offset low start end p b : ℕ) : Type 0 where
-  first : start - low ≤ b
-  last : b < start - low + (end - start)
-  place : start - offset + (b - (start - low)) ≡ p - offset
+pub record Stands (offset low start end p b : ℕ) : Type 0 where
+  pub first : start - low ≤ b
+  pub last : b < start - low + (end - start)
+  pub place : start - offset + (b - (start - low)) ≡ p - offset
 
-stands : (offset size low high p b : ℕ) → low ≤ p → p < high → offset ≤ p → p < offset + size → b ≡ p - low
+pub stands : (offset size low high p b : ℕ) → low ≤ p → p < high → offset ≤ p → p < offset + size → b ≡ p - low
     → Stands offset low (max offset low) (min (offset + size) high) p b
 stands offset size low high p b above below behind before so = ⊎_elim
     (λ (first : offset < low).

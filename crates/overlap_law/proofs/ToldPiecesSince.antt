@@ -34,7 +34,7 @@ use Rattle.overlap_law.proofs.PendingOfNodes.{policy_stays}
 use Rattle.overlap_law.proofs.TellersOfPieces.{IsToldBy, TellersAreTargets, tellers-on_the_way, own_epoch, cut, ends}
 use Rattle.overlap_law.proofs.TellersOfPieces.{was_asked, reply_came, told_by}
 use Rattle.overlap_law.proofs.ToldBefore.{IsNewAnswer}
-use Rattle.overlap_law.proofs.ToldPiecesStay.{since-piece_stays}
+use Rattle.overlap_law.proofs.ToldPiecesStay.{still_open, since-piece_stays}
 use Rattle.overlap_law.proofs.UnansweredInSteps.{WasUnansweredAt, MessageIsSentNow, unanswered_came}
 
 -- what is told of a work's object to a message has what its teller owed
@@ -80,8 +80,9 @@ module _ (script : List Statement) (range : RunsAreInRange script) (events : Lis
       pub goes_on : IsToldBy before work.work current.epoch.0 from → IsWorkSince before work.work current.epoch.0 from message.index bytes
           → IsWorkSince after work.work current.epoch.0 from message.index bytes
       goes_on teller piece =
-          since-piece_stays script range events start before after is trail change n now there up req place work current message of was
-          from teller (policy_of work.work) message.index (offset_read work.work) bytes piece
+          since-piece_stays script range events start before after is trail change n now there up req work current of.there of.stage
+          (still_open before.world.hosts n req place work current message was) from teller (policy_of work.work) message.index
+          (offset_read work.work) bytes piece
 
     -- ---- by the rows of before
 

@@ -17,7 +17,7 @@ use Rattle.peer_proto.specs.Work.{oid_of}
 use Rattle.message_wire.specs.declared.packet.Packet.{Packet}
 use Rattle.gateway.specs.declared.message.Message.{Message}
 use Rattle.gateway.specs.Attempt as gateways
-use Rattle.gateway.specs.State.{Work}
+use Rattle.gateway.specs.State.{Work, Open}
 use Rattle.gateway.specs.Work.{is_making}
 use Rattle.sheep_node.specs.declared.event.Event.{Event}
 use Rattle.sheep_world.specs.World.{Host}
@@ -29,9 +29,9 @@ use Rattle.overlap_law.specs.Past.{MomentWithPast, run_with_past}
 use Rattle.overlap_law.specs.ShapedAttempts.{AreShaped}
 use Rattle.overlap_law.specs.Since.{reading_of, owes_attempt, IsSince}
 use Rattle.overlap_law.specs.TiedAttempts.{IsTied}
-use Rattle.overlap_law.specs.ToldPieces.{IsUnansweredOf, IsPieceSince}
+use Rattle.overlap_law.specs.ToldPieces.{IsPieceSince}
 use Rattle.overlap_law.specs.Traffic.{TrafficBetween}
-use Rattle.overlap_law.specs.Words.{has_served, is_served_by, is_doomed}
+use Rattle.overlap_law.specs.Words.{Hosts, has_served, is_served_by, is_doomed}
 use Rattle.overlap_law.proofs.AllAnswersInMoments.{reached_at}
 use Rattle.overlap_law.proofs.BeyondInMoments.{doomed_later}
 use Rattle.overlap_law.proofs.FinishedInMoments.{TermsHold, kept_terms}
@@ -49,6 +49,33 @@ use Rattle.overlap_law.proofs.ServedPlaces.{served_at, served_from}
 use Rattle.overlap_law.proofs.TellersOfPieces.{IsToldBy, TellersAreTargets, tellers-on_the_way}
 use Rattle.overlap_law.proofs.TrafficOfChanges.{traffic}
 use Rattle.overlap_law.proofs.UnansweredInSteps.{WasUnansweredAt}
+
+-- a work's attempt was open before
+pub record WasOpenAt (hosts : Hosts) (n req : ℕ) (work : Work) (current : gateways.Attempt) : Type 0 where
+  pub old : Host
+  pub there : tree.get hosts n ≡ Some old
+  pub up : old.is_lost ≡ false
+  pub was : Work
+  pub before : gateways.Attempt
+  pub got : tree.get old.node.gateway.works req ≡ Some was
+  pub stage : was.stage ≡ Open before
+  pub work_so : work.work ≡ was.work
+  pub epoch_so : current.epoch ≡ before.epoch
+
+-- so it was where a message of it is unanswered that was so before
+pub still_open : (hosts : Hosts) (n req place : ℕ) (work : Work) (current : gateways.Attempt) (message : Message)
+    → WasUnansweredAt hosts n req work current place message → WasOpenAt hosts n req work current
+still_open hosts n req place work current message was = record {
+  old = was.old;
+  there = was.there;
+  up = was.up;
+  was = was.of.was;
+  before = was.of.before;
+  got = was.of.is.there;
+  stage = was.of.is.stage;
+  work_so = was.of.work_so;
+  epoch_so = was.of.epoch_so;
+}
 
 module _ (script : List Statement) (range : RunsAreInRange script) (events : List Event) (start before after : MomentWithPast)
     (is : run_with_past script events ≡ Some start) (trail : MomentTrail script start before)
@@ -74,9 +101,9 @@ module _ (script : List Statement) (range : RunsAreInRange script) (events : Lis
   on : GoOn before.past.attempts after.past.attempts
   on = traffic_goes_on before.world.hosts after.world.hosts before.world.wire before.past.attempts way
 
-  module _ (n : ℕ) (now : Host) (there : tree.get after.world.hosts n ≡ Some now) (up : now.is_lost ≡ false) (req place : ℕ) (work : Work)
-      (current : gateways.Attempt) (message : Message) (of : IsUnansweredOf now.node.gateway.works req work current place message)
-      (was : WasUnansweredAt before.world.hosts n req work current place message) (from : NodeId)
+  module _ (n : ℕ) (now : Host) (there : tree.get after.world.hosts n ≡ Some now) (up : now.is_lost ≡ false) (req : ℕ) (work : Work)
+      (current : gateways.Attempt) (got : tree.get now.node.gateway.works req ≡ Some work) (stage : work.stage ≡ Open current)
+      (was : WasOpenAt before.world.hosts n req work current) (from : NodeId)
       (teller : IsToldBy before work.work current.epoch.0 from) where
     abbrev oid : ℕ
     oid = oid_of work.work
@@ -84,8 +111,8 @@ module _ (script : List Statement) (range : RunsAreInRange script) (events : Lis
     abbrev epoch : ℕ
     epoch = current.epoch.0
 
-    then_so : current.epoch.0 ≡ was.of.before.epoch.0
-    then_so = ap (λ (e : Epoch). e.0) was.of.epoch_so
+    then_so : current.epoch.0 ≡ was.before.epoch.0
+    then_so = ap (λ (e : Epoch). e.0) was.epoch_so
 
     -- what flies of an attempt on the object is of an earlier epoch
     flies_earlier : (j : ℕ) (attempt : AttemptRecord) → slice_get before.past.attempts j ≡ Some attempt → object_of attempt ≡ oid
@@ -95,9 +122,9 @@ module _ (script : List Statement) (range : RunsAreInRange script) (events : Lis
         let asking = tied.fates.each j attempt at p target Flying among flew in
         let packet : HasPacket before.world.wire attempt p target
         = record { among = among; there = ap (λ (o : Option Packet). is_some o) asking.there } in
-        let less = (open_reads-in_run script range events start before is trail n was.old was.there was.up req was.of.was was.of.before
-        was.of.is.there (ap (λ (w : ObjWork). is_making w) (sym was.of.work_so) ∙ teller.reads) was.of.is.stage j attempt at
-        (object ∙ ap (λ (w : ObjWork). oid_of w) was.of.work_so)).flying p target packet in
+        let less = (open_reads-in_run script range events start before is trail n was.old was.there was.up req was.was was.before was.got
+        (ap (λ (w : ObjWork). is_making w) (sym was.work_so) ∙ teller.reads) was.stage j attempt at
+        (object ∙ ap (λ (w : ObjWork). oid_of w) was.work_so)).flying p target packet in
         let same = then_so in
         omega (arith, less, same)
 
@@ -170,8 +197,8 @@ module _ (script : List Statement) (range : RunsAreInRange script) (events : Lis
         absurd (omega (arith, within, high)))
         (λ (opened : IsOpened script start after attempt).
         let among = filter-passed (λ (a : AttemptRecord). object_of a == oid) after.past.attempts j attempt at in
-        absurd (none_begins_beside script range events start before after is trail change n now there up req work current of.there
-        teller.reads of.stage behind.place attempt behind.there (eqb-true (object_of attempt) oid among.passed) opened))
+        absurd (none_begins_beside script range events start before after is trail change n now there up req work current got
+        teller.reads stage behind.place attempt behind.there (eqb-true (object_of attempt) oid among.passed) opened))
         (come_from script range start began change behind.place attempt behind.there)
 
     -- so what had what the teller owed has it

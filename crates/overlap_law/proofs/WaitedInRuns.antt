@@ -238,7 +238,7 @@ module _ (effects : List Effect) (attempts : List AttemptRecord) (disk : Option 
     own = is.own;
     work_of = is.work_of;
     same = is.same;
-    drawn = λ index good within. absurd (cc (good));
+    drawn = λ index draft. let good : no_id vid.0 ≡ true = draft.good in absurd (cc (good));
   }
 
   of_stage : (stage : OpStage) → IsOfStage [] no_id [] disk stage work → IsOfStage effects no_id attempts disk stage work

@@ -257,7 +257,13 @@ module _ (disk : Option Disk) where
       → ((content : Content) → opened ≡ Some content → content ≡ inode)
       → IsCreatedNow [] no_id [] vid opened (create_inode inode)
   created vid inode opened own same =
-      record { inode = inode; own = own; work_of = refl; same = same; drawn = λ index good within. absurd (cc (good)) }
+      record {
+        inode = inode;
+        own = own;
+        work_of = refl;
+        same = same;
+        drawn = λ index draft. let good : no_id vid.0 ≡ true = draft.good in absurd (cc (good));
+      }
 
   none_opened : (inode content : Content) → None ≡ Some content → content ≡ inode
   none_opened inode content is = absurd (cc (is))

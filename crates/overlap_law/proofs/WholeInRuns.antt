@@ -16,16 +16,19 @@ use Rattle.peer_service.specs.State.{effects_of, object_size}
 use Rattle.gateway.specs.Work.{is_making}
 use Rattle.vdi_directory.specs.declared.effect.Effect.{Effect}
 use Rattle.vdi_directory.specs.Decisions.{log_effects}
+use Rattle.sheep_node.specs.declared.ask.Ask.TheVariants as asks
 use Rattle.sheep_node.specs.declared.event.Event.{Event}
 use Rattle.sheep_node.specs.declared.input.Input.{Input}
 use Rattle.sheep_node.specs.declared.input.Input.TheVariants as inputs
 use Rattle.sheep_node.specs.declared.limits.TheConstants.{SENDS_MAX}
+use Rattle.sheep_node.specs.Changes.{input_received, Leads}
 use Rattle.sheep_node.specs.May.{May}
 use Rattle.sheep_node.specs.NodeInvariant.{IsSoundNode}
 use Rattle.sheep_node.specs.OutsideAsks.{InputNamesObjects}
 use Rattle.sheep_node.specs.State as nodes
 use Rattle.sheep_node.specs.Step.{node_step}
 use Rattle.sheep_node.specs.StepFacts.{read_after}
+use Rattle.sheep_node.specs.StepState.{StepState, at_first}
 use Rattle.sheep_node.proofs.NodeLaws.{IsSoundNode-initial}
 use Rattle.sheep_world.specs.World.{Host, World, is_host_up}
 use Rattle.sheep_world.specs.Began.{Began}
@@ -44,10 +47,10 @@ use Rattle.overlap_law.specs.MomentChanges.{MomentChange, MomentTrail, RunsAreIn
 use Rattle.overlap_law.proofs.CausedWorks.{IsNotServed, by_changes, no_object, not_served}
 use Rattle.overlap_law.proofs.GrantedEpochs.{spec_stays}
 use Rattle.overlap_law.proofs.KnownDisks.{IsKnownWork}
-use Rattle.overlap_law.proofs.KnownDiskSteps.{effects_after, none_known, work_known}
+use Rattle.overlap_law.proofs.KnownDiskSteps.{AreOnKnown, IsKnownInput, effects_after, none_known, work_known}
 use Rattle.overlap_law.proofs.KnownDisksInRuns.{caused_known, read_reservable, nodes_know}
 use Rattle.overlap_law.proofs.LogsGrow.{logs_grow}
-use Rattle.overlap_law.proofs.PlacesTaken.{none_asked, places_taken}
+use Rattle.overlap_law.proofs.PlacesTaken.{PlacesAreTaken, none_asked, places_taken}
 use Rattle.overlap_law.proofs.NewAttempts.{IsOpened, WasAttempt, come_from}
 use Rattle.overlap_law.proofs.RunsByChanges.{on_the_way}
 use Rattle.overlap_law.proofs.ShapedAttempts.{front, log_so, began_after, work_so, shaped-each}
@@ -167,6 +170,24 @@ module _ (script : List Statement) (range : RunsAreInRange script) where
   nodes_whole world began n host there =
       each_where script (Began script) WholeWhereBegun (λ world begun. begun) whole_kept world began n host there began
 
+  -- what holds where a step begins that goes by changes, for what is shown of it by that
+  pub from_beginning : {R : Type 0} (world : World) → Began script world → (n : ℕ) (host : Host) → tree.get world.hosts n ≡ Some host
+      → is_host_up host ≡ true → (cause : NodeCause) → IsNotServed cause → IsCause script world n host cause
+      → (May (input_of_cause cause) host.node → InputNamesObjects (input_of_cause cause) → IsSoundNode host.node
+      → IsKnownInput (effects_after (input_of_cause cause) host.node) (input_of_cause cause)
+      → ((req session : ℕ) (work : ObjWork) → input_of_cause cause ≡ inputs.Guest req session (asks.Object work) → ⊥)
+      → AreOnKnown (effects_of host.node.peer) host.node
+      → ((so_far : StepState)
+      → Leads (input_of_cause cause) host.node (input_received (input_of_cause cause) (at_first host.node)) so_far
+      → PlacesAreTaken (effects_after (input_of_cause cause) host.node) (input_of_cause cause) host.node so_far)
+      → AreWholeOn (effects_of host.node.peer) host.node → R) → R
+  from_beginning world began n host there up cause not caused shows =
+      shows (may_change world began n host there up cause not caused) (named world began n host there up cause caused)
+      (sound_here world began n host there up)
+      (caused_known script range.is_script (effects_after (input_of_cause cause) host.node) world n host cause caused)
+      (no_object script world n host cause caused) (nodes_know script range world began n host there)
+      (places_taken script range world began n host there up cause caused) (nodes_whole world began n host there)
+
   -- ---- attempts
 
   -- an attempt that begins is whole, by what its node has read
@@ -180,17 +201,8 @@ module _ (script : List Statement) (range : RunsAreInRange script) where
 
     pub asked_whole : IsWholeWork (log_effects entries) o.asked.work
     asked_whole =
-        turn_whole input o.stepping.host.node
-        (may_change start.world began o.stepping.n o.stepping.host o.is.there o.is.up o.stepping.cause
-        (by_changes o.stepping.cause o.by) o.is.caused)
-        (named start.world began o.stepping.n o.stepping.host o.is.there o.is.up o.stepping.cause o.is.caused)
-        (sound_here start.world began o.stepping.n o.stepping.host o.is.there o.is.up)
-        (caused_known script range.is_script
-        (effects_after input o.stepping.host.node) start.world o.stepping.n o.stepping.host o.stepping.cause o.is.caused)
-        (no_object script start.world o.stepping.n o.stepping.host o.stepping.cause o.is.caused)
-        (nodes_know script range start.world began o.stepping.n o.stepping.host o.is.there)
-        (places_taken script range start.world began o.stepping.n o.stepping.host o.is.there o.is.up o.stepping.cause o.is.caused)
-        (nodes_whole start.world began o.stepping.n o.stepping.host o.is.there)
+        from_beginning start.world began o.stepping.n o.stepping.host o.is.there o.is.up o.stepping.cause
+        (by_changes o.stepping.cause o.by) o.is.caused (turn_whole input o.stepping.host.node)
         o.so_far o.leads o.session o.req o.asked o.lined o.comes
 
     asked_known : IsKnownWork (log_effects entries) o.asked.work

@@ -1,21 +1,15 @@
 -- Which requests had no work yet; and over a change of a node, a request that had none by then had none before, or the step begins with it.
-use Rattle.std.proofs.Common.{◌≡◌, ◌≢◌, ◌⊎◌, inl, inr, ⊎_elim, ℕ, Bool, true, false, List, Option, Some, None, is_none, refl, sym, ap, subst, ◌∙◌}
+use Rattle.std.proofs.Common.{◌≡◌, ◌⊎◌, inl, inr, ℕ, Bool, true, false, List, Option, Some, None, is_none, refl, sym, ap, subst, ◌∙◌}
 use Rattle.std.specs.FinMap as tree
-use Rattle.std.proofs.lemmas.Bool.{cases_eq}
 use Rattle.std.proofs.lemmas.Option.{same_Some}
-use Rattle.proof_tools.proofs.FiniteMaps.{get-remove_same, get-remove_other, get-insert_cases}
 use Rattle.object_id.specs.declared.cause.Cause.{Cause}
-use Rattle.object_id.specs.declared.cause.Cause.TheVariants.{Halt}
 use Rattle.object_id.specs.declared.oid.Vid.{Vid}
 use Rattle.inode.specs.Layout.{Content}
-use Rattle.peer_proto.specs.declared.guest.GuestRsp.{GuestRsp}
 use Rattle.peer_proto.specs.declared.guest.VdiAsk.TheVariants as disk_commands
 use Rattle.vdi_directory.specs.declared.decision.Decision.{Decision}
 use Rattle.vdi_directory.specs.declared.effect.Effect.{Effect}
 use Rattle.peer_service.specs.State.{effects_of}
 use Rattle.peer_service.specs.LogReading.{decision_on}
-use Rattle.gateway.specs.Work.{zones_for}
-use Rattle.gateway.specs.State.{Work}
 use Rattle.guest_driver.specs.Driver as drivers
 use Rattle.disk_check.specs.Check.{begin_check}
 use Rattle.vdi_ops.specs.Op as ops
@@ -29,14 +23,14 @@ use Rattle.sheep_node.specs.declared.course.Course.TheVariants.{Waiting, Driving
 use Rattle.sheep_node.specs.declared.input.Input.{Input}
 use Rattle.sheep_node.specs.declared.input.Input.TheVariants as inputs
 use Rattle.sheep_node.specs.State.{Node}
-use Rattle.sheep_node.specs.StepState.{StepState, session_in, request_ended}
+use Rattle.sheep_node.specs.StepState.{StepState, session_in}
 use Rattle.sheep_node.specs.Courses.{inode_open}
 use Rattle.sheep_node.specs.OneWork.{may_work}
 use Rattle.sheep_node.specs.Changes as changes
-use Rattle.sheep_node.specs.Changes.{HasRequest, without_ended_work, Outcome, ToWork, ToEntry, ToReply, without_denied_work, zones_of_members, RequestSteps, DiskBegins, DiskGoesOn, CommandBegins, CommandGoesOn, CommandDecided, CheckBegins, CheckGoesOn, ObjectBegins, ObjectIsDone, EntryBegins, EntryDecided, WorkIsNext, AtOnce, InTurn, Again, AgainAlone, Change}
+use Rattle.sheep_node.specs.Changes.{Outcome, RequestSteps, DiskBegins, DiskGoesOn, CommandBegins, CommandGoesOn, CommandDecided, CheckBegins, CheckGoesOn, ObjectBegins, ObjectIsDone, EntryBegins, EntryDecided, Change}
 use Rattle.sheep_node.proofs.OneWorkParts.{Requests}
-use Rattle.sheep_node.proofs.RefusedCourses.{course_refused-keeps, request_refused-keeps}
 use Rattle.overlap_law.proofs.TouchedStay.{Arrives}
+use Rattle.overlap_law.proofs.RequestWalk.{IsWhereThere, put_there, change_there}
 
 -- ---- courses
 
@@ -122,29 +116,21 @@ module _ (q : ℕ) (input : Input) (node : Node) where
   abbrev pub HadNoneOrArrives : StepState → Type 0
   HadNoneOrArrives so_far = HadNoWork q so_far ⊎ Arrives q input node so_far
 
-  module _ (origin : StepState) where
-    abbrev AreFrom : Requests → Type 0
-    AreFrom requests = (r : Request) → tree.get requests q ≡ Some r → may_have_worked r.course ≡ false → HadNoneOrArrives origin
+  -- if it is there, and had none by then
+  abbrev IsFrom : StepState → Request → Type 0
+  IsFrom origin r = may_have_worked r.course ≡ false → HadNoneOrArrives origin
 
-    -- if it is there, and had none by then
-    abbrev From : StepState → Type 0
-    From so_far = AreFrom so_far.node.requests
+  abbrev AreFrom : StepState → Requests → Type 0
+  AreFrom origin = IsWhereThere q (IsFrom origin)
 
-    ended_from : (session req : ℕ) (reply : GuestRsp) (so_far : StepState) → From so_far → From (request_ended session req reply so_far)
-    unfolding request_ended
-    ended_from session req reply so_far from r got unworked = ⊎_elim
-        (λ (own : q ≡ req).
-        let none = ap (tree.get (tree.remove so_far.node.requests req)) own ∙ get-remove_same so_far.node.requests req in absurd (cc (none, got)))
-        (λ (other : q ≢ req). from r (sym (get-remove_other so_far.node.requests req q other) ∙ got) unworked)
-        (cases_eq q req)
+  abbrev From : StepState → StepState → Type 0
+  From origin so_far = AreFrom origin so_far.node.requests
 
-    put_from : (requests : Requests) (session req : ℕ) (course : Course) → (q ≡ req → may_have_worked course ≡ false → HadNoneOrArrives origin) → AreFrom requests
-        → AreFrom (tree.insert requests req (record { session = session; course = course }))
-    put_from requests session req course own from r got unworked = ⊎_elim
-        (λ (here : (q ≡ req) × (record { session = session; course = course } ≡ r)).
-        own here.0 (ap (λ (r : Request). may_have_worked r.course) here.1 ∙ unworked))
-        (λ (other : (q ≢ req) × (tree.get requests q ≡ Some r)). from r other.1 unworked)
-        (get-insert_cases requests req (record { session = session; course = course }) q r got)
+  put_from : (origin : StepState) (requests : Requests) (session req : ℕ) (course : Course)
+      → (q ≡ req → may_have_worked course ≡ false → HadNoneOrArrives origin) → AreFrom origin requests
+      → AreFrom origin (tree.insert requests req (record { session = session; course = course }))
+  put_from origin requests session req course =
+      put_there q (IsFrom origin) requests req (record { session = session; course = course })
 
   from_itself : (so_far : StepState) → From so_far so_far
   from_itself so_far r got unworked = inl (record { request = r; there = got; unworked = unworked })
@@ -189,29 +175,7 @@ module _ (q : ℕ) (input : Input) (node : Node) where
   steps_from so_far session req next moved (EntryBegins entry arrival) = put_new so_far session req (AwaitingDecision entry) (asks.Entry entry) None arrival
   steps_from so_far session req next moved (EntryDecided entry wanted from read there waits) = from_itself so_far
 
-  next_from : (so_far : StepState) (session req : ℕ) (asked : Work) (lined : StepState) → WorkIsNext input node so_far session req asked lined → From so_far lined
-  next_from so_far session req asked lined (AtOnce work moved steps begins) = steps_from so_far session req (ToWork work) moved steps
-  next_from so_far session req asked lined (InTurn work later none is) = from_itself so_far
-  next_from so_far session req asked lined (Again work course from next there request) = from_itself so_far
-  next_from so_far session req asked lined (AgainAlone work from next there none) = from_itself so_far
-
   pub change_from : (so_far next : StepState) → Change input node so_far next → From so_far next
-  change_from so_far next (changes.Marks req number work attempt status learns over) = from_itself so_far
-  change_from so_far next (changes.Fails session req number work attempt status course ends done why) = from_itself so_far
-  change_from so_far next (changes.Stops session req number work attempt status course bytes ends over) = from_itself so_far
-  change_from so_far next (changes.Refuses session req number work attempt status course cause ends done why) =
-      course_refused-keeps (From so_far) (ended_from so_far) (λ entry before now. now) session req cause course (without_ended_work session req work status so_far)
-      (from_itself so_far)
-  change_from so_far next (changes.Opens session req asked lined comes enough) = next_from so_far session req asked lined comes
-  change_from so_far next (changes.Holds session req asked lined comes short touched) = next_from so_far session req asked lined comes
-  change_from so_far next (changes.Denies session req asked lined request comes short untouched there own) =
-      request_refused-keeps (From so_far) (ended_from so_far) (λ entry before now. now) req (Halt (zones_of_members lined.node) (zones_for asked.work)) request
-      (without_denied_work session req asked lined) (next_from so_far session req asked lined comes)
-  change_from so_far next (changes.Strays req work gateway there none apart) = from_itself so_far
-  change_from so_far next (changes.Lines session req work moved steps waits) = steps_from so_far session req (ToWork work) moved steps
-  change_from so_far next (changes.Appends session req entry moved steps) = steps_from so_far session req (ToEntry entry) moved steps
-  change_from so_far next (changes.Replies session req reply moved steps) =
-      ended_from so_far session req reply moved (steps_from so_far session req (ToReply reply) moved steps)
-  change_from so_far next (changes.Arrives session req ask disk arrival on) = put_new so_far session req (Waiting ask) (asks.Disk ask) None arrival
-  change_from so_far next (changes.Rejects session req ask cause arrival) = from_itself so_far
-  change_from so_far next (changes.Recovers due) = from_itself so_far
+  change_from so_far =
+      change_there q (IsFrom so_far) so_far (steps_from so_far)
+      (λ session req ask arrival own unworked. inr (new_from so_far session req (asks.Disk ask) None arrival own)) (from_itself so_far)

@@ -1,11 +1,11 @@
 -- What open works would make of blocks may be read of them, whichever requests are refused: of a write's piece and of a check's value by
 -- their items; of the objects that are created, where that is given.
-use Rattle.std.proofs.Common.{◌≡◌, inl, arith, ℕ, ◌+◌, ◌-◌, ◌*◌, ◌<◌, ◌≤◌, nat_le, ◌&&◌, Bool, true, false, All, List, [], length, drop, slice_get, take, Some, refl, sym, ap, subst, ◌∙◌}
+use Rattle.std.proofs.Common.{◌≡◌, inl, arith, ℕ, ◌+◌, ◌-◌, ◌*◌, ◌<◌, ◌≤◌, nat_le, nat_lt, ◌&&◌, Bool, true, false, All, List, [], length, drop, slice_get, Some, refl, sym, ap, subst, ◌∙◌}
 use Rattle.std.specs.Prelude.{min}
 use Rattle.std.specs.Str.{bytes_eq}
 use Rattle.std.specs.FinMap as tree
-use Rattle.std.proofs.lemmas.Bool.{and_parts, leb-true}
-use Rattle.std.proofs.lemmas.List.{drop-drop, drop-take, length-take, take-take}
+use Rattle.std.proofs.lemmas.Bool.{and_from, and_parts, both_ways, le-leb, leb-true, lt-ltb, ltb-true}
+use Rattle.std.proofs.lemmas.List.{length-take}
 use Rattle.std.proofs.lemmas.List.Elements.{All-head}
 use Rattle.std.proofs.lemmas.Option.{same_Some}
 use Rattle.object_id.specs.declared.entry.VdiSpec.{VdiSpec}
@@ -28,6 +28,7 @@ use Rattle.gateway.specs.State.{Work}
 use Rattle.guest_driver.specs.declared.act.DriverAct.TheVariants as driver_acts
 use Rattle.guest_driver.specs.declared.disk.Disk.{Disk}
 use Rattle.guest_driver.specs.Course.{IsAwaitedByDriver}
+use Rattle.guest_driver.specs.BegunWorks.{IsPieceAmong}
 use Rattle.guest_driver.specs.OnDisk.{pieces_left}
 use Rattle.guest_driver.specs.Driver as drivers
 use Rattle.guest_driver.specs.Driver.{Driver, Reads, Writes, InPlace, Fetching, Creating, Entering}
@@ -42,29 +43,34 @@ use Rattle.sheep_node.specs.declared.course.Course.{Course}
 use Rattle.sheep_node.specs.declared.course.Course.TheVariants.{Waiting, Driving, Commanding, Checking, DoingWork, AwaitingDecision}
 use Rattle.sheep_node.specs.declared.event.Event.{Event}
 use Rattle.sheep_node.specs.SessionQueues.{session_among}
+use Rattle.sheep_node.specs.SoundWorks.{IsSoundCourse}
 use Rattle.sheep_world.specs.World.{Host}
 use Rattle.sheep_world.specs.Began.{Began}
+use Rattle.overlap_law.specs.CreatedPieces.{anything, CreatesPiece}
 use Rattle.overlap_law.specs.Courses.{IsOfTask, IsOfStage, IsOfCheckStage}
 use Rattle.overlap_law.specs.Each.{spec_in}
 use Rattle.overlap_law.specs.Headline.{ledger_of}
-use Rattle.overlap_law.specs.Holders.{is_create_work}
 use Rattle.overlap_law.specs.KeptHistory.{CheckedValuesHaveItems, CreatesMayStay}
 use Rattle.overlap_law.specs.MomentChanges.{MomentChange, MomentTrail, Then, RunsAreInRange}
 use Rattle.overlap_law.specs.Past.{MomentWithPast, run_with_past}
 use Rattle.overlap_law.specs.Pieces.{IsInPiece, HasItem, WritesHaveItems, bytes_for, left_to_write, payload_at}
 use Rattle.overlap_law.specs.RequestsOfScript.{IsCourseOfAsk}
-use Rattle.overlap_law.specs.StayingBlocks.{MayStay, WorksMayStay}
+use Rattle.overlap_law.specs.StayingBlocks.{IsBlockOfAnyDisk, MayStay, WorksMayStay}
 use Rattle.overlap_law.specs.Units.{unit_start, unit_size, unit_end, covers_by, bytes_by}
-use Rattle.overlap_law.specs.WrittenBlocks.{IsBlockOfDisk, blocks_per_object, items_at, is_torn_here}
+use Rattle.overlap_law.specs.WrittenBlocks.{blocks_per_object, items_at, is_torn_here}
+use Rattle.overlap_law.proofs.BytesOfCreates.{piece-of_piece, created_has}
 use Rattle.overlap_law.proofs.CoursesOfScript.{asked_by}
 use Rattle.overlap_law.proofs.CreatesFirst.{inside}
 use Rattle.overlap_law.proofs.DisksOnTheWay.{disks_after}
 use Rattle.overlap_law.proofs.DriverEntries.{no_inode}
 use Rattle.overlap_law.proofs.ItemsGoOn.{same_bytes}
 use Rattle.overlap_law.proofs.KnownDisks.{FewAt, IsKnownCourse, IsKnownInode, kind-of_object, vid-of_object}
-use Rattle.overlap_law.proofs.LiveIds.{few_objects, live_vid}
+use Rattle.overlap_law.proofs.CreatedInodes.{header_is}
+use Rattle.overlap_law.proofs.LiveIds.{few_objects}
 use Rattle.overlap_law.proofs.LogsReservable.{LogIsReservable, kept_reservable}
 use Rattle.overlap_law.proofs.NoRecoveredDue.{began-with_past}
+use Rattle.overlap_law.proofs.PiecesMade.{creates_of_pieces}
+use Rattle.overlap_law.proofs.ReadsInMoments.{reading_after}
 use Rattle.overlap_law.proofs.RunsByChanges.{on_the_way}
 use Rattle.overlap_law.proofs.WaitedSteps.{no_id, Waits}
 use Rattle.overlap_law.proofs.WorksInMoments.{well_after}
@@ -72,16 +78,6 @@ use Rattle.overlap_law.proofs.WorksOnTheWay.{IsOpenFor, works_after}
 use Rattle.overlap_law.proofs.WriteObjects.{own_there}
 
 -- ---- pieces
-
--- a piece of a piece
-piece-of_piece : (bytes : List ℕ) (place at size count : ℕ) → at + count ≤ size
-    → piece_at (take size (drop place bytes)) at count ≡ piece_at bytes (place + at) count
-piece-of_piece bytes place at size count inside =
-    let split : size ≡ at + (size - at) = omega (arith, inside) in
-    ap (λ (n : ℕ). take count (drop at (take n (drop place bytes)))) split
-    ∙ ap (take count) (drop-take at (size - at) (drop place bytes))
-    ∙ take-take count (size - at) (drop at (drop place bytes)) (omega (arith, inside))
-    ∙ ap (take count) (drop-drop at place bytes)
 
 module _ (inode : Content) (payload : List ℕ) (piece : Piece) (unit : ℕ) (block : kind_of (object_number inode.vid piece.index) ≡ Block)
     (covers : covers_by unit (write_piece inode payload piece) ≡ true) where
@@ -111,7 +107,7 @@ module _ (inode : Content) (payload : List ℕ) (piece : Piece) (unit : ℕ) (bl
   in_piece = record { first = low; last = let end = high in omega (arith, end) }
 
   -- what the write has for the block is what the request has
-  own_bytes : bytes_by unit (write_piece inode payload piece) ≡ bytes_for payload piece unit
+  pub own_bytes : bytes_by unit (write_piece inode payload piece) ≡ bytes_for payload piece unit
   own_bytes =
       let end = high in
       let begin = low in
@@ -142,13 +138,13 @@ module _ (script : List Statement) (range : RunsAreInRange script) (events : Lis
       (n : ℕ) (host : Host) (there : tree.get after.world.hosts n ≡ Some host) (up : host.is_lost ≡ false) (req vid index unit : ℕ)
       (work : Work) (disk : histories.Disk) (spec : VdiSpec) (got : tree.get host.node.gateway.works req ≡ Some work)
       (object : oid_of work.work ≡ object_number vid index)
-      (block : IsBlockOfDisk (ledger_of after.past.history) (log_effects after.world.log) good_id vid disk spec index unit)
+      (block : IsBlockOfAnyDisk (ledger_of after.past.history) (log_effects after.world.log) good_id vid disk spec index unit)
       (covers : covers_by unit work.work ≡ true) (whole : is_torn_here spec (items_at disk spec index unit) ≡ false) where
     abbrev Stays : ObjWork → Type 0
     Stays made = MayStay after.past.attempts (items_at disk spec index unit) (Some req) (bytes_by unit made)
 
     id : IsVid vid
-    id = live_vid after.world.log reservable vid block.live
+    id = (header_is after.world.log reservable vid spec block.made_with).0
 
     few : index < OBJECTS_MAX
     few = few_objects after.world.log reservable vid index spec block.made_with block.object
@@ -167,15 +163,19 @@ module _ (script : List Statement) (range : RunsAreInRange script) (events : Lis
       stays = inl has.of;
     }
 
+    creates_piece : (opened : Disk) → (session_among so.request.session host.node.sessions).disk ≡ Some opened → (payload : List ℕ)
+        (piece : Piece) (rest : List Piece) → so.request.course ≡ Driving (Writes payload Creating piece rest)
+        → CreatesPiece anything opened.inode payload piece work.work
+    creates_piece opened on payload piece rest course =
+        creates_of_pieces script range events start after is_run (Then trail change) n host there up req work so.request opened payload
+        piece rest got so.there on course
+
     -- what covers nothing, and what is on an inode
     no_cover : (what : ObjWork) → work.work ≡ what → covers_by unit what ≡ false → Stays work.work
     no_cover what same none = let never = ap (covers_by unit) same ∙ none in absurd (cc (never, covers))
 
     on_inode : (other : ℕ) → oid_of work.work ≡ inode_number other → Stays work.work
     on_inode other is = no_inode vid index other id few (sym object ∙ is)
-
-    created : is_create_work work.work ≡ true → Stays work.work
-    created is = creates.each n host there up req vid index unit work disk spec got is object block covers whole
 
     -- the disk that the session has open is that of the block
     module _ (opened : Disk) (on : (session_among so.request.session host.node.sessions).disk ≡ Some opened) (at : ℕ)
@@ -203,6 +203,41 @@ module _ (script : List Statement) (range : RunsAreInRange script) (events : Lis
 
       on_disk : ledger.disks opened.inode.vid ≡ Some disk
       on_disk = ap ledger.disks same_id ∙ block.there
+
+    -- where the object of a piece is created: a block of the piece gets what the write has for it
+    by_place : (payload : List ℕ) (piece : Piece) (rest : List Piece) → so.request.course ≡ Driving (Writes payload Creating piece rest)
+        → (opened : Disk) → (session_among so.request.session host.node.sessions).disk ≡ Some opened → piece.index < OBJECTS_MAX
+        → oid_of work.work ≡ object_number opened.inode.vid piece.index → (b : Bool)
+        → (nat_le piece.offset (BLOCK_BYTES * unit) && nat_lt (BLOCK_BYTES * unit) (piece.offset + piece.size)) ≡ b → Stays work.work
+    by_place payload piece rest course opened on below of true inside =
+        let both = and_parts (nat_le piece.offset (BLOCK_BYTES * unit)) (nat_lt (BLOCK_BYTES * unit) (piece.offset + piece.size)) inside in
+        let is_in : IsInPiece piece unit = record {
+          first = leb-true piece.offset (BLOCK_BYTES * unit) both.0;
+          last = ltb-true (BLOCK_BYTES * unit) (piece.offset + piece.size) both.1;
+        } in
+        let knows = known opened on piece.index below of in
+        let kind : kind_of (oid_of work.work) ≡ Block = ap kind_of of ∙ kind-of_object opened.inode.vid piece.index knows.disk.id below in
+        let sound = (reading_after script range start began change n host there).sound in
+        let among : IsPieceAmong payload piece
+        = All-head (IsPieceAmong payload) piece rest (subst IsSoundCourse course (sound.courses req so.request so.there)) in
+        let has = written.each n host there up req 0 unit so.request opened disk piece
+        (record { there = so.there; on = on; known = on_disk opened on piece.index below of })
+        (ap (λ (c : Course). slice_get (left_to_write opened.inode.spec.shift c) 0) course) is_in in
+        let bytes : bytes_for (payload_at so.request.course) piece unit ≡ bytes_by unit work.work
+        = ap (λ (c : Course). bytes_for (payload_at c) piece unit) course
+        ∙ sym (created_has payload piece unit among is_in anything opened.inode work.work (sound.open_works req work got).range.is_work kind
+        (creates_piece opened on payload piece rest course)).1 in
+        by_item (bytes_by unit work.work)
+        (subst (λ (b : List ℕ). HasItem (items_at disk spec index unit) req b) bytes
+        (subst (λ (items : List Item). HasItem items req (bytes_for (payload_at so.request.course) piece unit))
+        (same_items opened on piece.index below of) has))
+    by_place payload piece rest course opened on below of false outside =
+        creates.each n host there up req vid index unit work disk spec so.request opened payload piece rest got so.there on course
+        (creates_piece opened on payload piece rest course) tt
+        (λ is_in. both_ways (nat_le piece.offset (BLOCK_BYTES * unit) && nat_lt (BLOCK_BYTES * unit) (piece.offset + piece.size)) outside
+        (and_from (nat_le piece.offset (BLOCK_BYTES * unit)) (nat_lt (BLOCK_BYTES * unit) (piece.offset + piece.size))
+        (le-leb piece.offset (BLOCK_BYTES * unit) is_in.first) (lt-ltb (BLOCK_BYTES * unit) (piece.offset + piece.size) is_in.last)))
+        object block covers whole
 
     -- a read or write
     driver_stays : (driver : Driver) → so.request.course ≡ Driving driver → (opened : Disk)
@@ -232,7 +267,9 @@ module _ (script : List Statement) (range : RunsAreInRange script) (events : Lis
     driver_stays (Writes payload Fetching piece rest) course opened on is small =
         no_cover (read_object opened.inode piece (entry_of opened.inode piece)) (cc (is)) refl
     driver_stays (Writes payload Creating piece rest) course opened on (offset, bytes, is) small =
-        let made : is_create_work work.work ≡ true = cc (is) in created made
+        let of : oid_of work.work ≡ object_number opened.inode.vid piece.index = cc (is) in
+        by_place payload piece rest course opened on (All-head FewAt piece rest small) of
+        (nat_le piece.offset (BLOCK_BYTES * unit) && nat_lt (BLOCK_BYTES * unit) (piece.offset + piece.size)) refl
     driver_stays (Writes payload Entering piece rest) course opened on is small =
         let same : work.work ≡ write_entry opened.inode piece = cc (is) in on_inode opened.inode.vid (ap oid_of same)
     driver_stays drivers.Answered course opened on (reply, is) small = absurd (cc (is))

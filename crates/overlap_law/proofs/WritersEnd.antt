@@ -83,7 +83,8 @@ module _ (script : List Statement) (range : RunsAreInRange script) (start : Mome
   well = well_in_world script range start.world began n host there
 
   -- who puts what another node's session loses isn't there
-  spares_others : (other : NodeId) (session vid : ℕ) → other.0 ≢ n → writer_of (log_effects start.world.log) vid ≡ Some (holder_at other session)
+  pub spares_others : (other : NodeId) (session vid : ℕ) → other.0 ≢ n
+      → writer_of (log_effects start.world.log) vid ≡ Some (holder_at other session)
       → may_take_writer vid (holder_at other session) entry ≡ false
   spares_others other session vid apart writer =
       other_spares log other me (λ same. apart (same ∙ number)) entry (All-head (IsEntryOf me) entry so.0 first_own)

@@ -48,7 +48,7 @@ use Rattle.sheep_node.specs.WantedWorks.{IsWorkWanted, IsWantedAt, IsWorkOfWrite
 use Rattle.sheep_node.proofs.SessionViews.{IsSeen}
 use Rattle.sheep_world.specs.Began.{Began}
 use Rattle.overlap_law.specs.AwaitedEntries.{WasReserved, IsSessionsEntry, IsSessionsStage, IsSessionsCommand, CommandsAreTheSessions}
-use Rattle.overlap_law.specs.CommandDisks.{opened_as, opened_in, IsOpenAtLast, IsOpenAtStage, IsOpenAtCourse}
+use Rattle.overlap_law.specs.CommandDisks.{opened_as, opened_in, IsOpenAtStage, IsOpenAtCourse}
 use Rattle.overlap_law.specs.Courses.{granted_at}
 use Rattle.overlap_law.specs.Each.{EachUp}
 use Rattle.overlap_law.specs.Holders.{is_create_work}
@@ -70,6 +70,7 @@ use Rattle.overlap_law.proofs.OpenDisksInRuns.{AreOpenAmong, open_in_worlds, ope
 use Rattle.overlap_law.proofs.OwnMakings.{IsOwnStage, MakesOwn, MakesOwnAt}
 use Rattle.overlap_law.proofs.WorksInMoments.{HaveWellWorks, well_in_world, well_after}
 use Rattle.overlap_law.proofs.ReadInMoments.{HostsAreSound, sound_hosts, hosts_after_sound}
+use Rattle.overlap_law.proofs.MakingEntries.{making_vid}
 
 -- what is reserved is an id
 reserved-is_id : (log : List Entry) (grant : Grant) → Contains (log_effects log) (effects.Reserved grant) → IsVid grant.reservation.vid.0
@@ -280,25 +281,6 @@ module _ (log : List Entry) (n : ℕ) (node : Node) (own : node.me.0 ≡ n) (epo
       made_id vid (Lock by of name tag) made kept own = absurd kept
       made_id vid (Unlock by of id) made kept own = absurd kept
 
-      -- and the inode that is then open is of it
-      made_vid : (vid : Vid) (entry : Entry) (inode : Content)
-          → IsMakingKept log node.outbox node.peer.entries (length node.peer.entries) node.me request.session
-          (opened_in request.session node.sessions) vid entry
-          (Some inode)
-          → IsOpenAtLast (opened_in request.session node.sessions) entry (Some inode) → inode.vid ≡ vid.0
-      made_vid vid (Format members) inode kept opened = absurd kept
-      made_vid vid (Join of zone vnodes) inode kept opened = absurd kept
-      made_vid vid (Leave of) inode kept opened = absurd kept
-      made_vid vid (Reweight of vnodes) inode kept opened = absurd kept
-      made_vid vid (Recovered of epoch) inode kept opened = absurd kept
-      made_vid vid (Reserve by of name origin) inode kept opened = absurd kept
-      made_vid vid (Publish by of) inode kept opened = absurd (cc (opened))
-      made_vid vid (Clone by of) inode kept opened = absurd (cc (opened))
-      made_vid vid (Snapshot by old of) inode kept opened = opened.1 ∙ ap (λ (v : Vid). v.0) kept.0
-      made_vid vid (Delete by of name tag) inode kept opened = absurd kept
-      made_vid vid (Lock by of name tag) inode kept opened = absurd kept
-      made_vid vid (Unlock by of id) inode kept opened = absurd kept
-
       tasked : (vid : Vid) (task : Task) → op.stage ≡ Working vid task → IsWorkOfTask vid task work.work → MakesOwn (Commanding op) work.work → WritesIt
       tasked vid (Opening snapshot ids header) at is owns = reads _ is refl
       tasked vid (WritingBack inode) at is owns =
@@ -323,7 +305,8 @@ module _ (log : List Entry) (n : ℕ) (node : Node) (own : node.me.0 ≡ n) (epo
           on_granted op command vid (Making entry (Some inode)) at refl (ap is_create_work is.work_of) is.inode.vid (ap oid_of is.work_of)
           (ap vid_of (ap oid_of is.work_of ∙ ap (λ (i : Content). inode_number i.vid) (sym same))
           ∙ vid-of_inode inode.vid (known_at vid (Making entry (Some inode)) at).disk.id
-          ∙ made_vid vid entry inode kept (fits_at vid (Making entry (Some inode)) at))
+          ∙ making_vid log node.outbox node.peer.entries (length node.peer.entries) node.me request.session
+          (opened_in request.session node.sessions) vid entry inode kept (fits_at vid (Making entry (Some inode)) at))
 
       staged : (stage : OpStage) → op.stage ≡ stage → IsAwaitedAtOpStage (op_acts.Work work.work) stage → MakesOwn (Commanding op) work.work → WritesIt
       staged (Asked entry) at wanted owns = absurd (cc (wanted))

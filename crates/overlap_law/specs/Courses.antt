@@ -1,9 +1,8 @@
 -- Requests and commands: the works that are open are those that they wait for, and commands keep what they were granted.
-use Rattle.std.specs.Prelude.{◌≡◌, ℕ, ◌<◌, Bool, true, false, List, slice_get, slice_index, Option, Some, None, ◌++◌, ◌∷◌, ◌^◌, length}
+use Rattle.std.specs.Prelude.{◌≡◌, ℕ, Bool, true, false, List, slice_get, Option, Some, None, ◌++◌, ◌∷◌, ◌^◌, length}
 use Rattle.std.specs.FinMap as tree
 use Rattle.object_id.specs.declared.oid.Vid.{Vid}
 use Rattle.object_id.specs.declared.entry.Entry.{Entry}
-use Rattle.object_id.specs.Spec.{objects_of}
 use Rattle.inode.specs.Layout.{Content}
 use Rattle.peer_proto.specs.declared.work.ObjWork.{ObjWork}
 use Rattle.gateway.specs.State.{Work}
@@ -25,7 +24,9 @@ use Rattle.overlap_law.specs.Reached.{Hosts}
 use Rattle.overlap_law.specs.Each.{EachUp}
 use Rattle.overlap_law.specs.Writers.{MayWrite}
 use Rattle.vdi_directory.specs.declared.effect.Effect.{Effect}
-use Rattle.overlap_law.specs.Drafts.{IsDrawn}
+use Rattle.vdi_directory.specs.References.{parent_of}
+use Rattle.overlap_law.specs.Drafts.{IsDrawnFrom, IsReservedEntry}
+use Rattle.overlap_law.specs.ToDo.{entry_made}
 use Rattle.disk_check.specs.Check.{CheckStage, Comparing, WritingBack, Check, read_copies, write_value}
 use Rattle.disk_check.specs.Check as checks
 use Rattle.disk_check.specs.Table.{own_indexes}
@@ -39,16 +40,16 @@ pub record IsTagged (open_disk : Option Disk) (old : Vid) (draft : Content) (wor
   pub table : draft.table ≡ disk.inode.table
   pub work_of : work ≡ write_tag disk.inode tag
 
--- an inode is created: that of the granted id, which is the one that the session then has open, if it has one by that; its
--- table is drawn from what the id is reserved for, where that was available
+-- an inode is created: that of the granted id, which is the one that the session then has open, if it has one by that; while the id is
+-- reserved, the entries that the work gives to it are drawn from what the id is made from, where that was available
 pub record IsCreatedNow (effects : List Effect) (good_id : ℕ
     → Bool) (attempts : List AttemptRecord) (vid : Vid) (opened : Option Content) (work : ObjWork) : Type 0 where
   pub inode : Content
   pub own : inode.vid ≡ vid.0
   pub work_of : work ≡ create_inode inode
   pub same : (content : Content) → opened ≡ Some content → content ≡ inode
-  pub drawn : (index : ℕ) → good_id vid.0 ≡ true → index < objects_of inode.spec
-      → IsDrawn effects attempts vid.0 index (slice_index inode.table index)
+  pub drawn : (index : ℕ) → IsReservedEntry effects good_id vid.0 index
+      → IsDrawnFrom attempts index (entry_made index work) (parent_of effects vid.0)
 
 -- a work is that of a command's task
 abbrev pub IsOfTask : List Effect → (ℕ → Bool) → List AttemptRecord → Option Disk → Vid → Task → ObjWork → Type 0

@@ -1,5 +1,5 @@
 -- What is to be published: from where the table of its inode is, and that the inode was created.
-use Rattle.std.specs.Prelude.{◌≡◌, ℕ, ◌<◌, Bool, true, List, [], ◌∷◌, slice_get, slice_index, is_some, Option, Some, None}
+use Rattle.std.specs.Prelude.{◌≡◌, ℕ, ◌<◌, Bool, true, List, [], ◌∷◌, slice_get, slice_index, Option, Some, None}
 use Rattle.std.specs.FinMap as tree
 use Rattle.object_id.specs.declared.oid.Vid.{Vid}
 use Rattle.object_id.specs.declared.entry.Entry.{Entry}
@@ -27,12 +27,6 @@ use Rattle.overlap_law.specs.WrittenBlocks.{IsCandidate}
 abbrev pub IsDrawnFrom : List AttemptRecord → ℕ → ℕ → Option Vid → Type 0
 IsDrawnFrom attempts index entry None = entry ≡ 0
 IsDrawnFrom attempts index entry (Some parent) = IsCandidate attempts parent.0 index entry
-
--- while an id's reservation stands, an entry of its inode is drawn from what the id is made from
-abbrev pub IsDrawn : List Effect → List AttemptRecord → ℕ → ℕ → ℕ → Type 0
-IsDrawn effects attempts vid index entry =
-    is_some (reservation_on (record { 0 = vid }) (reservations_of effects)) ≡ true
-    → IsDrawnFrom attempts index entry (parent_of effects vid)
 
 -- a good id is reserved, and its inode has an entry of the index
 pub record IsReservedEntry (effects : List Effect) (good_id : ℕ → Bool) (vid index : ℕ) : Type 0 where

@@ -3,6 +3,7 @@
 use Rattle.std.specs.Prelude.{◌≡◌, ℕ, ◌+◌, ◌*◌, ◌≤◌, ◌<◌, Bool, true, false, List, Some}
 use Rattle.object_id.specs.declared.oid.Vid.{Vid}
 use Rattle.object_id.specs.Fields.{u32_at}
+use Rattle.object_id.specs.Oid.{inode_number}
 use Rattle.object_id.specs.Spec.{objects_of}
 use Rattle.inode.specs.declared.layout.TheConstants.{INODE_HEADER_BYTES}
 use Rattle.cluster_script.specs.declared.statement.Statement.{Statement}
@@ -20,15 +21,17 @@ use Rattle.sheep_node.specs.Changes.{EndsWork}
 use Rattle.sheep_node.specs.State.{Node}
 use Rattle.sheep_node.specs.StepState.{StepState}
 use Rattle.sheep_world.specs.NodeCauses.{input_of_cause}
-use Rattle.overlap_law.specs.Attempts.{AttemptRecord}
+use Rattle.overlap_law.specs.Attempts.{AttemptRecord, object_of}
+use Rattle.overlap_law.specs.Each.{EachAttempt}
 use Rattle.overlap_law.specs.Past.{MomentWithPast}
 use Rattle.overlap_law.specs.Reached.{Hosts}
 use Rattle.overlap_law.specs.StepMoments.{SteppingNode, IsStepping, StepsByChanges, LeadsInStep, first_in_step, moment_in_step}
-use Rattle.overlap_law.specs.Tables.{entry_by}
+use Rattle.overlap_law.specs.Tables.{entry_unit, entry_by}
 use Rattle.overlap_law.specs.ToCome.{IsToCome, IsEntryToCome}
-use Rattle.overlap_law.specs.Words.{is_mute, bytes_by}
+use Rattle.overlap_law.specs.Words.{is_mute, is_doomed, covers_unit, bytes_by}
 
--- bytes of a unit are those of an attempt by which the unit may come to be read, one that some target has served, of an epoch or before it
+-- bytes of a unit are those of an attempt by which the unit may come to be read, one that some target has served, of an epoch or before it;
+-- and each behind it on the unit is doomed
 pub record IsUnitToCome (hosts : Hosts) (attempts : List AttemptRecord) (oid epoch unit : ℕ) (bytes : List ℕ) : Type 0 where
   pub place : ℕ
   pub one : AttemptRecord
@@ -36,6 +39,8 @@ pub record IsUnitToCome (hosts : Hosts) (attempts : List AttemptRecord) (oid epo
   pub served : is_mute one ≡ false
   pub within : one.epoch ≤ epoch
   pub same : bytes_by unit one.work ≡ bytes
+  pub behind : EachAttempt attempts (λ k later. place < k → object_of later ≡ oid → covers_unit unit later ≡ true
+      → is_doomed hosts later ≡ true)
 
 -- a task reads the inode of an id, with the entries that a header says: that of the disk which it opens, or of a clone's base
 abbrev pub TaskReadsInode : Vid → Task → Vid → Header → Type 0
@@ -52,7 +57,8 @@ ReadsInodeAt (Working own task) vid header = TaskReadsInode own task vid header
 ReadsInodeAt (Publishing entry opened) vid header = ⊥
 ReadsInodeAt (Answered change) vid header = ⊥
 
--- an entry is that of an attempt by which the inode may come to have it, one that some target has served, of an epoch or before it
+-- an entry is that of an attempt by which the inode may come to have it, one that some target has served, of an epoch or before it; and
+-- each behind it on the entry is doomed
 pub record IsOfOneToCome (hosts : Hosts) (attempts : List AttemptRecord) (epoch vid index entry : ℕ) : Type 0 where
   pub place : ℕ
   pub one : AttemptRecord
@@ -60,6 +66,9 @@ pub record IsOfOneToCome (hosts : Hosts) (attempts : List AttemptRecord) (epoch 
   pub served : is_mute one ≡ false
   pub within : one.epoch ≤ epoch
   pub same : entry_by index one ≡ entry
+  pub behind : EachAttempt attempts (λ k later. place < k → object_of later ≡ inode_number vid
+      → covers_unit (entry_unit index) later ≡ true
+      → is_doomed hosts later ≡ true)
 
 -- where the reading of the inode of a good id that isn't dead ends in the middle of a step, so it is of each entry read
 abbrev pub EntriesReadAreToCome : List Effect → (ℕ → Bool) → Hosts → List AttemptRecord → Input → Node → StepState → Type 0

@@ -1,11 +1,13 @@
 -- What has to hold of a change between two moments, so that what the history gets in it keeps what blocks may be read as: where a write is
--- done, and where an entry makes a disk. What else is added keeps it anyway. And what commands write into inodes,
--- and open works may make of blocks.
+-- done, and where an entry makes a disk. What else is added keeps it anyway. And what has to hold of what commands write into inodes, and
+-- of what open works would make of blocks.
 use Rattle.std.specs.Prelude.{◌≡◌, ◌≢◌, ◌⊎◌, ℕ, Bool, true, false, List, [], ◌∷◌, ◌++◌, Contains, Some}
 use Rattle.std.specs.FinMap as tree
 use Rattle.object_id.specs.declared.entry.Entry.{Entry}
 use Rattle.object_id.specs.declared.entry.VdiSpec.{VdiSpec}
+use Rattle.object_id.specs.declared.oid.Kind.TheVariants.{Block}
 use Rattle.object_id.specs.Oid.{object_number}
+use Rattle.gf256.specs.Part.{is_in_strips}
 use Rattle.disk_history.specs.declared.event.HistEvent.TheVariants.{WriteDone}
 use Rattle.disk_history.specs.Ledger.{Ledger}
 use Rattle.disk_history.specs.Ledger as histories
@@ -15,33 +17,40 @@ use Rattle.cluster_script.specs.declared.statement.Statement.{Statement}
 use Rattle.peer_proto.specs.declared.guest.GuestRsp.{GuestRsp}
 use Rattle.peer_proto.specs.Work.{oid_of}
 use Rattle.guest_driver.specs.declared.disk.Disk.{Disk}
+use Rattle.guest_driver.specs.Driver.{Writes, Creating}
+use Rattle.guest_driver.specs.Pieces.{Piece}
+use Rattle.guest_driver.specs.PieceWorks.{entry_of}
 use Rattle.disk_check.specs.Check.{Check, write_value}
 use Rattle.gateway.specs.State.{Work}
 use Rattle.inode.specs.Layout.{Content}
 use Rattle.object_id.specs.declared.oid.Vid.{Vid}
 use Rattle.vdi_ops.specs.Op.{WritingBack, Working, Op}
 use Rattle.vdi_ops.specs.TaskWorks.{IsWrittenBack}
-use Rattle.sheep_node.specs.declared.course.Course.TheVariants.{Commanding}
+use Rattle.sheep_node.specs.declared.course.Course.TheVariants.{Driving, Commanding}
 use Rattle.sheep_node.specs.declared.course.Request.{Request}
+use Rattle.sheep_node.specs.declared.event.Event.{Event}
+use Rattle.sheep_node.specs.State.{session_at}
 use Rattle.sheep_node.specs.StepState.{StepState}
 use Rattle.sheep_world.specs.Granted.{entry_adds}
 use Rattle.overlap_law.specs.Attempts.{AttemptRecord}
 use Rattle.overlap_law.specs.Checks.{IsCheckOn, HasBegunWrite, HasBlock}
+use Rattle.overlap_law.specs.CreatedPieces.{anything, CreatesPiece}
 use Rattle.overlap_law.specs.Each.{EachUp}
 use Rattle.overlap_law.specs.Headline.{ledger_of}
-use Rattle.overlap_law.specs.Holders.{is_create_work}
 use Rattle.overlap_law.specs.NamedWorks.{HasEntry}
-use Rattle.overlap_law.specs.Past.{MomentWithPast}
+use Rattle.overlap_law.specs.Holders.{is_available_disk}
+use Rattle.overlap_law.specs.MomentChanges.{MomentChange, MomentTrail, TrailLeft}
+use Rattle.overlap_law.specs.Past.{MomentWithPast, next_moment, run_with_past}
 use Rattle.overlap_law.specs.PastWords.{is_refusal}
-use Rattle.overlap_law.specs.Pieces.{HasItem, WritesHaveItems}
-use Rattle.overlap_law.specs.StayingBlocks.{MayStay, HasEntryOf, IsAloneWhereWritten, AllKeepBlocks}
+use Rattle.overlap_law.specs.Pieces.{IsInPiece, HasItem, WritesHaveItems}
+use Rattle.overlap_law.specs.StayingBlocks.{IsBlockOfAnyDisk, MayStay, HasEntryOf, IsAloneWhereWritten, AllKeepBlocks, BlocksStayWritten}
 use Rattle.overlap_law.specs.StepMoments.{SteppingNode, IsStepping, StepsByChanges, IsWithinStep, moment_in_step}
 use Rattle.overlap_law.specs.Tables.{entry_by}
 use Rattle.overlap_law.specs.ToCome.{IsEntryToCome}
 use Rattle.overlap_law.specs.ToDo.{entry_made}
 use Rattle.overlap_law.specs.Units.{covers_by, bytes_by}
 use Rattle.overlap_law.specs.Words.{Hosts}
-use Rattle.overlap_law.specs.WrittenBlocks.{IsBlockOfDisk, items_at, is_torn_here}
+use Rattle.overlap_law.specs.WrittenBlocks.{items_at, is_torn_here}
 
 -- a write that is done between two moments is alone where it was written
 pub record WhatIsDoneIsAlone (good_id : ℕ → Bool) (before after : MomentWithPast) : Type 0 where
@@ -69,7 +78,7 @@ abbrev pub EntersAs : Hosts → List AttemptRecord → ℕ → ℕ → ℕ → T
 EntersAs hosts attempts vid index value = (value ≡ vid)
     ⊎ ((j : ℕ) × (entry : AttemptRecord) × IsEntryToCome hosts attempts vid index j entry × (entry_by index entry ≡ value))
 
--- what commands write back behind a change into the inodes of disks that are there, might come to be had before it
+-- what commands write back, behind a change, into the inode of a good id that isn't dead is the id itself, or might come to be had before
 pub record CommandsWriteWhatMayCome (good_id : ℕ → Bool) (before after : MomentWithPast) : Type 0 where
   pub each : EachUp after.world.hosts (λ n node. (req vid index : ℕ) (request : Request) (op : Op) (own : Vid) (inode : Content)
       (work : Work) → tree.get node.requests req ≡ Some request → request.course ≡ Commanding op
@@ -83,14 +92,26 @@ pub record CheckedValuesHaveItems (ledger : Ledger) (hosts : Hosts) : Type 0 whe
       → IsCheckOn ledger node req check opened disk → HasBegunWrite node req index check value → HasBlock disk opened.inode.spec index unit
       → HasItem (items_at disk opened.inode.spec index unit) req (bytes_by unit (write_value check index value)))
 
--- what an open create of an object would make of a block of a disk may be read of it, whichever requests are refused
-pub record CreatesMayStay (ledger : Ledger) (effects : List Effect) (good_id : ℕ
+-- what an open create of a piece's object would make of a block beside the piece may be read of it, whichever requests are refused, where
+-- this is so of the disk's inode and the piece
+pub record CreatesMayStayIf (IsSo : Content → Piece → Type 0) (ledger : Ledger) (effects : List Effect) (good_id : ℕ
     → Bool) (hosts : Hosts) (attempts : List AttemptRecord) : Type 0 where
-  pub each : EachUp hosts (λ n node. (req vid index unit : ℕ) (work : Work) (disk : histories.Disk) (spec : VdiSpec)
-      → tree.get node.gateway.works req ≡ Some work → is_create_work work.work ≡ true → oid_of work.work ≡ object_number vid index
-      → IsBlockOfDisk ledger effects good_id vid disk spec index unit → covers_by unit work.work ≡ true
+  pub each : EachUp hosts (λ n node. (req vid index unit : ℕ) (work : Work) (disk : histories.Disk) (spec : VdiSpec) (request : Request)
+      (opened : Disk) (payload : List ℕ) (piece : Piece) (rest : List Piece) → tree.get node.gateway.works req ≡ Some work
+      → tree.get node.requests req ≡ Some request → (session_at request.session node).disk ≡ Some opened
+      → request.course ≡ Driving (Writes payload Creating piece rest) → CreatesPiece anything opened.inode payload piece work.work
+      → IsSo opened.inode piece → (IsInPiece piece unit → ⊥) → oid_of work.work ≡ object_number vid index
+      → IsBlockOfAnyDisk ledger effects good_id vid disk spec index unit → covers_by unit work.work ≡ true
       → is_torn_here spec (items_at disk spec index unit) ≡ false
       → MayStay attempts (items_at disk spec index unit) (Some req) (bytes_by unit work.work))
+
+-- of each open create
+abbrev pub CreatesMayStay : Ledger → List Effect → (ℕ → Bool) → Hosts → List AttemptRecord → Type 0
+CreatesMayStay = CreatesMayStayIf (λ inode piece. Unit {0})
+
+-- of those alone that copy strips of another disk's object
+abbrev pub StripCopiesMayStay : Ledger → List Effect → (ℕ → Bool) → Hosts → List AttemptRecord → Type 0
+StripCopiesMayStay = CreatesMayStayIf (λ inode piece. (is_in_strips inode.spec.policy Block ≡ true) × (entry_of inode piece ≢ 0))
 
 -- what has to hold of a change, so that it keeps what blocks may come to be read as among what may be read of them
 pub record KeepsHistory (script : List Statement) (good_id : ℕ → Bool) (start before after : MomentWithPast) : Type 0 where
@@ -100,3 +121,23 @@ pub record KeepsHistory (script : List Statement) (good_id : ℕ → Bool) (star
   pub written : WritesHaveItems (ledger_of after.past.history) after.world.hosts
   pub checked : CheckedValuesHaveItems (ledger_of after.past.history) after.world.hosts
   pub creates : CreatesMayStay (ledger_of after.past.history) (log_effects after.world.log) good_id after.world.hosts after.past.attempts
+
+-- what has still to hold of a change on the way of an event in a run, so that it does: what commands write, and what is created of holes
+-- and of whole copies, may come and may be read anyway
+pub record KeepsWhatIsWritten (script : List Statement) (good_id : ℕ → Bool) (start before after : MomentWithPast) : Type 0 where
+  pub entries : EntriesKeepBlocks good_id before after
+  pub replies : RepliesAreAlone script good_id start before after
+  pub written : WritesHaveItems (ledger_of after.past.history) after.world.hosts
+  pub checked : CheckedValuesHaveItems (ledger_of after.past.history) after.world.hosts
+  pub strips : StripCopiesMayStay (ledger_of after.past.history) (log_effects after.world.log) good_id after.world.hosts
+      after.past.attempts
+
+-- each change on the way of whatever event in a run is so, for the disks that are available as the event ends, where what a block may come
+-- to be read as may be read of it before the change
+abbrev pub HistoriesAreKept : List Statement → Type 0
+HistoriesAreKept script = (events : List Event) (event : Event) (start end before after : MomentWithPast)
+    → run_with_past script events ≡ Some start → next_moment script event start ≡ Some end → MomentTrail script start before
+    → MomentChange script start before after → TrailLeft script start after end
+    → BlocksStayWritten (ledger_of before.past.history) (log_effects before.world.log)
+    (is_available_disk end.world.log end.past.unavailable) before.world.hosts before.past.attempts
+    → KeepsWhatIsWritten script (is_available_disk end.world.log end.past.unavailable) start before after

@@ -4,7 +4,7 @@ use Rattle.cluster_script.specs.declared.statement.Statement.{Statement}
 use Rattle.vdi_directory.specs.Decisions.{log_effects}
 use Rattle.overlap_law.specs.Past.{MomentWithPast}
 use Rattle.overlap_law.specs.Groups.{FlightIsKept, AttemptsAreKept, WritersAreKept, TermsAreKept, RowsAreKept, SearchesAreKept}
-use Rattle.overlap_law.specs.Groups.{TablesAreKept}
+use Rattle.overlap_law.specs.Groups.{CoursesAreKept, TablesAreKept}
 use Rattle.overlap_law.specs.Facts.{MeetsFacts}
 use Rattle.overlap_law.specs.TiedAttempts.{IsTied}
 use Rattle.overlap_law.specs.Fates.{AttemptsAreWhole, AttemptsAreOrdered}
@@ -80,8 +80,8 @@ pub record IsKeptSoFar (script : List Statement) (moment : MomentWithPast) : Typ
       moment.world.hosts
   pub peers : OtherEpochsChangeNothing script moment.world
 
--- the whole groups of the attempts, of the rows, of the recoveries and of the tables, that what works name is made, that nothing is lacked,
--- and the six facts
+-- the whole groups of the attempts, of the rows, of the recoveries, of the tables and of requests and commands, that what works name is
+-- made, that nothing is lacked, and the six facts
 pub record KeepsFacts (moment : MomentWithPast) : Type 0 where
   pub attempts : AttemptsAreKept (targets_by moment.world.log) moment.world.log moment.world.hosts moment.world.wire
       moment.past.refused moment.past.lost moment.past.attempts
@@ -93,6 +93,8 @@ pub record KeepsFacts (moment : MomentWithPast) : Type 0 where
       moment.past.listed moment.world.hosts moment.world.wire moment.past.attempts
   pub tables : TablesAreKept moment.world.log (log_effects moment.world.log) (is_live_object moment.world.log moment.past.attempts)
       (is_available_disk moment.world.log moment.past.unavailable) moment.world.hosts moment.past.attempts
+  pub courses : CoursesAreKept moment.world.log (log_effects moment.world.log) (is_available_disk moment.world.log moment.past.unavailable)
+      moment.world.hosts moment.past.attempts
   pub named : WorksNameWhatIsMade (log_effects moment.world.log) (is_available_disk moment.world.log moment.past.unavailable)
       moment.world.hosts moment.past.attempts
   pub lacked : NothingIsLacked (log_effects moment.world.log) (is_available_disk moment.world.log moment.past.unavailable)

@@ -72,3 +72,16 @@ pub mod OpenedTables
 pub mod MadeTables
 pub mod InodesRead
 pub mod KeptHistory
+pub mod ChecksAhead
+pub mod CreatedPieces
+pub mod ServedLast
+pub mod WrittenPieces
+pub mod AloneEntries
+pub mod AloneItems
+pub mod RepliedChecks
+pub mod SoundItems
+pub mod SoundStrips
+pub mod SoundCoded
+pub mod SoundUnwritten
+pub mod SoundReads
+pub mod AloneOnDisks

@@ -1,11 +1,13 @@
 -- Where the reads of a node stand on the disks that their sessions have open, and what a reply to a read tells.
-use Rattle.std.specs.Prelude.{◌≡◌, ◌≢◌, ℕ, ◌+◌, ◌*◌, ◌<◌, ◌≤◌, Bool, true, false, List, Option, Some, IsTrue, IfSome}
+use Rattle.std.specs.Prelude.{◌≡◌, ◌≢◌, ℕ, ◌+◌, ◌*◌, ◌<◌, ◌≤◌, Bool, true, false, List, length, Option, Some, IsTrue, IfSome}
 use Rattle.std.specs.Option.{option_and_then}
 use Rattle.std.specs.FinMap as tree
 use Rattle.cluster_script.specs.declared.statement.Statement.{Statement}
 use Rattle.cluster_script.specs.NumberedRequests.{request_at}
 use Rattle.object_id.specs.declared.entry.VdiSpec.{VdiSpec}
 use Rattle.object_id.specs.Spec.{IsSpec}
+use Rattle.object_id.specs.declared.oid.Kind.TheVariants.{Block}
+use Rattle.gf256.specs.Part.{is_in_strips}
 use Rattle.disk_history.specs.declared.event.HistEvent.{HistEvent}
 use Rattle.disk_history.specs.Ledger as histories
 use Rattle.disk_history.specs.Ledger.{Ledger}
@@ -18,6 +20,7 @@ use Rattle.peer_proto.specs.declared.guest.DiskAsk.{DiskAsk}
 use Rattle.peer_proto.specs.declared.guest.DiskAsk.TheVariants as disk_asks
 use Rattle.peer_proto.specs.declared.guest.GuestRsp.{GuestRsp}
 use Rattle.peer_proto.specs.declared.guest.GuestRsp.TheVariants.{Piece as Told}
+use Rattle.gateway_queue.specs.Queue.{may_run}
 use Rattle.gateway.specs.declared.message.Status.{Status}
 use Rattle.gateway.specs.Attempt.{Attempt}
 use Rattle.gateway.specs.State.{Work}
@@ -25,7 +28,8 @@ use Rattle.guest_driver.specs.declared.act.DriverAct.{DriverAct}
 use Rattle.guest_driver.specs.declared.disk.Disk.{Disk}
 use Rattle.guest_driver.specs.Driver.{Driver, Reads, Writes, Answered}
 use Rattle.guest_driver.specs.Extent.{IsExtent, last_index_of}
-use Rattle.guest_driver.specs.Pieces.{Piece, is_ask}
+use Rattle.guest_driver.specs.Pieces.{Piece, is_ask, pieces}
+use Rattle.guest_driver.specs.PieceWorks.{entry_of}
 use Rattle.sheep_node.specs.declared.ask.Ask.{Ask}
 use Rattle.sheep_node.specs.declared.ask.Ask.TheVariants as asks
 use Rattle.sheep_node.specs.declared.course.Course.{Course}
@@ -34,7 +38,7 @@ use Rattle.sheep_node.specs.declared.course.Request.{Request}
 use Rattle.sheep_node.specs.declared.event.Event.{Event}
 use Rattle.sheep_node.specs.declared.input.Input.{Input}
 use Rattle.sheep_node.specs.declared.input.Input.TheVariants as inputs
-use Rattle.sheep_node.specs.Changes.{EndsWork}
+use Rattle.sheep_node.specs.Changes.{HasRequest, EndsWork}
 use Rattle.sheep_node.specs.State.{Node, session_at}
 use Rattle.sheep_node.specs.StepState.{StepState}
 use Rattle.sheep_world.specs.Asking.{ask_of_statement}
@@ -46,13 +50,15 @@ use Rattle.overlap_law.specs.Each.{spec_in}
 use Rattle.overlap_law.specs.Headline.{ledger_of}
 use Rattle.overlap_law.specs.HistoryGrowth.{HistoryGrows, added_in}
 use Rattle.overlap_law.specs.Holders.{is_available_disk}
+use Rattle.overlap_law.specs.MomentChanges.{IsOnTheWay}
 use Rattle.overlap_law.specs.Past.{MomentWithPast, run_with_past}
-use Rattle.overlap_law.specs.StayingBlocks.{IsHomeToCome}
+use Rattle.overlap_law.specs.StayingBlocks.{IsHomeToCome, BlocksStayWritten}
 use Rattle.overlap_law.specs.StepMoments.{SteppingNode, IsStepping, StepsByChanges, LeadsInStep, first_in_step, moment_in_step}
 use Rattle.overlap_law.specs.Words.{Hosts}
 use Rattle.overlap_law.specs.WrittenBlocks.{blocks_per_object}
 use Rattle.overlap_law.specs.ToldReads.{PieceIsToCome, HolesAreToCome, WhatIsToldMayBeRead}
-use Rattle.overlap_law.specs.ToldReads.{AllKeepReadsOf, IsDiskOf, Reading, ReadStands, IsReadUpTo, PieceMayBeRead, HolesMayBeRead, extent_on}
+use Rattle.overlap_law.specs.ToldReads.{AllKeepReadsOf, IsDiskOf, Reading, ReadStands, IsReadUpTo, PieceMayBeRead, HolesMayBeRead}
+use Rattle.overlap_law.specs.ToldReads.{extent_on}
 
 -- a read that goes on, inside the disk of an inode, has been told as is asked of the blocks before its piece
 abbrev pub IsDriverStanding : Reading → Ledger → List Effect → (ℕ → Bool) → Content → ℕ → ℕ → Driver → Type 0
@@ -62,13 +68,13 @@ IsDriverStanding May ledger effects good_id inode offset size (Reads told piece 
 IsDriverStanding May ledger effects good_id inode offset size (Writes payload stage piece rest) = ⊥
 IsDriverStanding May ledger effects good_id inode offset size Answered = Unit {0}
 
--- nothing is asked of a write
+-- a read stands so, and nothing is asked of a write
 abbrev pub IsAskStanding : Reading → Ledger → List Effect → (ℕ → Bool) → Content → DiskAsk → Driver → Type 0
 IsAskStanding May ledger effects good_id inode (disk_asks.Read offset size) driver =
     IsDriverStanding May ledger effects good_id inode offset size driver
 IsAskStanding May ledger effects good_id inode (disk_asks.Write offset payload) driver = Unit {0}
 
--- none that reads or writes
+-- what is asked, if anything is, is no read or write
 abbrev pub IsNoDiskAsk : Option Ask → Type 0
 IsNoDiskAsk asked = (ask : DiskAsk) → asked ≡ Some (asks.Disk ask) → ⊥
 
@@ -97,17 +103,21 @@ IsToldAll May ledger effects good_id inode asked reply =
     × IsReadUpTo May ledger effects good_id inode (extent_on inode offset size) (last_index_of (extent_on inode offset size) + 1) told
 
 -- what the reads of a node need to go on, at a point of its step: that the step brings what was asked, that the disks that sessions have
--- open are sound, and zeros are as is asked of the holes of their tables, and that what comes of a piece is as is asked of its blocks
+-- open are sound, and that zeros are as is asked of the holes that a read comes to, as it begins or as a piece of it comes, and what comes
+-- of the piece is as is asked of its blocks. Where another write enters its entry by then, a hole is none any more; but no read that has
+-- begun comes to it
 pub record ReadsMayGoOn (May_be : Reading) (ledger : Ledger) (effects : List Effect) (good_id : ℕ → Bool) (asked : ℕ
     → Option Ask) (input : Input) (node : Node) (so_far : StepState) : Type 0 where
   pub brought : (req session : ℕ) (ask : Ask) → input ≡ inputs.Guest req session ask → asked req ≡ Some ask
   pub sound : (session : ℕ) (disk : Disk) → (session_at session so_far.node).disk ≡ Some disk → IsSpec disk.inode.spec
-  pub holes : (session : ℕ) (disk : Disk) → (session_at session so_far.node).disk ≡ Some disk
-      → HolesMayBeRead May_be ledger effects good_id disk.inode
+  pub begins : (session req offset size : ℕ) (disk : Disk) → HasRequest session req (Waiting (disk_asks.Read offset size)) so_far
+      → (session_at session so_far.node).disk ≡ Some disk → may_run req (session_at session so_far.node).queue ≡ true
+      → HolesMayBeRead May_be ledger effects good_id disk.inode (pieces disk.inode.spec.shift offset size)
   pub comes : (session req number : ℕ) (work : Work) (attempt : Attempt) (status : Status) (told bytes : List ℕ) (piece : Piece)
       (rest : List Piece) (disk : Disk)
       → EndsWork input node so_far session req number work attempt status (Driving (Reads told piece rest)) bytes
-      → (session_at session so_far.node).disk ≡ Some disk → PieceMayBeRead May_be ledger effects good_id disk.inode piece bytes
+      → (session_at session so_far.node).disk ≡ Some disk
+      → PieceMayBeRead May_be ledger effects good_id disk.inode piece bytes × HolesMayBeRead May_be ledger effects good_id disk.inode rest
 
 -- ---- in a moment
 
@@ -128,8 +138,8 @@ pub record ReadsMayGoOnIn (script : List Statement) (start before : MomentWithPa
       → LeadsInStep stepping (first_in_step stepping) so_far → before ≡ moment_in_step script stepping start so_far
       → ReadsMayGoOn May_be ledger effects good_id (asked_in script) (input_of_cause stepping.cause) stepping.host.node so_far
 
--- what comes of the piece of a read, in whatever step of an event a moment is in the middle of, is to come: of the id that an entry of the
--- disk's inode may come to name, or of its own
+-- what comes of the piece of a read, in whatever step of an event a moment is in the middle of, is as long as the piece; and of a good disk
+-- that is there it is to come: of the id that an entry of the disk's inode may come to name, or of its own
 pub record ReadPiecesAreToCome (script : List Statement) (start before : MomentWithPast) (ledger : Ledger) (effects : List Effect)
     (good_id : ℕ → Bool) : Type 0 where
   pub each : (stepping : SteppingNode) (so_far : StepState) → IsStepping script start.world stepping → StepsByChanges stepping.cause
@@ -139,13 +149,41 @@ pub record ReadPiecesAreToCome (script : List Statement) (start before : MomentW
       → EndsWork (input_of_cause stepping.cause) stepping.host.node so_far session req number work attempt status
       (Driving (Reads told piece rest)) bytes
       → (session_at session so_far.node).disk ≡ Some disk
+      → (length bytes ≡ piece.size)
+      × (good_id disk.inode.vid ≡ true → is_live_state (state_of effects disk.inode.vid) ≡ true
       → (home : ℕ) × IsHomeToCome before.world.hosts before.past.attempts disk.inode.vid piece.index home × (home ≢ 0)
-      × PieceIsToCome ledger effects good_id before.world.hosts before.past.attempts disk.inode home piece bytes
+      × PieceIsToCome ledger effects good_id before.world.hosts before.past.attempts disk.inode home piece bytes)
 
--- where the tables of open disks have holes their inodes may come to have some
-pub record OpenHolesAreToCome (moment : MomentWithPast) : Type 0 where
-  pub each : (n : ℕ) (host : Host) → tree.get moment.world.hosts n ≡ Some host → host.is_lost ≡ false → (session : ℕ) (disk : Disk)
-      → (session_at session host.node).disk ≡ Some disk → HolesAreToCome moment.world.hosts moment.past.attempts disk.inode
+-- so it is of strips, of what the table names
+pub record StripPiecesAreToCome (script : List Statement) (start before : MomentWithPast) (ledger : Ledger) (effects : List Effect)
+    (good_id : ℕ → Bool) : Type 0 where
+  pub each : (stepping : SteppingNode) (so_far : StepState) → IsStepping script start.world stepping → StepsByChanges stepping.cause
+      → LeadsInStep stepping (first_in_step stepping) so_far → before ≡ moment_in_step script stepping start so_far
+      → (session req number : ℕ) (work : Work) (attempt : Attempt) (status : Status) (told bytes : List ℕ) (piece : Piece)
+      (rest : List Piece) (disk : Disk)
+      → EndsWork (input_of_cause stepping.cause) stepping.host.node so_far session req number work attempt status
+      (Driving (Reads told piece rest)) bytes
+      → (session_at session so_far.node).disk ≡ Some disk → is_in_strips disk.inode.spec.policy Block ≡ true
+      → good_id disk.inode.vid ≡ true → is_live_state (state_of effects disk.inode.vid) ≡ true
+      → PieceIsToCome ledger effects good_id before.world.hosts before.past.attempts disk.inode (entry_of disk.inode piece) piece bytes
+
+-- where the table of a disk has holes that a read comes to, in whatever step of an event a moment is in the middle of, its inode may come
+-- to have some: as the read begins, and as a piece of it comes
+pub record ReadHolesAreToCome (script : List Statement) (start before : MomentWithPast) (effects : List Effect) (good_id : ℕ → Bool)
+    : Type 0 where
+  pub begins : (stepping : SteppingNode) (so_far : StepState) → IsStepping script start.world stepping → StepsByChanges stepping.cause
+      → LeadsInStep stepping (first_in_step stepping) so_far → before ≡ moment_in_step script stepping start so_far
+      → (session req offset size : ℕ) (disk : Disk) → HasRequest session req (Waiting (disk_asks.Read offset size)) so_far
+      → (session_at session so_far.node).disk ≡ Some disk → may_run req (session_at session so_far.node).queue ≡ true
+      → HolesAreToCome effects good_id before.world.hosts before.past.attempts disk.inode (pieces disk.inode.spec.shift offset size)
+  pub behind : (stepping : SteppingNode) (so_far : StepState) → IsStepping script start.world stepping → StepsByChanges stepping.cause
+      → LeadsInStep stepping (first_in_step stepping) so_far → before ≡ moment_in_step script stepping start so_far
+      → (session req number : ℕ) (work : Work) (attempt : Attempt) (status : Status) (told bytes : List ℕ) (piece : Piece)
+      (rest : List Piece) (disk : Disk)
+      → EndsWork (input_of_cause stepping.cause) stepping.host.node so_far session req number work attempt status
+      (Driving (Reads told piece rest)) bytes
+      → (session_at session so_far.node).disk ≡ Some disk
+      → HolesAreToCome effects good_id before.world.hosts before.past.attempts disk.inode rest
 
 -- ---- as a history grows
 
@@ -177,7 +215,27 @@ pub record WorkingDisksAreOfHistory (moment : MomentWithPast) : Type 0 where
       → request.course ≡ Commanding op → ⊥)
       → IsDiskOf (ledger_of moment.past.history) (log_effects moment.world.log) disk.inode
 
+-- so is a snapshot that a session has open, and it is there by the log, unless the history has it deleted
+pub record OpenSnapshotsAreOfHistory (moment : MomentWithPast) : Type 0 where
+  pub each : (n : ℕ) (host : Host) → tree.get moment.world.hosts n ≡ Some host → (session : ℕ) (disk : Disk)
+      → (session_at session host.node).disk ≡ Some disk → disk.snapshot ≡ true
+      → IsDiskOf (ledger_of moment.past.history) (log_effects moment.world.log) disk.inode
+
 -- ---- in runs
+
+-- what the reads of nodes need on the way of events, of the disks that are available up to the event's end: at each moment what blocks may
+-- come to be read as may be read of them, what comes of a read of strips is to come, and what the next change adds to the history keeps
+-- what reads were told
+pub record IsServingReads (script : List Statement) (start before after : MomentWithPast) (good_id : ℕ → Bool) : Type 0 where
+  pub written : BlocksStayWritten (ledger_of before.past.history) (log_effects before.world.log) good_id before.world.hosts
+      before.past.attempts
+  pub strips : StripPiecesAreToCome script start before (ledger_of before.past.history) (log_effects before.world.log) good_id
+  pub kept : AllReadsAreKept script start before after
+
+pub record EachChangeServesReads (script : List Statement) : Type 0 where
+  pub each : (events : List Event) (event : Event) (start end before after : MomentWithPast)
+      → IsOnTheWay script events event start end before after
+      → IsServingReads script start before after (is_available_disk end.world.log end.past.unavailable)
 
 -- each event of a run tells reads, of disks that were available up to there, what may be read
 pub record EachEventTellsWhatMayBeRead (script : List Statement) : Type 0 where

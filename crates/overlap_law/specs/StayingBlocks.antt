@@ -1,8 +1,8 @@
 -- What may be read of a block whichever requests are refused; that what a block may come to be read as is among it; and how a history may
 -- grow so that it stays so.
-use Rattle.std.specs.Prelude.{◌≡◌, ◌≢◌, ◌⊎◌, ℕ, ◌<◌, ◌==◌, ◌&&◌, not, Bool, true, false, List, [], ◌∷◌, ◌++◌, slice_get, Option, Some, None}
+use Rattle.std.specs.Prelude.{◌≡◌, ◌≢◌, ◌⊎◌, ℕ, ◌+◌, ◌*◌, ◌<◌, ◌==◌, ◌&&◌, not, Bool, true, false, List, [], ◌∷◌, ◌++◌, slice_get, Option, Some, None}
 use Rattle.std.specs.FinMap as tree
-use Rattle.std.specs.List.{list_all}
+use Rattle.std.specs.List.{list_all, list_any}
 use Rattle.std.specs.Str.{bytes_eq}
 use Rattle.object_id.specs.declared.entry.VdiSpec.{VdiSpec}
 use Rattle.object_id.specs.declared.limits.TheConstants.{BLOCK_BYTES}
@@ -16,6 +16,7 @@ use Rattle.disk_history.specs.Ledger.{Item, Open, Disk, Ledger, is_item_of, ledg
 use Rattle.disk_history.specs.Legal.{standing, is_acknowledged}
 use Rattle.disk_history.specs.Changes.{items_in, ended_request}
 use Rattle.vdi_directory.specs.declared.effect.Effect.{Effect}
+use Rattle.vdi_directory.specs.Dead.{is_dead}
 use Rattle.vdi_directory.specs.Decisions.{log_effects}
 use Rattle.vdi_directory.specs.States.{state_of, is_live_state}
 use Rattle.peer_proto.specs.Work.{oid_of}
@@ -24,11 +25,12 @@ use Rattle.overlap_law.specs.Attempts.{AttemptRecord, object_of}
 use Rattle.overlap_law.specs.Words.{Hosts, is_mute, covers_unit, bytes_by}
 use Rattle.overlap_law.specs.Units.{covers_by}
 use Rattle.overlap_law.specs.Each.{EachUp, EachAttempt, spec_in}
+use Rattle.overlap_law.specs.Grants.{publishes}
 use Rattle.overlap_law.specs.Headline.{ledger_of}
 use Rattle.overlap_law.specs.Past.{MomentWithPast}
 use Rattle.overlap_law.specs.Tables.{entry_unit, entry_by}
 use Rattle.overlap_law.specs.ToCome.{comes_to_nothing, IsToCome, IsEntryToCome}
-use Rattle.overlap_law.specs.WrittenBlocks.{IsBlockOfDisk, items_at, is_torn_here}
+use Rattle.overlap_law.specs.WrittenBlocks.{blocks_per_object, items_at, is_torn_here}
 
 -- ---- what may be read of a block
 
@@ -58,15 +60,26 @@ abbrev pub IsHomeToCome : Hosts → List AttemptRecord → ℕ → ℕ → ℕ �
 IsHomeToCome hosts attempts vid index home =
     ((j : ℕ) × (entry : AttemptRecord) × IsEntryToCome hosts attempts vid index j entry × (entry_by index entry ≡ home)) ⊎ (home ≡ vid)
 
+-- a block of a disk that the history has, also of a deleted one, as long as its id isn't dead: a clone may still be made of it
+pub record IsBlockOfAnyDisk (ledger : Ledger) (effects : List Effect) (good_id : ℕ
+    → Bool) (vid : ℕ) (disk : Disk) (spec : VdiSpec) (index unit : ℕ) : Type 0 where
+  pub there : ledger.disks vid ≡ Some disk
+  pub alive : is_dead effects vid ≡ false
+  pub good : good_id vid ≡ true
+  pub made_with : spec_in effects vid ≡ Some spec
+  pub object : index < objects_of spec
+  pub inside : unit < blocks_per_object spec
+  pub block : index * blocks_per_object spec + unit < disk.blocks
+
 -- what a block may come to be read as may be read of it, whichever requests are refused
 pub record BlocksStayWritten (ledger : Ledger) (effects : List Effect) (good_id : ℕ
     → Bool) (hosts : Hosts) (attempts : List AttemptRecord) : Type 0 where
   -- a hole is read as zeros
-  pub holes : (vid index unit : ℕ) (disk : Disk) (spec : VdiSpec) → IsBlockOfDisk ledger effects good_id vid disk spec index unit
+  pub holes : (vid index unit : ℕ) (disk : Disk) (spec : VdiSpec) → IsBlockOfAnyDisk ledger effects good_id vid disk spec index unit
       → (j : ℕ) (entry : AttemptRecord) → IsEntryToCome hosts attempts vid index j entry → entry_by index entry ≡ 0
       → MayStay attempts (items_at disk spec index unit) None (zeros BLOCK_BYTES)
   -- and of an object that may come to be read each attempt has bytes that may
-  pub each : (vid index unit : ℕ) (disk : Disk) (spec : VdiSpec) → IsBlockOfDisk ledger effects good_id vid disk spec index unit
+  pub each : (vid index unit : ℕ) (disk : Disk) (spec : VdiSpec) → IsBlockOfAnyDisk ledger effects good_id vid disk spec index unit
       → is_torn_here spec (items_at disk spec index unit) ≡ false → (home : ℕ) → IsHomeToCome hosts attempts vid index home → home ≢ 0
       → (j : ℕ) (attempt : AttemptRecord) → IsToCome hosts attempts (object_number home index) unit j attempt
       → MayStay attempts (items_at disk spec index unit) (Some attempt.req) (bytes_by unit attempt.work)
@@ -78,23 +91,23 @@ pub record WorksMayStay (ledger : Ledger) (effects : List Effect) (good_id : ℕ
     → Bool) (hosts : Hosts) (attempts : List AttemptRecord) : Type 0 where
   pub each : EachUp hosts (λ n node. (req vid index unit : ℕ) (work : Work) (disk : Disk) (spec : VdiSpec)
       → tree.get node.gateway.works req ≡ Some work → oid_of work.work ≡ object_number vid index
-      → IsBlockOfDisk ledger effects good_id vid disk spec index unit → covers_by unit work.work ≡ true
+      → IsBlockOfAnyDisk ledger effects good_id vid disk spec index unit → covers_by unit work.work ≡ true
       → is_torn_here spec (items_at disk spec index unit) ≡ false
       → MayStay attempts (items_at disk spec index unit) (Some req) (bytes_by unit work.work))
 
--- a disk of a good id is there by the log, and its inode has an entry of the index
+-- a good id isn't dead, and its inode has an entry of the index
 pub record HasEntryOf (effects : List Effect) (good_id : ℕ → Bool) (vid index : ℕ) : Type 0 where
-  pub live : is_live_state (state_of effects vid) ≡ true
+  pub alive : is_dead effects vid ≡ false
   pub good : good_id vid ≡ true
   pub spec : VdiSpec
   pub made_with : spec_in effects vid ≡ Some spec
   pub object : index < objects_of spec
 
--- an attempt that begins between two moments gives a disk's inode the disk's own id, or an entry that it might come to have before
+-- an attempt that begins between two moments gives the inode of a published id the id itself, or an entry that it might come to have before
 pub record EntersWhatMayCome (good_id : ℕ → Bool) (before after : MomentWithPast) : Type 0 where
   pub enters : (attempt : AttemptRecord) → after.past.attempts ≡ before.past.attempts ++ attempt ∷ [] → (vid index : ℕ)
-      → HasEntryOf (log_effects after.world.log) good_id vid index → object_of attempt ≡ inode_number vid
-      → covers_unit (entry_unit index) attempt ≡ true
+      → list_any (publishes vid) (log_effects after.world.log) ≡ true → HasEntryOf (log_effects after.world.log) good_id vid index
+      → object_of attempt ≡ inode_number vid → covers_unit (entry_unit index) attempt ≡ true
       → (entry_by index attempt ≡ vid)
       ⊎ ((j : ℕ) × (entry : AttemptRecord) × IsEntryToCome before.world.hosts before.past.attempts vid index j entry
       × (entry_by index entry ≡ entry_by index attempt))
@@ -118,8 +131,8 @@ pub record IsMadeBlank (effects : List Effect) (good_id : ℕ
 pub record IsMadeLike (effects : List Effect) (good_id : ℕ
     → Bool) (hosts : Hosts) (attempts : List AttemptRecord) (ledger : Ledger) (old new : ℕ) : Type 0 where
   pub block : (index unit : ℕ) (disk : Disk) (spec : VdiSpec)
-      → IsBlockOfDisk (ledger_after ledger (Copy old new)) effects good_id new disk spec index unit
-      → (was : Disk) × IsBlockOfDisk ledger effects good_id old was spec index unit
+      → IsBlockOfAnyDisk (ledger_after ledger (Copy old new)) effects good_id new disk spec index unit
+      → (was : Disk) × IsBlockOfAnyDisk ledger effects good_id old was spec index unit
   pub entry : (index j : ℕ) (entry : AttemptRecord) → HasEntryOf effects good_id new index
       → IsEntryToCome hosts attempts new index j entry
       → (i : ℕ) × (other : AttemptRecord) × IsEntryToCome hosts attempts old index i other × (entry_by index other ≡ entry_by index entry)
@@ -131,11 +144,11 @@ pub record IsMadeLike (effects : List Effect) (good_id : ℕ
 pub record IsAloneWhereWritten (effects : List Effect) (good_id : ℕ
     → Bool) (hosts : Hosts) (attempts : List AttemptRecord) (ledger : Ledger) (req : ℕ) : Type 0 where
   pub entry : (vid index unit place : ℕ) (disk : Disk) (spec : VdiSpec) (item : Item)
-      → IsBlockOfDisk ledger effects good_id vid disk spec index unit
+      → IsBlockOfAnyDisk ledger effects good_id vid disk spec index unit
       → slice_get (standing (items_at disk spec index unit)) place ≡ Some item → is_item_of req item ≡ true
       → (j : ℕ) (entry : AttemptRecord) → IsEntryToCome hosts attempts vid index j entry → entry_by index entry ≡ vid
   pub bytes : (vid index unit place : ℕ) (disk : Disk) (spec : VdiSpec) (item : Item)
-      → IsBlockOfDisk ledger effects good_id vid disk spec index unit
+      → IsBlockOfAnyDisk ledger effects good_id vid disk spec index unit
       → slice_get (standing (items_at disk spec index unit)) place ≡ Some item → is_item_of req item ≡ true
       → (j : ℕ) (attempt : AttemptRecord) → IsToCome hosts attempts (object_number vid index) unit j attempt
       → bytes_eq item.bytes (bytes_by unit attempt.work) ≡ true
@@ -202,6 +215,11 @@ pub record GrowsKeeping (effects : List Effect) (good_id : ℕ
 pub record DisksAreLive (ledger : Ledger) (effects : List Effect) : Type 0 where
   pub each : (vid : ℕ) (disk : Disk) → ledger.disks vid ≡ Some disk → disk.deleted ≡ false → is_live_state (state_of effects vid) ≡ true
 
--- the inodes of the good disks that are there by the log are called live
+-- the disks that the history has, deleted or not, were published
+pub record DisksArePublished (ledger : Ledger) (effects : List Effect) : Type 0 where
+  pub each : (vid : ℕ) (disk : Disk) → ledger.disks vid ≡ Some disk → list_any (publishes vid) effects ≡ true
+
+-- the inodes of the good ids that were published and aren't dead are called live
 pub record InodesAreLive (effects : List Effect) (live good_id : ℕ → Bool) : Type 0 where
-  pub each : (vid : ℕ) → is_live_state (state_of effects vid) ≡ true → good_id vid ≡ true → live (inode_number vid) ≡ true
+  pub each : (vid : ℕ) → list_any (publishes vid) effects ≡ true → is_dead effects vid ≡ false → good_id vid ≡ true
+      → live (inode_number vid) ≡ true

@@ -18,12 +18,13 @@ use Rattle.peer_proto.specs.declared.work.ObjWork.{ObjWork}
 use Rattle.guest_driver.specs.Driver.{Driver}
 use Rattle.vdi_ops.specs.InodeWorks.{create_inode}
 use Rattle.vdi_directory.specs.declared.header.Header.{Header}
-use Rattle.vdi_ops.specs.Op.{Copying, Working, Op}
+use Rattle.vdi_ops.specs.Op.{Copying, Working, Publishing, Op}
 use Rattle.vdi_ops.specs.Tables.{table_in, inode_by}
 use Rattle.gateway.specs.declared.message.Status.{Status}
 use Rattle.gateway.specs.Attempt.{Attempt}
 use Rattle.gateway.specs.State.{Work}
 use Rattle.sheep_node.specs.declared.course.Course.TheVariants.{Driving, Commanding}
+use Rattle.sheep_node.specs.declared.course.Request.{Request}
 use Rattle.sheep_node.specs.declared.input.Input.{Input}
 use Rattle.sheep_node.specs.Changes.{ToWork, EndsWork, RequestSteps}
 use Rattle.sheep_node.specs.State.{Node}
@@ -34,7 +35,7 @@ use Rattle.overlap_law.specs.Attempts.{AttemptRecord, object_of}
 use Rattle.overlap_law.specs.Drafts.{IsReservedEntry}
 use Rattle.overlap_law.specs.Each.{EachUp, EachAttempt}
 use Rattle.overlap_law.specs.Fates.{IsCreated}
-use Rattle.overlap_law.specs.Grants.{publishes}
+use Rattle.overlap_law.specs.Grants.{publishes, writer_of}
 use Rattle.overlap_law.specs.Holders.{is_create_work}
 use Rattle.overlap_law.specs.NamedWorks.{HasEntry}
 use Rattle.overlap_law.specs.Past.{MomentWithPast}
@@ -43,6 +44,7 @@ use Rattle.overlap_law.specs.StepMoments.{SteppingNode, IsStepping, StepsByChang
 use Rattle.overlap_law.specs.Tables.{entry_by}
 use Rattle.overlap_law.specs.ToCome.{IsEntryToCome}
 use Rattle.overlap_law.specs.ToDo.{entry_made}
+use Rattle.overlap_law.specs.Writers.{session_holder}
 
 -- all that an id's inode may come to have of an index is this entry
 abbrev pub IsAllToCome : Hosts → List AttemptRecord → ℕ → ℕ → ℕ → Type 0
@@ -69,7 +71,7 @@ pub record DraftsStayDrawn (effects : List Effect) (good_id : ℕ → Bool) (hos
   pub inodes : (vid index : ℕ) (draft : IsReservedEntry effects good_id vid index) (j : ℕ) (attempt : AttemptRecord)
       → IsEntryToCome hosts attempts vid index j attempt
       → StaysDrawnFrom hosts attempts draft.reservation.source (parent_of effects vid) index (entry_by index attempt)
-  -- and so do the works that are to create them
+  -- and the works that are to create them have such entries
   pub works : EachUp hosts (λ n node. (req : ℕ) (work : ObjWork) → HasWork req work node.gateway.works node.sessions
       → CreatesDrawn effects good_id hosts attempts work)
 
@@ -80,6 +82,12 @@ PlacesStayDrawn effects good_id hosts attempts = (vid index : ℕ) (draft : IsRe
     → IsEntryToCome hosts attempts vid index j attempt
     → ((epoch : ℕ) × IsCreated attempts (inode_number old.0) epoch)
     × IsAllToCome hosts attempts old.0 index (entry_by index attempt)
+
+-- a session whose command waits for the publication of an inode, that it is to have open then, may write the inode's id
+abbrev pub PublishersMayWrite : List Effect → Hosts → Type 0
+PublishersMayWrite effects hosts = EachUp hosts (λ n node. (req : ℕ) (request : Request) (op : Op) (entry : Entry) (inode : Content)
+    → tree.get node.requests req ≡ Some request → request.course ≡ Commanding op → op.stage ≡ Publishing entry (Some inode)
+    → writer_of effects inode.vid ≡ Some (session_holder n request.session))
 
 -- each attempt on an object of a disk, that is no inode, is of an id that was published: of a reserved id there is none
 abbrev pub DataIsOfThePublished : List Entry → List AttemptRecord → Type 0

@@ -1,13 +1,15 @@
 -- What open reads were told: at each unit a piece of a copy has the bytes of some attempt, and a piece of a row has what the row owed.
-use Rattle.std.specs.Prelude.{◌≡◌, ℕ, ◌+◌, ◌-◌, ◌≤◌, Bool, true, false, List, length, slice_get, Some}
+use Rattle.std.specs.Prelude.{◌≡◌, ℕ, ◌+◌, ◌*◌, ◌-◌, ◌/◌, ◌≤◌, Bool, true, false, List, length, slice_get, Some}
 use Rattle.std.specs.FinMap as tree
 use Rattle.std.specs.Ordering.{nat_cmp}
+use Rattle.object_id.specs.declared.limits.TheConstants.{BLOCK_BYTES}
 use Rattle.object_id.specs.declared.node.NodeId.{NodeId}
 use Rattle.object_id.specs.declared.oid.Kind.{Kind}
 use Rattle.object_id.specs.declared.policy.Policy.{Policy}
 use Rattle.object_id.specs.Oid.{kind_of}
 use Rattle.object_store.specs.Bytes.{piece_at}
 use Rattle.gf256.specs.Part.{is_in_strips, part_size}
+use Rattle.gf256.specs.Strip.{strip}
 use Rattle.vdi_directory.specs.declared.effect.Effect.{Effect}
 use Rattle.peer_proto.specs.declared.say.PeerRsp.{PeerRsp}
 use Rattle.peer_proto.specs.declared.say.PeerSay.TheVariants.{Piece}
@@ -18,6 +20,7 @@ use Rattle.message_wire.specs.Message.{message_name}
 use Rattle.gateway.specs.declared.message.Message.{Message}
 use Rattle.gateway.specs.declared.message.Status.TheVariants.{Unanswered}
 use Rattle.gateway.specs.Attempt as gateways
+use Rattle.gateway.specs.Attempt.{bytes_in}
 use Rattle.gateway.specs.State.{Work, Open}
 use Rattle.overlap_law.specs.Attempts.{AttemptRecord, attempts_on}
 use Rattle.overlap_law.specs.Each.{EachUp, SomeAttempt, policy_in}
@@ -81,6 +84,11 @@ part_in_piece work unit bytes =
     (part_size (policy_of work) (kind_of (oid_of work)) (unit_start (kind_of (oid_of work)) unit)
     - part_size (policy_of work) (kind_of (oid_of work)) (offset_read work))
     (part_size (policy_of work) (kind_of (oid_of work)) (unit_size (kind_of (oid_of work)) unit))
+
+-- a message gave the strip at its index of a block, where a read of strips began at an offset
+abbrev pub GaveStrip : ℕ → ℕ → ℕ → List ℕ → Message → Type 0
+GaveStrip d offset unit block message =
+    piece_at (bytes_in message.status) (BLOCK_BYTES * unit / d - offset / d) (BLOCK_BYTES / d) ≡ strip d block message.index
 
 -- a piece of a good object, of a copy or of strips, that is on its way back to an open read, is of bytes that have what their node owed in
 -- the read's epoch

@@ -1,6 +1,7 @@
 -- What an event adds to the history, against the ledger so far: that what is read in it may be read, and that all else may come next; and
 -- what a read has been told by a moment, against the ledger then.
-use Rattle.std.specs.Prelude.{◌≡◌, ◌⊎◌, ℕ, ◌+◌, ◌*◌, ◌-◌, ◌/◌, ◌<◌, ◌≤◌, ◌==◌, ◌&&◌, Bool, true, false, List, [], ◌∷◌, length, slice_index, None, Some}
+use Rattle.std.specs.Prelude.{◌≡◌, ◌⊎◌, ℕ, ◌+◌, ◌*◌, ◌-◌, ◌/◌, ◌<◌, ◌≤◌, ◌==◌, ◌&&◌, Bool, true, false, All}
+use Rattle.std.specs.Prelude.{List, [], ◌∷◌, length, slice_index, None, Some}
 use Rattle.std.specs.List.{list_any}
 use Rattle.object_id.specs.declared.limits.TheConstants.{BLOCK_BYTES}
 use Rattle.object_id.specs.Fields.{zeros}
@@ -111,12 +112,15 @@ pub record PieceMayBeRead (May : Reading) (ledger : Ledger) (effects : List Effe
       → IsBlockOfDisk ledger effects good_id inode.vid disk inode.spec piece.index unit
       → May (items_at disk inode.spec piece.index unit) (piece_at bytes (BLOCK_BYTES * unit - piece.offset) BLOCK_BYTES)
 
--- zeros are as asked of the blocks of an object that is a hole by the table
-pub record HolesMayBeRead (May : Reading) (ledger : Ledger) (effects : List Effect) (good_id : ℕ
-    → Bool) (inode : Content) : Type 0 where
-  pub each : (index unit : ℕ) (disk : Disk) → slice_index inode.table index ≡ 0
-      → IsBlockOfDisk ledger effects good_id inode.vid disk inode.spec index unit
-      → May (items_at disk inode.spec index unit) (zeros BLOCK_BYTES)
+-- zeros are as asked of the blocks of a piece's object, if that is a hole by the table
+abbrev pub HoleMayBeRead : Reading → Ledger → List Effect → (ℕ → Bool) → Content → Piece → Type 0
+HoleMayBeRead May ledger effects good_id inode piece = (unit : ℕ) (disk : Disk) → slice_index inode.table piece.index ≡ 0
+    → IsBlockOfDisk ledger effects good_id inode.vid disk inode.spec piece.index unit
+    → May (items_at disk inode.spec piece.index unit) (zeros BLOCK_BYTES)
+
+-- so of each of some pieces
+abbrev pub HolesMayBeRead : Reading → Ledger → List Effect → (ℕ → Bool) → Content → List Piece → Type 0
+HolesMayBeRead May ledger effects good_id inode pieces = All (HoleMayBeRead May ledger effects good_id inode) pieces
 
 -- a read is at the piece of an object, with all before it told, or has told all in its reply
 abbrev pub ReadStands : Reading → Ledger → List Effect → (ℕ → Bool) → Content → Extent → Driver → DriverAct → Type 0
@@ -148,10 +152,15 @@ pub record PieceIsToCome (ledger : Ledger) (effects : List Effect) (good_id : �
       → (j : ℕ) × (attempt : AttemptRecord) × IsToCome hosts attempts (object_number home piece.index) unit j attempt
       × (is_mute attempt ≡ false) × (bytes_by unit attempt.work ≡ piece_at bytes (BLOCK_BYTES * unit - piece.offset) BLOCK_BYTES)
 
--- where the table has a hole the inode may come to have one
-pub record HolesAreToCome (hosts : Hosts) (attempts : List AttemptRecord) (inode : Content) : Type 0 where
-  pub each : (index : ℕ) → index < objects_of inode.spec → slice_index inode.table index ≡ 0
-      → (j : ℕ) × (entry : AttemptRecord) × IsEntryToCome hosts attempts inode.vid index j entry × (entry_by index entry ≡ 0)
+-- where the table has a hole at a piece, the inode of a good disk that is there may come to have one
+abbrev pub HoleIsToCome : List Effect → (ℕ → Bool) → Hosts → List AttemptRecord → Content → Piece → Type 0
+HoleIsToCome effects good_id hosts attempts inode piece = good_id inode.vid ≡ true → is_live_state (state_of effects inode.vid) ≡ true
+    → piece.index < objects_of inode.spec → slice_index inode.table piece.index ≡ 0
+    → (j : ℕ) × (entry : AttemptRecord) × IsEntryToCome hosts attempts inode.vid piece.index j entry × (entry_by piece.index entry ≡ 0)
+
+-- so at each of some pieces
+abbrev pub HolesAreToCome : List Effect → (ℕ → Bool) → Hosts → List AttemptRecord → Content → List Piece → Type 0
+HolesAreToCome effects good_id hosts attempts inode pieces = All (HoleIsToCome effects good_id hosts attempts inode) pieces
 
 -- ---- how the history may grow behind what was read
 

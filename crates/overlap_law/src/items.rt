@@ -1,17 +1,28 @@
 //! Laws on the disks, blocks and items of the history: who begins writes on a disk, and what is open of the requests under way.
-ghost use Rattle.std.specs.Prelude.{◌≡◌, ℕ, false, List, Some};
+ghost use Rattle.std.specs.Prelude.{◌≡◌, ℕ, true, false, List, Some};
 ghost use Rattle.std.specs.List.{list_any};
+ghost use Rattle.std.specs.FinMap as tree;
 ghost use Rattle.cluster_script.specs.declared.statement.Statement.{Statement};
+ghost use Rattle.peer_proto.specs.declared.say.PeerRsp.{PeerRsp};
 ghost use Rattle.disk_lock.specs.declared.holder.Holder.{Holder};
 ghost use Rattle.vdi_directory.specs.Decisions.{log_effects};
 ghost use Rattle.vdi_directory.specs.Effects.{holder_of};
+ghost use Rattle.sheep_node.specs.declared.check_write.CheckWrite.{CheckWrite};
 ghost use Rattle.sheep_node.specs.declared.event.Event.{Event};
+ghost use Rattle.sheep_node.specs.declared.input.Input.TheVariants as inputs;
+ghost use Rattle.sheep_node.specs.CheckWrites.{check_write_on};
+ghost use Rattle.sheep_world.specs.HistoryAdditions.{check_write_grown};
 ghost use Rattle.sheep_world.specs.Step.{EventOutcome, step};
+ghost use Rattle.sheep_world.specs.World.{Host, is_host_up};
+ghost use Rattle.overlap_law.specs.ChecksAhead.{ChecksHaveBegunIfFound, ChecksHaveBegunNoneAhead};
 ghost use Rattle.overlap_law.specs.DiskBlocks.{DisksHaveTheirBlocks};
 ghost use Rattle.overlap_law.specs.DiskEvents.{is_anothers, BlocksUnderWayAreOpen, WritesHaveOpenItems, WritesOfChecksStand};
 ghost use Rattle.overlap_law.specs.DiskEvents.{WritesUnderWayAreOpen};
-ghost use Rattle.overlap_law.specs.MomentChanges.{RunsAreInRange};
+ghost use Rattle.overlap_law.specs.Headline.{ledger_of};
+ghost use Rattle.overlap_law.specs.MomentChanges.{IsOnTheWay, RunsAreInRange};
 ghost use Rattle.overlap_law.specs.Past.{MomentWithPast, run_with_past};
+ghost use Rattle.overlap_law.specs.Pieces.{WritesHaveItems};
+ghost use Rattle.overlap_law.specs.ToldReads.{AllElseMayFollow};
 
 /// In each run in range what an event adds to the history makes no disk that a session holds by the log, and begins writes of it for
 /// requests of that session alone.
@@ -52,4 +63,40 @@ pub fn disks_of_the_history_have_their_blocks()
 pub fn pieces_left_to_write_are_open()
     ensures { (script : List Statement) (events : List Event) (moment : MomentWithPast) → RunsAreInRange script
         → run_with_past script events ≡ Some moment → WritesHaveOpenItems moment.past.history moment.world.hosts }
+{}
+
+/// In each run in range what a write has still to write has its items: of each block of each piece that is left, the write's open item is
+/// among those by which the block may be read, so nothing that was acknowledged stands behind it.
+pub fn what_is_left_to_write_has_its_items()
+    ensures { (script : List Statement) (events : List Event) (moment : MomentWithPast) → RunsAreInRange script
+        → run_with_past script events ≡ Some moment → WritesHaveItems (ledger_of moment.past.history) moment.world.hosts }
+{}
+
+/// And it has them behind each change on the way of an event.
+pub fn what_is_left_to_write_keeps_its_items()
+    ensures { (script : List Statement) (events : List Event) (event : Event) (start end before after : MomentWithPast)
+        → RunsAreInRange script → IsOnTheWay script events event start end before after
+        → WritesHaveItems (ledger_of after.past.history) after.world.hosts }
+{}
+
+/// In each run in range no check has begun a write of a block from the first on of an object that it hasn't compared yet.
+pub fn checks_begin_no_write_ahead()
+    ensures { (script : List Statement) (events : List Event) (moment : MomentWithPast) → RunsAreInRange script
+        → run_with_past script events ≡ Some moment → ChecksHaveBegunNoneAhead moment.past.history moment.world.hosts }
+{}
+
+/// In each run in range the writes that a check of a node that is up begins, as it comes to one by a reply, may come next in the history:
+/// each is of a whole block, of which the check had begun no write, and the check hasn't ended.
+pub fn what_checks_begin_may_follow()
+    ensures { (script : List Statement) (events : List Event) (moment : MomentWithPast) → RunsAreInRange script
+        → run_with_past script events ≡ Some moment → (n : ℕ) (host : Host) → tree.get moment.world.hosts n ≡ Some host
+        → is_host_up host ≡ true → (rsp : PeerRsp) (write : CheckWrite) → check_write_on (inputs.Reply rsp) host.node ≡ Some write
+        → AllElseMayFollow (ledger_of moment.past.history) (check_write_grown script write) }
+{}
+
+/// In each run in range a check that has counted an own object of its disk has begun a write in the history: it counts one as it comes to
+/// the write of its value, whose first block its disk has.
+pub fn a_check_that_counts_has_begun_a_write()
+    ensures { (script : List Statement) (events : List Event) (moment : MomentWithPast) → RunsAreInRange script
+        → run_with_past script events ≡ Some moment → ChecksHaveBegunIfFound moment.past.history moment.world.hosts }
 {}

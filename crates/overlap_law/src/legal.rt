@@ -1,7 +1,6 @@
 //! Laws of the headline's first part: that the replies so far are one legal history.
 ghost use Rattle.std.specs.Prelude.{◌≡◌, ◌≢◌, ℕ, ◌+◌, ◌≤◌, ◌++◌, Bool, true, false, List, Option, None, Some};
 ghost use Rattle.std.specs.List.{list_any};
-ghost use Rattle.std.specs.Option.{option_map_or};
 ghost use Rattle.object_id.specs.declared.entry.Entry.{Entry};
 ghost use Rattle.inode.specs.Layout.{Content};
 ghost use Rattle.disk_history.specs.declared.event.HistEvent.{HistEvent};
@@ -15,13 +14,11 @@ ghost use Rattle.peer_proto.specs.declared.guest.GuestRsp.{GuestRsp};
 ghost use Rattle.peer_proto.specs.declared.guest.GuestRsp.TheVariants.{Piece as Told};
 ghost use Rattle.guest_driver.specs.declared.disk.Disk.{Disk};
 ghost use Rattle.guest_driver.specs.declared.extent.Extent.{Extent};
-ghost use Rattle.guest_driver.specs.Pieces.{Piece};
+ghost use Rattle.guest_driver.specs.Pieces.{Piece, pieces};
 ghost use Rattle.guest_driver.specs.Driver.{Reads, DriverStep, begin_driver, driver_on_done};
 ghost use Rattle.guest_driver.specs.Extent.{IsExtent, last_index_of};
 ghost use Rattle.guest_driver.specs.Refusals.{refusal_on};
 ghost use Rattle.cluster_script.specs.declared.statement.Statement.{Statement};
-ghost use Rattle.cluster_script.specs.NumberedRequests.{request_at};
-ghost use Rattle.cluster_script.specs.Statements.{is_check};
 ghost use Rattle.sheep_node.specs.declared.ask.Ask.{Ask};
 ghost use Rattle.sheep_node.specs.declared.check_write.CheckWrite.{CheckWrite};
 ghost use Rattle.sheep_node.specs.declared.event.Event.{Event};
@@ -35,17 +32,21 @@ ghost use Rattle.sheep_world.specs.Granted.{entry_adds};
 ghost use Rattle.sheep_world.specs.HistoryAdditions.{blocks_read, disk_of, reply_grown, write_ended};
 ghost use Rattle.sheep_world.specs.NodeCauses.{NodeCause};
 ghost use Rattle.sheep_world.specs.Step.{EventOutcome, step};
+ghost use Rattle.sheep_world.specs.Began.{Began};
 ghost use Rattle.sheep_world.specs.World.{World};
 ghost use Rattle.overlap_law.specs.Attempts.{AttemptRecord};
 ghost use Rattle.overlap_law.specs.DiskEvents.{ends_write_of};
-ghost use Rattle.overlap_law.specs.Headline.{ledger_of, IsLegalWhereAvailable};
+ghost use Rattle.overlap_law.specs.Headline.{ledger_of, IsLegalWhereAvailable, Headline};
 ghost use Rattle.overlap_law.specs.HistoryGrowth.{added_at_cause, added_by_reply};
 ghost use Rattle.overlap_law.specs.Holders.{is_available_disk};
-ghost use Rattle.overlap_law.specs.MomentChanges.{MomentTrail, RunsAreInRange, MomentChange};
-ghost use Rattle.overlap_law.specs.Past.{MomentWithPast, moment_after, run_with_past};
+ghost use Rattle.overlap_law.specs.MomentChanges.{MomentTrail, TrailLeft, RunsAreInRange, MomentChange};
+ghost use Rattle.overlap_law.specs.Pieces.{WhatIsReadMayBeRead};
+ghost use Rattle.overlap_law.specs.Past.{MomentWithPast, moment_after, next_moment, run_with_past};
 ghost use Rattle.overlap_law.specs.StandingReads.{asked_in, ReadsStand, AllReadsStand, IsToldAll, ReadsMayGoOn, ReadsMayGoOnIn};
 ghost use Rattle.overlap_law.specs.StandingReads.{ReadsAreKept, AllReadsAreKept, DisksWereThere, WorkingDisksAreOfHistory};
-ghost use Rattle.overlap_law.specs.StandingReads.{ReadPiecesAreToCome, OpenHolesAreToCome, EachEventTellsWhatMayBeRead};
+ghost use Rattle.overlap_law.specs.StandingReads.{OpenSnapshotsAreOfHistory};
+ghost use Rattle.overlap_law.specs.StandingReads.{ReadPiecesAreToCome, ReadHolesAreToCome, StripPiecesAreToCome};
+ghost use Rattle.overlap_law.specs.StandingReads.{EachChangeServesReads, EachEventTellsWhatMayBeRead};
 ghost use Rattle.overlap_law.specs.StayingBlocks.{IsHomeToCome, BlocksStayWritten};
 ghost use Rattle.overlap_law.specs.ToldReads.{WhatIsToldMayBeRead, AllElseMayFollow, MayBeReadAs, MayStayReadAs, extent_on, IsReadUpTo};
 ghost use Rattle.overlap_law.specs.ToldReads.{PieceMayBeRead, HolesMayBeRead, ReadStands, IsDiskOf, PieceIsToCome, HolesAreToCome};
@@ -64,20 +65,22 @@ pub fn replies_stay_legal()
 {}
 
 /// A read that isn't refused begins at the piece of an object, or with its reply, with all before it told as it may be read, if zeros may
-/// be read of the blocks of holes. And where it stands so, and the bytes that come of its piece may be read of the piece's blocks, it goes
+/// be read of its holes. And where it stands so, and the bytes that come of its piece may be read of the piece's blocks, it goes
 /// on to where it stands so again, or to a reply with all of it. All of this is said of what may be read whichever requests are refused
 /// that no message was served of.
 pub fn reads_go_on_with_what_may_be_read()
     ensures begins { (attempts : List AttemptRecord) (ledger : Ledger) (effects : List Effect) (good_id : ℕ → Bool) (disk : Disk)
         (offset size : ℕ) → IsExtent (extent_on disk.inode offset size)
-        → HolesMayBeRead (MayStayReadAs attempts) ledger effects good_id disk.inode → refusal_on disk false (Read offset size) ≡ None
+        → HolesMayBeRead (MayStayReadAs attempts) ledger effects good_id disk.inode (pieces disk.inode.spec.shift offset size)
+        → refusal_on disk false (Read offset size) ≡ None
         → ReadStands (MayStayReadAs attempts) ledger effects good_id disk.inode (extent_on disk.inode offset size)
         (begin_driver disk (Read offset size)).driver (begin_driver disk (Read offset size)).act }
     ensures goes_on { (attempts : List AttemptRecord) (ledger : Ledger) (effects : List Effect) (good_id : ℕ → Bool) (inode : Content)
         (offset size : ℕ) (told bytes : List ℕ) (piece : Piece) (rest : List Piece) (step : DriverStep)
-        → IsExtent (extent_on inode offset size) → HolesMayBeRead (MayStayReadAs attempts) ledger effects good_id inode
+        → IsExtent (extent_on inode offset size)
         → ReadStands (MayStayReadAs attempts) ledger effects good_id inode (extent_on inode offset size) (Reads told piece rest) step.act
         → PieceMayBeRead (MayStayReadAs attempts) ledger effects good_id inode piece bytes
+        → HolesMayBeRead (MayStayReadAs attempts) ledger effects good_id inode rest
         → driver_on_done inode bytes (Reads told piece rest) ≡ Some step
         → ReadStands (MayStayReadAs attempts) ledger effects good_id inode (extent_on inode offset size) step.driver step.act }
 {}
@@ -92,8 +95,9 @@ pub fn pieces_may_be_read()
         → PieceIsToCome ledger effects good_id hosts attempts inode home piece bytes
         → PieceMayBeRead (MayStayReadAs attempts) ledger effects good_id inode piece bytes }
     ensures holes { (ledger : Ledger) (effects : List Effect) (good_id : ℕ → Bool) (hosts : Hosts) (attempts : List AttemptRecord)
-        (inode : Content) → BlocksStayWritten ledger effects good_id hosts attempts → HolesAreToCome hosts attempts inode
-        → HolesMayBeRead (MayStayReadAs attempts) ledger effects good_id inode }
+        (inode : Content) (pieces : List Piece) → BlocksStayWritten ledger effects good_id hosts attempts
+        → HolesAreToCome effects good_id hosts attempts inode pieces
+        → HolesMayBeRead (MayStayReadAs attempts) ledger effects good_id inode pieces }
 {}
 
 /// A read that told all of its pieces as they may be read tells of each block that its reply adds to the history what may be read of it, if
@@ -144,19 +148,19 @@ pub fn what_requests_did_is_told_by_events()
         → has_place ((ledger_of history).requests req) disk block ≡ list_any (begins_write_at req disk block) history }
 {}
 
-/// In each run in range of a script without checks what an event adds to the history may come next there, reads aside: a write that begins
-/// is of a request that had begun none and hadn't ended, in blocks of 512 bytes; a write that a reply ends, or whose node is lost, had
-/// begun and hadn't ended; and one that is done began blocks alone that its disk had then.
+/// In each run in range what an event adds to the history may come next there, reads aside: a write that begins is of a block of 512 bytes
+/// of which its request had begun none, and that hadn't ended; one that a reply ends, or whose node is lost, had begun and hadn't ended;
+/// and one that is done began blocks alone that its disk had then.
 pub fn all_else_may_follow()
     ensures { (script : List Statement) (events : List Event) (event : Event) (before : MomentWithPast) (made : EventOutcome)
-        → RunsAreInRange script → ((req : ℕ) → option_map_or is_check (request_at script req) false ≡ false)
-        → run_with_past script events ≡ Some before → step script event before.world ≡ Some made
+        → RunsAreInRange script → run_with_past script events ≡ Some before → step script event before.world ≡ Some made
         → AllElseMayFollow (ledger_of before.past.history) made.grown }
 {}
 
 /// Each change of a node on the way of a step leaves its reads where they stand: what each was told of the objects before its piece may be
 /// read of their blocks, whichever requests are refused. And a reply to a read tells all of it so. It is so by whatever ledger, if zeros
-/// may be read so of the holes of the open disks, and what comes of a piece may be read so of the piece's blocks.
+/// may be read so of the holes that a read comes to as it begins, or as a piece of it comes, and what comes of the piece may be read so of
+/// the piece's blocks.
 pub fn reads_stand_in_each_change()
     ensures stand { (attempts : List AttemptRecord) (ledger : Ledger) (effects : List Effect) (good_id : ℕ → Bool)
         (asked : ℕ → Option Ask) (input : Input) (node : Node) (so_far next : StepState) → May input node → QueuesAreDiskRequests node
@@ -215,6 +219,13 @@ pub fn working_disks_are_of_the_history()
         → run_with_past script events ≡ Some moment → WorkingDisksAreOfHistory moment }
 {}
 
+/// In each run in range a snapshot that a session has open is one of the history, as large as its inode says, and there by the log, unless
+/// the history has it deleted. For it was published once, so the history got it, and no id that was published is freed.
+pub fn open_snapshots_are_of_the_history()
+    ensures { (script : List Statement) (events : List Event) (moment : MomentWithPast) → RunsAreInRange script
+        → run_with_past script events ≡ Some moment → OpenSnapshotsAreOfHistory moment }
+{}
+
 /// Of each run in range, each change of a moment on the way of an event keeps where the reads of the nodes that aren't lost stand by the
 /// history, whichever requests are refused: if they may go on where a step of a node does in it, and what it adds to the history keeps what
 /// they were told of the blocks before their pieces.
@@ -231,15 +242,73 @@ pub fn each_change_keeps_reads_standing()
 {}
 
 /// Of each run in range, in the middle of whatever step of an event: the reads of the node that steps may go on, whichever requests are
-/// refused, where what comes of their pieces is to come, and the holes of open disks are, if what a block may come to be read as may be
+/// refused, where what comes of their pieces is to come, and the holes that they come to are, if what a block may come to be read as may be
 /// read of it. For the disks that sessions have open are sound, and a step brings what the script has asked.
 pub fn reads_may_go_on_with_what_is_to_come()
     ensures { (script : List Statement) (events : List Event) (start before : MomentWithPast) → RunsAreInRange script
         → run_with_past script events ≡ Some start → MomentTrail script start before
         → (ledger : Ledger) (effects : List Effect) (good_id : ℕ → Bool)
-        → BlocksStayWritten ledger effects good_id before.world.hosts before.past.attempts → OpenHolesAreToCome before
+        → BlocksStayWritten ledger effects good_id before.world.hosts before.past.attempts
+        → ReadHolesAreToCome script start before effects good_id
         → ReadPiecesAreToCome script start before ledger effects good_id
         → ReadsMayGoOnIn script start before (MayStayReadAs before.past.attempts) ledger effects good_id }
+{}
+
+/// In each run in range, in the middle of whatever step of an event, of the disks that are available up to the event's end: the holes that
+/// a read comes to, as it begins or behind a piece that came, are holes that the disk's inode may come to have; for the read meets no write
+/// that enters its entry. And what comes of a piece is as long as it, and is what its blocks may come to have of what the inode may come to
+/// name, if it is so of strips. So reads may go on, if what a block may come to be read as may be read of it.
+pub fn what_reads_come_to_is_to_come()
+    ensures holes { (script : List Statement) (events : List Event) (event : Event) (start before end : MomentWithPast)
+        → RunsAreInRange script → run_with_past script events ≡ Some start → next_moment script event start ≡ Some end
+        → MomentTrail script start before → TrailLeft script start before end
+        → ReadHolesAreToCome script start before (log_effects before.world.log) (is_available_disk end.world.log end.past.unavailable) }
+    ensures pieces { (script : List Statement) (events : List Event) (event : Event) (start before end : MomentWithPast) (ledger : Ledger)
+        → RunsAreInRange script → run_with_past script events ≡ Some start → next_moment script event start ≡ Some end
+        → MomentTrail script start before → TrailLeft script start before end
+        → StripPiecesAreToCome script start before ledger (log_effects before.world.log)
+        (is_available_disk end.world.log end.past.unavailable)
+        → ReadPiecesAreToCome script start before ledger (log_effects before.world.log)
+        (is_available_disk end.world.log end.past.unavailable) }
+    ensures go_on { (script : List Statement) (events : List Event) (event : Event) (start before end : MomentWithPast) (ledger : Ledger)
+        → RunsAreInRange script → run_with_past script events ≡ Some start → next_moment script event start ≡ Some end
+        → MomentTrail script start before → TrailLeft script start before end
+        → BlocksStayWritten ledger (log_effects before.world.log) (is_available_disk end.world.log end.past.unavailable)
+        before.world.hosts before.past.attempts
+        → StripPiecesAreToCome script start before ledger (log_effects before.world.log)
+        (is_available_disk end.world.log end.past.unavailable)
+        → ReadsMayGoOnIn script start before (MayStayReadAs before.past.attempts) ledger (log_effects before.world.log)
+        (is_available_disk end.world.log end.past.unavailable) }
+{}
+
+/// In each run in range the reads of nodes that aren't lost stand by the history, of disks that were available up to there, whichever
+/// requests are refused: at the end of every event, and at each moment on its way, of the disks that are available up to its end. So it is
+/// if on the way of each event what blocks may come to be read as may be read of them, what comes of a read of strips is to come, and what
+/// is added to the history keeps what reads were told.
+pub fn reads_stand_in_runs()
+    ensures in_run { (script : List Statement) (events : List Event) (moment : MomentWithPast) → RunsAreInRange script
+        → EachChangeServesReads script → run_with_past script events ≡ Some moment
+        → AllReadsStand script (MayStayReadAs moment.past.attempts) (ledger_of moment.past.history) (log_effects moment.world.log)
+        (is_available_disk moment.world.log moment.past.unavailable) moment.world.hosts }
+    ensures on_the_way { (script : List Statement) (events : List Event) (event : Event) (start moment end : MomentWithPast)
+        → RunsAreInRange script → EachChangeServesReads script → run_with_past script events ≡ Some start
+        → next_moment script event start ≡ Some end → MomentTrail script start moment → TrailLeft script start moment end
+        → AllReadsStand script (MayStayReadAs moment.past.attempts) (ledger_of moment.past.history) (log_effects moment.world.log)
+        (is_available_disk end.world.log end.past.unavailable) moment.world.hosts }
+{}
+
+/// Where the reads of nodes stand by a ledger, in a world of a run in range, what each was told so far is as long as the pieces before its
+/// own, and may be read of their blocks, unless one is torn. So it is in every run, by the history and of disks that were available, if on
+/// the way of each event reads have what they need.
+pub fn what_was_read_so_far_may_be_read()
+    ensures where_they_stand { (script : List Statement) (world : World) (attempts : List AttemptRecord) (ledger : Ledger)
+        (effects : List Effect) (good_id : ℕ → Bool) → RunsAreInRange script → Began script world
+        → AllReadsStand script (MayStayReadAs attempts) ledger effects good_id world.hosts
+        → WhatIsReadMayBeRead ledger effects good_id world.hosts }
+    ensures in_run { (script : List Statement) (events : List Event) (moment : MomentWithPast) → RunsAreInRange script
+        → EachChangeServesReads script → run_with_past script events ≡ Some moment
+        → WhatIsReadMayBeRead (ledger_of moment.past.history) (log_effects moment.world.log)
+        (is_available_disk moment.world.log moment.past.unavailable) moment.world.hosts }
 {}
 
 /// What the beginning of a step adds to the history keeps what was read of a block, whatever it is, and so does what a reply adds, if the
@@ -253,11 +322,11 @@ pub fn what_a_step_adds_keeps_reads()
         → AllKeepReadsOf attempts ledger vid block (added_by_reply script world cause reply) }
 {}
 
-/// The replies of each run in range of a script without checks are one legal history, the reads of disks that weren't available left out,
-/// if each event tells reads of disks that were available up to there what may be read.
+/// The replies of each run in range are one legal history, the reads of disks that weren't available left out, if each event tells reads of
+/// disks that were available up to there what may be read. So the headline holds then: all else of it holds in every run in range.
 pub fn what_reads_are_told_decides()
-    ensures { (script : List Statement) → RunsAreInRange script
-        → ((req : ℕ) → option_map_or is_check (request_at script req) false ≡ false) → EachEventTellsWhatMayBeRead script
+    ensures legal { (script : List Statement) → RunsAreInRange script → EachEventTellsWhatMayBeRead script
         → (events : List Event) (moment : MomentWithPast) → run_with_past script events ≡ Some moment
         → IsLegalWhereAvailable moment.past }
+    ensures headline { (script : List Statement) → RunsAreInRange script → EachEventTellsWhatMayBeRead script → Headline script }
 {}

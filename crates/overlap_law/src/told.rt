@@ -1,20 +1,25 @@
 //! Laws of what open reads are told of good objects: it has what is owed, so it is what an object may come to have.
-ghost use Rattle.std.specs.Prelude.{◌≡◌, ℕ, ◌+◌, ◌-◌, ◌<◌, ◌≤◌, Bool, true, false, List, length, slice_get, Some};
+ghost use Rattle.std.specs.Prelude.{◌≡◌, ℕ, ◌+◌, ◌*◌, ◌-◌, ◌%◌, ◌<◌, ◌≤◌, Bool, true, false, All, List, length, map, slice_get, Some};
 ghost use Rattle.std.specs.FinMap as tree;
 ghost use Rattle.disk_history.specs.Ledger.{Ledger};
 ghost use Rattle.cluster_script.specs.declared.statement.Statement.{Statement};
 ghost use Rattle.gateway.specs.Attempt as gateways;
+ghost use Rattle.gateway.specs.Attempt.{bytes_through};
 ghost use Rattle.gateway.specs.declared.message.Message.{Message};
 ghost use Rattle.gateway.specs.declared.message.Status.{Status};
 ghost use Rattle.gateway.specs.State.{Work};
 ghost use Rattle.gf256.specs.Part.{is_in_strips};
+ghost use Rattle.gf256.specs.Polynomial.{ArePoints};
+ghost use Rattle.gf256.specs.Strip.{IsBlock};
 ghost use Rattle.guest_driver.specs.Pieces.{Piece as PieceOfRequest, AreBlocks};
 ghost use Rattle.guest_driver.specs.PieceWorks.{read_piece};
 ghost use Rattle.inode.specs.Layout.{Content};
 ghost use Rattle.message_wire.specs.Message.{message_name};
 ghost use Rattle.object_id.specs.declared.node.NodeId.{NodeId};
-ghost use Rattle.object_id.specs.declared.limits.TheConstants.{OBJECTS_MAX};
+ghost use Rattle.object_id.specs.declared.limits.TheConstants.{BLOCK_BYTES, OBJECTS_MAX};
 ghost use Rattle.object_id.specs.declared.oid.Kind.TheVariants.{Block};
+ghost use Rattle.object_id.specs.declared.policy.Policy.TheVariants.{Coded};
+ghost use Rattle.object_id.specs.Policy.{IsPolicy};
 ghost use Rattle.object_id.specs.Oid.{IsVid, kind_of, object_number};
 ghost use Rattle.object_store.specs.Bytes.{piece_at};
 ghost use Rattle.peer_proto.specs.declared.say.PeerRsp.{PeerRsp};
@@ -39,7 +44,7 @@ ghost use Rattle.overlap_law.specs.Packets.{IsAnswering};
 ghost use Rattle.overlap_law.specs.Past.{MomentWithPast, next_moment, run_with_past};
 ghost use Rattle.overlap_law.specs.Since.{RowsAreSince, AddNothingAfter};
 ghost use Rattle.overlap_law.specs.StepMoments.{SteppingNode, IsStepping, StepsByChanges, LeadsInStep, first_in_step, moment_in_step};
-ghost use Rattle.overlap_law.specs.ToldPieces.{IsUnansweredOf, offset_read, ToldPiecesAreSince, IsPartInside, part_in_piece};
+ghost use Rattle.overlap_law.specs.ToldPieces.{IsUnansweredOf, offset_read, ToldPiecesAreSince, IsPartInside, part_in_piece, GaveStrip};
 ghost use Rattle.overlap_law.specs.ToldReads.{PieceIsToCome};
 ghost use Rattle.overlap_law.specs.Units.{unit_start, unit_size, unit_end, covers_unit, unit_part_by};
 ghost use Rattle.overlap_law.specs.Words.{is_made};
@@ -146,4 +151,13 @@ pub fn what_is_read_of_copies_is_to_come()
         → IsCreated (moment_in_step script stepping start so_far).past.attempts (object_number home piece.index) epoch
         → PieceIsToCome ledger effects good_id (moment_in_step script stepping start so_far).world.hosts
         (moment_in_step script stepping start so_far).past.attempts inode home piece bytes }
+{}
+
+/// What a read of strips gives at a block is the block, if each of as many messages as the read needs, under indexes that are all
+/// different, gave the strip of it at its index.
+pub fn blocks_are_read_through_their_strips()
+    ensures { (d p offset unit : ℕ) (block : List ℕ) (messages : List Message) → IsPolicy (Coded d p) → offset % BLOCK_BYTES ≡ 0
+        → offset ≤ BLOCK_BYTES * unit → IsBlock block → length messages ≡ d
+        → ArePoints (map (λ (message : Message). message.index) messages) → All (GaveStrip d offset unit block) messages
+        → piece_at (bytes_through (Coded d p) Block messages) (BLOCK_BYTES * unit - offset) BLOCK_BYTES ≡ block }
 {}

@@ -11,4 +11,4 @@ returns-clause-own c = λ script events start before after range is trail change
 
 pub returns-clause-like : goal.returns-clause-like
 returns-clause-like c = λ script events start before after range is trail change good_id drafts entry longer vid r stands clone base parent.
-    made_like script range events start before after is trail change good_id drafts entry longer vid r stands clone base parent
+    made_like script range events start before after is trail change good_id drafts entry longer vid r stands base parent clone

@@ -5,5 +5,6 @@ pub returns : goal.returns
 returns c = record {
   pieces = λ ledger effects good_id hosts attempts inode home piece bytes written to_come some has.
       piece_read ledger effects good_id hosts attempts written inode home piece bytes to_come some has;
-  holes = λ ledger effects good_id hosts attempts inode written holes. holes_read ledger effects good_id hosts attempts written inode holes;
+  holes = λ ledger effects good_id hosts attempts inode pieces written holes.
+      holes_read ledger effects good_id hosts attempts written inode pieces holes;
 }

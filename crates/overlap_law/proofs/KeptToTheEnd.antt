@@ -1,0 +1,61 @@
+-- What each change on the way of an event keeps, by what is good at the moment at which the event ends, holds in every run, and by that
+-- test at each moment on the way of an event.
+use Rattle.std.proofs.Common.{◌≡◌, ℕ, Bool, List, Some}
+use Rattle.cluster_script.specs.declared.statement.Statement.{Statement}
+use Rattle.sheep_node.specs.declared.event.Event.{Event}
+use Rattle.overlap_law.specs.Holders.{is_available_disk}
+use Rattle.overlap_law.specs.MomentChanges.{MomentTrail, TrailLeft, IsOnTheWay, Still, Then, AtEnd, Next}
+use Rattle.overlap_law.specs.Overlap.{CallsFewer}
+use Rattle.overlap_law.specs.Past.{MomentWithPast, first_moment, next_moment, run_with_past}
+use Rattle.overlap_law.proofs.EndTests.{was_good_id}
+use Rattle.overlap_law.proofs.KeptInRuns.{kept_at_events}
+use Rattle.overlap_law.proofs.MomentTrails.{event_trail}
+
+-- where an event begins, what is so by its own test is so by that of the event's end
+abbrev pub BeginsToTheEnd : List Statement → (MomentWithPast → MomentWithPast → Type 0) → Type 0
+BeginsToTheEnd script P = (events : List Event) (event : Event) (start end : MomentWithPast) → run_with_past script events ≡ Some start
+    → next_moment script event start ≡ Some end → P start start → P end start
+
+-- P end moment: it is so of a moment, by the test of the end
+pub record IsKeptToTheEnd (script : List Statement) (P : MomentWithPast → MomentWithPast → Type 0) : Type 0 where
+  pub opens : P (first_moment script) (first_moment script)
+  pub begins : BeginsToTheEnd script P
+  pub keeps : (events : List Event) (event : Event) (start end before after : MomentWithPast)
+      → IsOnTheWay script events event start end before after → P end before → P end after
+
+module _ (script : List Statement) (P : MomentWithPast → MomentWithPast → Type 0) (kept : IsKeptToTheEnd script P) where
+  along : (events : List Event) (event : Event) (start end : MomentWithPast) → run_with_past script events ≡ Some start
+      → next_moment script event start ≡ Some end → {moment : MomentWithPast} → MomentTrail script start moment
+      → TrailLeft script start moment end → P start start → P end moment
+  along events event start end run happens Still left holds = kept.begins events event start end run happens holds
+  along events event start end run happens (Then {moment} {next} trail change) left holds =
+      kept.keeps events event start end moment next
+      (record { run = run; happens = happens; behind = trail; change = change; left = left })
+      (along events event start end run happens trail (Next change left) holds)
+
+  pub to_the_end-in_run : (events : List Event) (moment : MomentWithPast) → run_with_past script events ≡ Some moment → P moment moment
+  to_the_end-in_run =
+      kept_at_events script (λ (moment : MomentWithPast). P moment moment) kept.opens
+      (λ events event start end run then happens holds.
+      along events event start end run happens (event_trail script event start end happens) AtEnd holds)
+
+  pub to_the_end-on_the_way : (events : List Event) (event : Event) (start end : MomentWithPast) → run_with_past script events ≡ Some start
+      → next_moment script event start ≡ Some end → {moment : MomentWithPast} → MomentTrail script start moment
+      → TrailLeft script start moment end → P end moment
+  to_the_end-on_the_way events event start end run happens trail left =
+      along events event start end run happens trail left (to_the_end-in_run events start run)
+
+-- ---- by the test for good ids
+
+abbrev pub good_id_at : MomentWithPast → ℕ → Bool
+good_id_at moment = is_available_disk moment.world.log moment.past.unavailable
+
+abbrev pub OfGoodIds : ((ℕ → Bool) → MomentWithPast → Type 0) → MomentWithPast → MomentWithPast → Type 0
+OfGoodIds P end moment = P (good_id_at end) moment
+
+-- what is so of more ids is so of fewer, so it is so of those that are good at the end
+pub begins_with_fewer : (script : List Statement) (P : (ℕ → Bool) → MomentWithPast → Type 0)
+    → ((few many : ℕ → Bool) (moment : MomentWithPast) → CallsFewer few many → P many moment → P few moment)
+    → BeginsToTheEnd script (OfGoodIds P)
+begins_with_fewer script P fewer events event start end run happens holds =
+    fewer (good_id_at end) (good_id_at start) start (was_good_id script event start end happens) holds

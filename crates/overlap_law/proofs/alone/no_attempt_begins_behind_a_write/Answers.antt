@@ -1,0 +1,24 @@
+use Rattle.std.proofs.Common.{◌≡◌, ⊎_elim, arith, ◌<◌, List, length, Some, slice_get, ap, ◌∙◌}
+use Rattle.std.proofs.lemmas.Option.{slice_get_within}
+use Rattle.overlap_law.specs.Attempts.{AttemptRecord}
+use Rattle.overlap_law.proofs.AttemptLists.{got_last}
+use Rattle.overlap_law.proofs.NewAttempts.{WasAttempt, IsOpened, come_from}
+use Rattle.overlap_law.proofs.NoRecoveredDue.{began-with_past}
+use Rattle.overlap_law.proofs.NoneBehind.{none_begins}
+use Rattle.overlap_law.proofs.alone.no_attempt_begins_behind_a_write.Goals as goal
+
+pub returns : goal.returns
+returns c = λ script events start before after range ran trail change attempt grows n host at_host up req request opened payload stage piece
+    one rest front offset there at course cut behind object.
+    let got : slice_get after.past.attempts (length before.past.attempts) ≡ Some attempt
+    = ap (λ (all : List AttemptRecord). slice_get all (length before.past.attempts)) grows ∙ got_last before.past.attempts attempt in
+    ⊎_elim
+    (λ (w : WasAttempt before (length before.past.attempts) attempt).
+    let within : length before.past.attempts < length before.past.attempts
+    = slice_get_within before.past.attempts (length before.past.attempts) w.was w.at in
+    absurd (omega (arith, within)))
+    (λ (o : IsOpened script start after attempt).
+    none_begins script range events start before after ran trail change n host at_host up req request there opened at payload stage piece
+    rest
+    course offset front cut one behind attempt o object)
+    (come_from script range start (began-with_past script events start ran) change (length before.past.attempts) attempt got)

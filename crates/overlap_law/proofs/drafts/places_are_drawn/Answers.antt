@@ -1,0 +1,5 @@
+use Rattle.overlap_law.proofs.PlacesInRuns.{places_drawn-in_run}
+use Rattle.overlap_law.proofs.drafts.places_are_drawn.Goals as goal
+
+pub returns : goal.returns
+returns c = λ script events moment range is. places_drawn-in_run script range events moment is
