@@ -103,7 +103,7 @@ below_range first (suc count) k among = ⊎_elim
 pub below_count : (count k : ℕ) → Contains (range_with_len 0 count) k → k < count
 below_count count k among = let below = below_range 0 count k among in omega (arith, below)
 
-and_none : (a b c : Bool) → c ≡ false → (a && (b && c)) ≡ false
+pub and_none : (a b c : Bool) → c ≡ false → (a && (b && c)) ≡ false
 and_none true true c none = none
 and_none true false c none = refl
 and_none false b c none = refl

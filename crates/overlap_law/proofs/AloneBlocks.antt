@@ -74,13 +74,13 @@ module _ (shift offset index unit place : ℕ) (payload : List ℕ) (long : 9 �
   some_wide : 0 < 2 ^ shift
   some_wide = pow_pos shift
 
-  first : first_index shift offset ≤ index
+  pub first : first_index shift offset ≤ index
   first =
       let behind = below in
       let less : offset / 2 ^ shift < index + 1 = div_below offset (2 ^ shift) (index + 1) some_wide (omega (arith, behind)) in
       omega (arith, less)
 
-  last : index ≤ last_index shift offset (length payload)
+  pub last : index ≤ last_index shift offset (length payload)
   last =
       let begins = above in
       let ends = before in

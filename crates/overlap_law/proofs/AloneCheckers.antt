@@ -78,7 +78,7 @@ module _ (script : List Statement) (range : RunsAreInRange script) (events : Lis
       sym (well.alone.alone request.session req q other (well.alone.named req request there off) there_too own)
 
   -- whose lock the session has, since no command of it is there
-  locked : HasLock moment.world.log host.node.outbox host.node.me request.session (epoch_of host.node.peer.entries) opened.inode.vid
+  pub locked : HasLock moment.world.log host.node.outbox host.node.me request.session (epoch_of host.node.peer.entries) opened.inode.vid
   locked = ⊎_elim
       (λ (lock : HasLock moment.world.log host.node.outbox host.node.me request.session (epoch_of host.node.peer.entries) opened.inode.vid).
       lock)
@@ -136,8 +136,9 @@ module _ (script : List Statement) (range : RunsAreInRange script) (events : Lis
   well_then : HasWellWorks host.node
   well_then = well_along script range start (began-with_past script events start is) (Then trail change) n host at_host
 
-  pub check_begins_it : new.req ≡ req
-  check_begins_it =
+  -- at the check's node, for the check
+  pub check_begins_there : (host_with_node o.stepping.host o.next.node ≡ host) × (req ≡ o.req)
+  check_begins_there =
       let writes = (only_writer-in_run script range events start after is (Then trail change)).each o.stepping.n its its_there
       (not_lost o.stepping.host o.is.up) o.req work o.at_gateway o.making in
       let of_work : oid_of o.asked.work ≡ object_number opened.inode.vid index
@@ -157,4 +158,7 @@ module _ (script : List Statement) (range : RunsAreInRange script) (events : Lis
       let same : req ≡ o.req
       = check_alone script range events start after is (Then trail change) n host at_host up req request there opened at check course o.req
       writes.request (ap (λ (h : Host). tree.get h.node.requests o.req) (sym host_so) ∙ writes.there) (ap (λ (h : Holder). h.session) writer) in
-      ap (λ (a : AttemptRecord). a.req) (sym o.opened) ∙ sym same
+      (host_so, same)
+
+  pub check_begins_it : new.req ≡ req
+  check_begins_it = ap (λ (a : AttemptRecord). a.req) (sym o.opened) ∙ sym check_begins_there.1

@@ -1,6 +1,6 @@
 -- What an event begins to write for a check that is there is on the disk that its session has open: what comes to the check as it compares
 -- an object of that disk.
-use Rattle.std.proofs.Common.{◌≡◌, ℕ, ◌==◌, Bool, true, false, cond, List, [], ◌∷◌, ◌++◌, filter, length, Option, Some, None, option_map}
+use Rattle.std.proofs.Common.{◌≡◌, ℕ, Bool, true, false, cond, List, [], ◌∷◌, ◌++◌, filter, length, Option, Some, None, option_map}
 use Rattle.std.proofs.Common.{refl, sym, ap, subst, ◌∙◌}
 use Rattle.std.specs.Prelude.{◌/◌, flat_map}
 use Rattle.std.specs.List.{list_any, range_with_len}
@@ -15,7 +15,8 @@ use Rattle.cluster_script.specs.Sessions.{ScriptSession, session_numbered}
 use Rattle.cluster_script.specs.Statements.{is_check}
 use Rattle.disk_check.specs.Check.{Check, CheckStage, Comparing, WritingBack, Answered, value_at_stage}
 use Rattle.disk_history.specs.declared.event.HistEvent.{HistEvent}
-use Rattle.disk_history.specs.declared.event.HistEvent.TheVariants.{Create, Copy, Delete, WriteStart, WriteDone, WriteRefused, WriterLost, Read}
+use Rattle.disk_history.specs.declared.event.HistEvent.TheVariants.{Create, Copy, Delete, WriteStart, WriteDone, WriteRefused, WriterLost}
+use Rattle.disk_history.specs.declared.event.HistEvent.TheVariants.{Read}
 use Rattle.guest_driver.specs.declared.disk.Disk.{Disk}
 use Rattle.peer_proto.specs.declared.say.PeerRsp.{PeerRsp}
 use Rattle.sheep_node.specs.declared.check_write.CheckWrite.{CheckWrite}
@@ -29,7 +30,8 @@ use Rattle.sheep_world.specs.Began.{Began}
 use Rattle.sheep_world.specs.Effects.{request_started}
 use Rattle.sheep_world.specs.EventKinds.{EventKind, NodeStep, UntoldLoss, UnreadDelivery, NodeLoss, NodeLeave, NodeReweight, NodeJoin}
 use Rattle.sheep_world.specs.EventKinds.{NodeReturn, PhaseEnd}
-use Rattle.sheep_world.specs.HistoryAdditions.{block_checked, check_write_adds, check_write_by, check_write_grown, is_lost_write, is_on_disk}
+use Rattle.sheep_world.specs.HistoryAdditions.{block_checked, check_write_adds, check_write_by, check_write_grown, is_lost_write}
+use Rattle.sheep_world.specs.HistoryAdditions.{is_on_disk}
 use Rattle.sheep_world.specs.HistoryAdditions.{replies_grown, request_grown, writers_lost}
 use Rattle.sheep_world.specs.NodeCauses.{NodeCause, GuestAsks, RequestComes, ReplyComes, LossIsTold, EntryIsRead, EntryIsPut, RecoveryTicks}
 use Rattle.sheep_world.specs.NodeCauses.{WorkIsRetried, IsCause, history_of_cause, world_after_cause}
@@ -38,7 +40,7 @@ use Rattle.sheep_world.specs.World.{Host, World, node_at}
 use Rattle.overlap_law.specs.MomentChanges.{RunsAreInRange}
 use Rattle.overlap_law.proofs.AloneCopies.{asks_begin_none}
 use Rattle.overlap_law.proofs.AloneItems.{AreFine, IsFine, copies_disk}
-use Rattle.overlap_law.proofs.ComingWrites.{IsComing, coming}
+use Rattle.overlap_law.proofs.ComingWrites.{coming}
 use Rattle.overlap_law.proofs.CoursesOfAsks.{IsPlacedIn}
 use Rattle.overlap_law.proofs.CoursesOfScript.{asked_by, BeganOn, requests_placed}
 use Rattle.overlap_law.proofs.ItemsAtBegin as begins
@@ -91,7 +93,7 @@ module _ (req vid : ℕ) where
 
   one_fine : (event : HistEvent) → copies_disk vid event ≡ false → BeginsOn event → IsFine req IsThatDisk event
   one_fine (Create disk blocks) copies on = tt
-  one_fine (Copy old new) copies on = λ block bytes is. let same = eq-eqb old vid is in cc (copies, same)
+  one_fine (Copy old new) copies on = λ block bytes is. let same = eq-eqb old vid is in absurd (cc (copies, same))
   one_fine (Delete disk) copies on = tt
   one_fine (WriteStart other disk block coded bytes) copies on = on
   one_fine (WriteDone other) copies on = tt
@@ -133,17 +135,23 @@ module _ (script : List Statement) (range : RunsAreInRange script) (world : Worl
 
   module _ (m : ℕ) (second : Host) (found : tree.get world.hosts m ≡ Some second) where
     -- a request is at one node alone
-    same_host : (session : ℕ) (other : Request) → tree.get second.node.requests req ≡ Some other → other.session ≡ session
-        → (host ≡ second) × (request.session ≡ session)
-    same_host session other there_too own =
+    pub same_node : (other : Request) → tree.get second.node.requests req ≡ Some other → (n ≡ m) × (request.session ≡ other.session)
+    same_node other there_too =
         let here = are_asked script world began n host there req request got in
         let its = are_asked script world began m second found req other there_too in
         let number : request.session ≡ other.session = same_Some request.session other.session (sym here.asking ∙ its.asking) in
         let of : here.of ≡ its.of
-        = same_Some here.of its.of (sym here.declared ∙ ap (session_numbered script) number ∙ its.declared) in
-        let nodes : n ≡ m = sym here.of_node ∙ ap (λ (s : ScriptSession). s.node) of ∙ its.of_node in (
-          same_Some host second (sym there ∙ ap (tree.get world.hosts) nodes ∙ found),
-          number ∙ own,
+        = same_Some here.of its.of (sym here.declared ∙ ap (session_numbered script) number ∙ its.declared) in (
+          sym here.of_node ∙ ap (λ (s : ScriptSession). s.node) of ∙ its.of_node,
+          number,
+        )
+
+    same_host : (session : ℕ) (other : Request) → tree.get second.node.requests req ≡ Some other → other.session ≡ session
+        → (host ≡ second) × (request.session ≡ session)
+    same_host session other there_too own =
+        let same = same_node other there_too in (
+          same_Some host second (sym there ∙ ap (tree.get world.hosts) same.0 ∙ found),
+          same.1 ∙ own,
         )
 
     come_on : (rsp : PeerRsp) (write : CheckWrite) → check_write_on (inputs.Reply rsp) second.node ≡ Some write → write.req ≡ req

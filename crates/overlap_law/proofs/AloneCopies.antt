@@ -1,37 +1,32 @@
 -- What an event adds to the history copies no disk, but one that is given no more behind it; and it begins no write of a request that is
 -- there, but of a check.
-use Rattle.std.proofs.Common.{◌≡◌, ◌⊎◌, inl, inr, ℕ, ◌+◌, ◌==◌, Bool, true, false, ◌||◌, cond, List, [], ◌∷◌, ◌++◌, map, filter, fold, length}
+use Rattle.std.proofs.Common.{◌≡◌, ◌⊎◌, inl, inr, ℕ, ◌+◌, ◌==◌, Bool, true, false, ◌||◌, cond, List, [], ◌∷◌, ◌++◌, map, filter, fold}
 use Rattle.std.proofs.Common.{Option, Some, None, option_map, refl, sym, ap, subst, ◌∙◌}
-use Rattle.std.specs.Prelude.{◌/◌, flat_map}
-use Rattle.std.specs.List.{list_any, range_with_len}
+use Rattle.std.specs.Prelude.{flat_map}
+use Rattle.std.specs.List.{list_any}
 use Rattle.std.specs.Option.{option_map_or, option_and_then}
 use Rattle.std.specs.FinMap as tree
 use Rattle.std.proofs.lemmas.Bool.{eq-eqb, eqb-true, or_left}
 use Rattle.std.proofs.lemmas.Option.{same_Some}
 use Rattle.object_id.specs.declared.entry.Entry.{Entry}
 use Rattle.object_id.specs.declared.entry.Entry.TheVariants as entries
-use Rattle.object_id.specs.declared.limits.TheConstants.{BLOCK_BYTES}
-use Rattle.object_id.specs.declared.oid.Kind.TheVariants.{Block}
 use Rattle.object_id.specs.declared.oid.Vid.{Vid}
-use Rattle.gf256.specs.Part.{is_in_strips}
 use Rattle.disk_history.specs.declared.event.HistEvent.{HistEvent}
-use Rattle.disk_history.specs.declared.event.HistEvent.TheVariants.{Copy, Read, WriteStart, WriterLost}
+use Rattle.disk_history.specs.declared.event.HistEvent.TheVariants.{Copy, WriterLost}
 use Rattle.vdi_directory.specs.declared.decision.Decision.{Decision}
 use Rattle.vdi_directory.specs.declared.decision.Decision.TheVariants as decisions
 use Rattle.vdi_directory.specs.declared.header.Header.{Header}
 use Rattle.vdi_directory.specs.Chains.{is_above}
 use Rattle.vdi_directory.specs.Decisions.{decision_after, log_effects}
-use Rattle.vdi_directory.specs.References.{parent_of}
 use Rattle.vdi_directory.proofs.ChainLemmas.{is_parent_or_above}
 use Rattle.vdi_directory.proofs.LineLemmas.{above-line, line-log_effects}
 use Rattle.cluster_script.specs.declared.statement.Statement.{Statement}
 use Rattle.cluster_script.specs.declared.statement.Statement.TheVariants as lines
-use Rattle.cluster_script.specs.NumberedRequests.{numbered_requests, payload_of, request_at, session_of}
+use Rattle.cluster_script.specs.NumberedRequests.{numbered_requests, request_at, session_of}
 use Rattle.cluster_script.specs.Sessions.{ScriptSession, session_numbered}
 use Rattle.cluster_script.specs.Statements.{is_check}
 use Rattle.guest_driver.specs.declared.disk.Disk.{Disk}
 use Rattle.peer_proto.specs.declared.guest.GuestRsp.{GuestRsp}
-use Rattle.peer_proto.specs.declared.guest.GuestRsp.TheVariants as answers
 use Rattle.sheep_node.specs.declared.ask.Ask.{Ask}
 use Rattle.sheep_node.specs.declared.check_write.CheckWrite.{CheckWrite}
 use Rattle.sheep_node.specs.declared.course.Request.{Request}
@@ -43,9 +38,9 @@ use Rattle.sheep_world.specs.Effects.{open_disk_at, request_started}
 use Rattle.sheep_world.specs.EventKinds.{EventKind, NodeStep, UntoldLoss, UnreadDelivery, NodeLoss, NodeLeave, NodeReweight, NodeJoin}
 use Rattle.sheep_world.specs.EventKinds.{NodeReturn, PhaseEnd}
 use Rattle.sheep_world.specs.Granted.{granted_header, disk_cloned, disk_made, granted_adds, decided_adds, entry_adds}
-use Rattle.sheep_world.specs.HistoryAdditions.{added_by, begins_on, block_checked, block_in, blocks_read, check_write_adds, check_write_by}
-use Rattle.sheep_world.specs.HistoryAdditions.{check_write_grown, disk_of, has_begun_check_write, is_lost_write, is_on_disk, is_write}
-use Rattle.sheep_world.specs.HistoryAdditions.{replies_grown, reply_adds, reply_grown, request_grown, write_ended}
+use Rattle.sheep_world.specs.HistoryAdditions.{begins_on, check_write_by}
+use Rattle.sheep_world.specs.HistoryAdditions.{check_write_grown, is_lost_write, is_write}
+use Rattle.sheep_world.specs.HistoryAdditions.{replies_grown, reply_grown, request_grown}
 use Rattle.sheep_world.specs.NodeCauses.{NodeCause, GuestAsks, RequestComes, ReplyComes, LossIsTold, EntryIsRead, EntryIsPut, RecoveryTicks}
 use Rattle.sheep_world.specs.NodeCauses.{WorkIsRetried, IsCause, history_of_cause, log_after_cause, world_after_cause}
 use Rattle.sheep_world.specs.Step.{EventOutcome}
@@ -53,9 +48,10 @@ use Rattle.sheep_world.proofs.BegunRequestLaws.{new-begun, were_begun}
 use Rattle.overlap_law.specs.MomentChanges.{RunsAreInRange}
 use Rattle.overlap_law.specs.WriterClaims.{IsGivenNoMore}
 use Rattle.overlap_law.proofs.AloneItems.{copies_disk}
+use Rattle.overlap_law.proofs.ClosedAdditions.{none_of, replies_add, end_so, asks_add, checks_add}
 use Rattle.overlap_law.proofs.ClosedSnapshots.{snapped_no_more}
 use Rattle.overlap_law.proofs.CopiesMade.{IsCopyMade, copy_made}
-use Rattle.overlap_law.proofs.DiskEventsOfHolders.{HasNone, append_none, flat_none, map_none}
+use Rattle.overlap_law.proofs.DiskEventsOfHolders.{HasNone, append_none, map_none}
 use Rattle.overlap_law.proofs.DiskShapes.{shapes_after}
 use Rattle.overlap_law.proofs.DisksPublished.{entry_out}
 use Rattle.overlap_law.proofs.DraftsOfLogs.{parent_stays, used_reserved}
@@ -140,7 +136,8 @@ module _ (log : List Entry) (vid : ℕ) where
     published_then =
         entry_out log shown are entry new false
         (ap (λ (added : List HistEvent). fold shapes_after shown added new) copies
-        ∙ (λ i. cond (eq-eqb new new refl i) (option_map (λ (b : Bool). false) (cond (eq-eqb vid vid refl i) (Some false) None)) (shown new)))
+        ∙ (λ i. cond (eq-eqb new new refl i) (option_map (λ (b : Bool). false) (cond (eq-eqb vid vid refl i) (Some false) None))
+        (shown new)))
 
     copied_gone : IsGivenNoMore (log ++ entry ∷ []) vid
     copied_gone =
@@ -151,7 +148,8 @@ module _ (log : List Entry) (vid : ℕ) where
       → HasNone (copies_disk vid) (entry_adds log entry) ⊎ IsGivenNoMore (log ++ entry ∷ []) vid
   entry_gone published entry = by_kind (entry_copies entry)
     where
-      by_kind : CopiesOrNot (entry_adds log entry) → HasNone (copies_disk vid) (entry_adds log entry) ⊎ IsGivenNoMore (log ++ entry ∷ []) vid
+      by_kind : CopiesOrNot (entry_adds log entry)
+          → HasNone (copies_disk vid) (entry_adds log entry) ⊎ IsGivenNoMore (log ++ entry ∷ []) vid
       by_kind (inl none) = inl none
       by_kind (inr (new, copies)) = inr (copied_gone published entry new copies)
 
@@ -161,67 +159,25 @@ module _ (script : List Statement) (vid : ℕ) where
   abbrev test : HistEvent → Bool
   test = copies_disk vid
 
-  ended_none : (req : ℕ) (rsp : GuestRsp) → HasNone test (write_ended req rsp ∷ [])
-  ended_none req answers.Done = refl
-  ended_none req (answers.Piece bytes) = refl
-  ended_none req (answers.Refused cause) = refl
-  ended_none req (answers.Granted id) = refl
-  ended_none req (answers.Checked found) = refl
-
-  read_none : (disk offset : ℕ) (rsp : GuestRsp) → HasNone test (blocks_read disk offset rsp)
-  read_none disk offset answers.Done = refl
-  read_none disk offset (answers.Piece bytes) =
-      map_none test (λ (place : ℕ). Read disk (offset / BLOCK_BYTES + place) (block_in bytes place)) (λ place. refl)
-      (range_with_len 0 (length bytes / BLOCK_BYTES))
-  read_none disk offset (answers.Refused cause) = refl
-  read_none disk offset (answers.Granted id) = refl
-  read_none disk offset (answers.Checked found) = refl
-
-  adds_none : (written : Bool) (req : ℕ) (rsp : GuestRsp) (disk : ℕ) (s : Statement) → HasNone test (reply_adds written req rsp disk s)
-  adds_none written req rsp disk (lines.Read number offset size) = read_none disk offset rsp
-  adds_none written req rsp disk (lines.Write number offset size pattern) = ended_none req rsp
-  adds_none true req rsp disk (lines.Check number) = ended_none req rsp
-  adds_none false req rsp disk (lines.Check number) = refl
-  adds_none written req rsp disk s = refl
-
-  added_none : (written : Bool) (req : ℕ) (rsp : GuestRsp) (disk : Option ℕ) (s : Option Statement)
-      → HasNone test (added_by written req rsp disk s)
-  added_none written req rsp None s = refl
-  added_none written req rsp (Some disk) None = refl
-  added_none written req rsp (Some disk) (Some s) = adds_none written req rsp disk s
-
   pub replies_copy_none : (before : World) (write : Option CheckWrite) (replies : List (ℕ × GuestRsp))
       → list_any (copies_disk vid) (flat_map (reply_grown script before write) replies) ≡ false
   replies_copy_none before write replies =
-      flat_none test (reply_grown script before write)
-      (λ reply. added_none (has_begun_check_write script reply.0 before write) reply.0 reply.1 (disk_of script reply.0 before)
-      (request_at script reply.0)) replies
-
-  writes_none : (req : ℕ) (disk : Option Disk) (s : Statement) → HasNone test (begins_on req disk s)
-  writes_none req None (lines.Write number offset size pattern) = refl
-  writes_none req (Some opened) (lines.Write number offset size pattern) =
-      map_none test
-      (λ (place : ℕ).
-      WriteStart req opened.inode.vid (offset / BLOCK_BYTES + place) (is_in_strips opened.inode.spec.policy Block)
-      (block_in (payload_of pattern size) place))
-      (λ place. refl) (range_with_len 0 (length (payload_of pattern size) / BLOCK_BYTES))
-  writes_none req disk s = refl
+      none_of test (flat_map (reply_grown script before write) replies)
+      (replies_add (λ (event : HistEvent). test event ≡ false) (λ disk block bytes. refl) script before write replies
+      (λ reply among. end_so (λ (event : HistEvent). test event ≡ false) reply.0 reply.1 (λ done. refl) refl))
 
   pub asks_copy_none : (req : ℕ) (disk : Option Disk) (s : Option Statement)
       → list_any (copies_disk vid) (option_map_or (begins_on req disk) s []) ≡ false
-  asks_copy_none req disk None = refl
-  asks_copy_none req disk (Some s) = writes_none req disk s
+  asks_copy_none req disk s =
+      none_of test (option_map_or (begins_on req disk) s [])
+      (asks_add (λ (event : HistEvent). test event ≡ false) req disk s (λ opened block coded bytes is. refl))
 
   pub checks_copy_none : (write : Option CheckWrite)
       → list_any (copies_disk vid) (option_map_or (check_write_grown script) write []) ≡ false
-  checks_copy_none None = refl
-  checks_copy_none (Some write) = by_check (option_map_or is_check (request_at script write.req) false)
-    where
-      by_check : (b : Bool) → HasNone test (cond b (check_write_adds write) [])
-      by_check false = refl
-      by_check true =
-          flat_none test (block_checked write) (λ place. refl)
-          (filter (is_on_disk write) (range_with_len 0 (length write.value / BLOCK_BYTES)))
+  checks_copy_none write =
+      none_of test (option_map_or (check_write_grown script) write [])
+      (checks_add (λ (event : HistEvent). test event ≡ false) (λ disk block bytes. refl) script write
+      (λ req disk block coded bytes. refl))
 
   lost_none : (requests : List (ℕ × Statement)) → HasNone test (map (λ (request : ℕ × Statement). WriterLost request.0) requests)
   lost_none requests = map_none test (λ (request : ℕ × Statement). WriterLost request.0) (λ request. refl) requests

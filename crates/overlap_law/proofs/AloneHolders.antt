@@ -51,7 +51,7 @@ module _ (script : List Statement) (range : RunsAreInRange script) (events : Lis
       ap (λ (pair : Bool × ℕ). pair.0) (same_Some (opened.snapshot, opened.inode.vid) (false, vid) both)
 
   -- whose lock the session has, since no command of it is there
-  locked : HasLock moment.world.log host.node.outbox host.node.me request.session (epoch_of host.node.peer.entries) opened.inode.vid
+  pub locked : HasLock moment.world.log host.node.outbox host.node.me request.session (epoch_of host.node.peer.entries) opened.inode.vid
   locked = ⊎_elim
       (λ (lock : HasLock moment.world.log host.node.outbox host.node.me request.session (epoch_of host.node.peer.entries) opened.inode.vid).
       lock)

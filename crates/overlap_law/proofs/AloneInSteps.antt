@@ -1,13 +1,12 @@
 -- What a write has behind it stays the disk's own by the table as its node goes on in a step: a piece is written in place where the table
 -- says so, and of one that was created the table says so as its entry is written.
-use Rattle.std.proofs.Common.{◌≡◌, ◌<◌, ◌≢◌, inl, inr, ⊎_elim, ℕ, true, false, List, [], ◌∷◌, ◌++◌, length, Contains, Option, Some, IfSome}
+use Rattle.std.proofs.Common.{◌≡◌, ◌≢◌, inl, ⊎_elim, ℕ, true, false, List, [], ◌∷◌, ◌++◌, length, Contains, Option, Some, IfSome}
 use Rattle.std.proofs.Common.{slice_index, refl, sym, ap, subst, ◌∙◌, append_assoc}
 use Rattle.std.specs.FinMap as tree
 use Rattle.std.proofs.lemmas.List.Elements.{All-head, Contains-push_cases}
 use Rattle.std.proofs.lemmas.Option.{same_Some}
 use Rattle.proof_tools.proofs.FiniteMaps.{get-insert_same, get-insert_other, get-insert_cases}
 use Rattle.proof_tools.proofs.Lists.{Contains-nil}
-use Rattle.object_id.specs.declared.cause.Cause.{Cause}
 use Rattle.object_id.specs.declared.entry.VdiSpec.{VdiSpec}
 use Rattle.object_id.specs.Oid.{IsVid, object_number}
 use Rattle.cluster_script.specs.declared.statement.Statement.{Statement}
@@ -27,33 +26,30 @@ use Rattle.guest_driver.specs.Driver.{begin_driver}
 use Rattle.guest_driver.specs.PieceWorks.{object_bytes, table_with_entry, write_entry}
 use Rattle.guest_driver.specs.Pieces.{Piece, pieces}
 use Rattle.sheep_node.specs.declared.course.Course.{Course}
-use Rattle.sheep_node.specs.declared.course.Course.TheVariants.{Waiting, Driving, Commanding}
+use Rattle.sheep_node.specs.declared.course.Course.TheVariants.{Waiting, Driving}
 use Rattle.sheep_node.specs.declared.course.Request.{Request}
 use Rattle.sheep_node.specs.declared.event.Event.{Event}
 use Rattle.sheep_node.specs.declared.input.Input.{Input}
-use Rattle.sheep_node.specs.declared.session.Session.{Session}
 use Rattle.sheep_node.specs.Changes as changes
-use Rattle.sheep_node.specs.Changes.{EndsWork, IsSoundStep, Outcome, RequestSteps, DiskBegins, DiskGoesOn, CommandBegins, CommandGoesOn}
-use Rattle.sheep_node.specs.Changes.{CommandDecided, CheckBegins, CheckGoesOn, ObjectBegins, ObjectIsDone, EntryBegins, EntryDecided}
+use Rattle.sheep_node.specs.Changes.{EndsWork, IsSoundStep}
 use Rattle.sheep_node.specs.Courses.{inode_open}
 use Rattle.sheep_node.specs.May.{is_disk_course}
 use Rattle.sheep_node.specs.SessionQueues.{session_among}
-use Rattle.sheep_node.specs.StepState.{StepState, session_in}
+use Rattle.sheep_node.specs.StepState.{StepState}
 use Rattle.sheep_node.specs.WantedWorks.{IsWantedAt, IsWorkWanted, IsWorkOfWrite, IsWorkOfDriver}
 use Rattle.sheep_node.proofs.NumberChanges.{both_in_chain}
-use Rattle.sheep_node.proofs.QueueChanges.{same_view}
 use Rattle.sheep_world.specs.Began.{Began}
 use Rattle.sheep_world.specs.NodeCauses.{input_of_cause, host_with_node}
 use Rattle.sheep_world.specs.World.{Host}
 use Rattle.overlap_law.specs.AloneEntries.{IsOwnByTable, HasOwnBehind, OwnObjectsAreBehind}
 use Rattle.overlap_law.specs.MomentChanges as moments
-use Rattle.overlap_law.specs.MomentChanges.{MomentChange, MomentTrail, RunsAreInRange}
+use Rattle.overlap_law.specs.MomentChanges.{MomentTrail, RunsAreInRange}
 use Rattle.overlap_law.specs.Past.{MomentWithPast, run_with_past}
 use Rattle.overlap_law.specs.StepMoments.{SteppingNode, IsStepping, StepsByChanges, IsWithinStep, moment_in_step}
 use Rattle.overlap_law.proofs.AloneDisks.{HadDisk, had_disk, long_table, own_new}
 use Rattle.overlap_law.proofs.AnswersInMoments.{not_lost}
 use Rattle.overlap_law.proofs.CausedWorks.{HasWellWorks, by_changes}
-use Rattle.overlap_law.proofs.CoursesCome.{StepsNow, courses_come}
+use Rattle.overlap_law.proofs.ClosedDrivers.{DriverCame, Remained, Started, Stepped, driver_came}
 use Rattle.overlap_law.proofs.DrivenPieces.{begin_comes, CameFrom, Fetched, Created, Wrote, Entered, came_from}
 use Rattle.overlap_law.proofs.DriverEntries.{no_inode}
 use Rattle.overlap_law.proofs.EntryWorks.{known_disk}
@@ -63,9 +59,9 @@ use Rattle.overlap_law.proofs.NoRecoveredDue.{began-with_past}
 use Rattle.overlap_law.proofs.RepliesApart.{apart_so_far}
 use Rattle.overlap_law.proofs.TablesInSteps.{entered_step}
 use Rattle.overlap_law.proofs.WaitedInRuns.{works_wait}
-use Rattle.overlap_law.proofs.WaitedSteps.{Waits, IsOpenSo, IsOwnIn}
+use Rattle.overlap_law.proofs.WaitedSteps.{Waits}
 use Rattle.overlap_law.proofs.WorksAtCourses.{HaveAt}
-use Rattle.overlap_law.proofs.WorksGoOn.{IsDoneNow, WorkAfter, GoesOn, IsDone, IsRefused, work_after}
+use Rattle.overlap_law.proofs.WorksGoOn.{WorkAfter, GoesOn, IsDone, IsRefused, work_after}
 use Rattle.overlap_law.proofs.WorksInMoments.{well_along}
 
 -- the work of a piece whose entry isn't being written is another
@@ -167,60 +163,27 @@ module _ (script : List Statement) (range : RunsAreInRange script) (events : Lis
         let h = all.each on.n was was_there up req request d.old payload stage piece rest had d.opened course in
         has_then d.old d.spec h.offset h.before h.cut (λ one among. d.own one.index (h.each one among))
 
-    own : (session : ℕ) (other : Course)
-        → tree.get (tree.insert so_far.node.requests req (record { session = session; course = other })) req ≡ Some request
-        → record { session = session; course = other } ≡ request
-    own session other got =
-        same_Some (record { session = session; course = other }) request
-        (sym (get-insert_same so_far.node.requests req (record { session = session; course = other })) ∙ got)
-
-    -- another course is none of a write
-    not_driving : (session : ℕ) (other : Course) → ((driver : Driver) → other ≢ Driving driver)
-        → tree.get (tree.insert so_far.node.requests req (record { session = session; course = other })) req ≡ Some request → Has
-    not_driving session other apart got =
-        absurd (apart (Writes payload stage piece rest) (ap (λ (r : Request). r.course) (own session other got) ∙ course))
-
-    -- its driver has come to it now
-    module _ (session : ℕ) (driver : Driver)
-        (got : tree.get (tree.insert so_far.node.requests req (record { session = session; course = Driving driver })) req ≡ Some request)
-      where
-        driver_so : driver ≡ Writes payload stage piece rest
-        driver_so =
-            let both : Driving driver ≡ Driving (Writes payload stage piece rest)
-            = ap (λ (r : Request). r.course) (own session (Driving driver) got) ∙ course in
-            cc (both)
-
-        at_then : (session_among session next.node.sessions).disk ≡ Some opened
-        at_then =
-            ap (λ (k : ℕ). (session_among k next.node.sessions).disk)
-            (ap (λ (r : Request). r.session) (own session (Driving driver) got)) ∙ at
-
-    begins : (session : ℕ) (ask : DiskAsk) (disk : Disk)
-        → tree.get so_far.node.requests req ≡ Some (record { session = session; course = Waiting ask })
-        → (session_in session so_far).disk ≡ Some disk
-        → tree.get (tree.insert so_far.node.requests req
-        (record { session = session; course = Driving (begin_driver disk ask).driver })) req ≡ Some request → Has
-    begins session ask disk had on_disk got =
-        let d = had_disk script range events start ran on is by so_far next within trail session req (Waiting ask) had refl opened
-        (at_then session (begin_driver disk ask).driver got) in
+    begins : (ask : DiskAsk) (disk : Disk)
+        → tree.get so_far.node.requests req ≡ Some (record { session = request.session; course = Waiting ask })
+        → (session_among request.session so_far.node.sessions).disk ≡ Some disk
+        → (begin_driver disk ask).driver ≡ Writes payload stage piece rest → Has
+    begins ask disk had on_disk driver_so =
+        let d = had_disk script range events start ran on is by so_far next within trail request.session req (Waiting ask) had refl opened
+        at in
         let same : d.old ≡ disk = same_Some d.old disk (sym d.opened ∙ on_disk) in
-        let (offset, cut, apart) = begin_comes payload stage piece rest disk ask (driver_so session (begin_driver disk ask).driver got) in
+        let (offset, cut, apart) = begin_comes payload stage piece rest disk ask driver_so in
         has_then disk (d.spec ∙ ap (λ (k : Disk). k.inode.spec) same) offset [] cut (λ one among. absurd (Contains-nil one among))
 
-    module _ (session number : ℕ) (work : Work) (attempt : gateways.Attempt) (status : Status) (bytes : List ℕ) (driver : Driver)
-        (disk : Disk) (step : DriverStep)
-        (ends : EndsWork (input_of_cause on.cause) on.host.node so_far session req number work attempt status (Driving driver) bytes)
-        (open_here : (session_among session so_far.node.sessions).disk ≡ Some disk)
-        (goes : driver_on_done disk.inode bytes driver ≡ Some step)
-        (got : tree.get (tree.insert so_far.node.requests req (record { session = session; course = Driving step.driver })) req
-        ≡ Some request) where
-      then_open : (session_among session next.node.sessions).disk ≡ Some opened
-      then_open = at_then session step.driver got
-
-      had_open : HadDisk so_far.node.sessions session opened
+    module _ (number : ℕ) (work : Work) (attempt : gateways.Attempt) (status : Status) (bytes : List ℕ) (driver : Driver) (disk : Disk)
+        (step : DriverStep)
+        (ends : EndsWork (input_of_cause on.cause) on.host.node so_far request.session req number work attempt status (Driving driver)
+        bytes) (open_here : (session_among request.session so_far.node.sessions).disk ≡ Some disk)
+        (goes : driver_on_done disk.inode bytes driver ≡ Some step) (driver_so : step.driver ≡ Writes payload stage piece rest) where
+      had_open : HadDisk so_far.node.sessions request.session opened
       had_open =
-          had_disk script range events start ran on is by so_far next within trail session req (Driving driver) ends.ends.request refl
-          opened then_open
+          had_disk script range events start ran on is by so_far next within trail request.session req (Driving driver) ends.ends.request
+          refl
+          opened at
 
       old_so : had_open.old ≡ disk
       old_so = same_Some had_open.old disk (sym had_open.opened ∙ open_here)
@@ -236,7 +199,7 @@ module _ (script : List Statement) (range : RunsAreInRange script) (events : Lis
       had : (now_at : DriverStage) (one : Piece) (left : List Piece) → driver ≡ Writes payload now_at one left
           → HasOwnBehind disk.inode payload one left
       had now_at one left same =
-          all.each on.n was was_there up req (record { session = session; course = Driving driver }) disk payload now_at one left
+          all.each on.n was was_there up req (record { session = request.session; course = Driving driver }) disk payload now_at one left
           ends.ends.request open_here (ap (λ (d : Driver). Driving d) same)
 
       same_piece : (now_at : DriverStage) → driver ≡ Writes payload now_at piece rest → Has
@@ -261,8 +224,8 @@ module _ (script : List Statement) (range : RunsAreInRange script) (events : Lis
         driven = Writes payload Entering one (piece ∷ rest)
 
         asked : tree.get so_far.node.requests req
-            ≡ Some (record { session = session; course = Driving (Writes payload Entering one (piece ∷ rest)) })
-        asked = ends.ends.request ∙ ap (λ (d : Driver). Some (record { session = session; course = Driving d })) same
+            ≡ Some (record { session = request.session; course = Driving (Writes payload Entering one (piece ∷ rest)) })
+        asked = ends.ends.request ∙ ap (λ (d : Driver). Some (record { session = request.session; course = Driving d })) same
 
         wants : IsWorkOfDriver disk.inode (Writes payload Entering one (piece ∷ rest)) work.work
         wants =
@@ -287,11 +250,12 @@ module _ (script : List Statement) (range : RunsAreInRange script) (events : Lis
             → opened.inode ≡ table_with_entry disk.inode one
         entered_so (GoesOn later got_later same_work) = absurd (never_again later got_later same_work)
         entered_so (IsDone d) =
-            let mine : Request = record { session = session; course = Driving driven } in
+            let mine : Request = record { session = request.session; course = Driving driven } in
             let its : Request = record { session = d.session; course = Driving d.driver } in
             let alike : mine ≡ its = same_Some mine its (sym asked ∙ d.ends.ends.request) in
-            let session_so : session ≡ d.session = ap (λ (r : Request). r.session) alike in
-            let course_so : Driving (Writes payload Entering one (piece ∷ rest)) ≡ Driving d.driver = ap (λ (r : Request). r.course) alike in
+            let session_so : request.session ≡ d.session = ap (λ (r : Request). r.session) alike in
+            let course_so : Driving (Writes payload Entering one (piece ∷ rest))
+            ≡ Driving d.driver = ap (λ (r : Request). r.course) alike in
             let driver_same : Writes payload Entering one (piece ∷ rest) ≡ d.driver = cc (course_so) in
             let disk_so : disk ≡ d.disk
             = same_Some disk d.disk
@@ -302,7 +266,7 @@ module _ (script : List Statement) (range : RunsAreInRange script) (events : Lis
             = entered_step disk.inode d.bytes payload one (piece ∷ rest) d.step went in
             let then : opened ≡ record d.disk { inode = d.step.inode }
             = same_Some opened (record d.disk { inode = d.step.inode })
-            (sym then_open ∙ ap (λ (k : ℕ). (session_among k next.node.sessions).disk) session_so ∙ d.after) in
+            (sym at ∙ ap (λ (k : ℕ). (session_among k next.node.sessions).disk) session_so ∙ d.after) in
             ap (λ (k : Disk). k.inode) then ∙ table
         entered_so (IsRefused cause among) =
             absurd (apart_so_far (input_of_cause on.cause) on.host.node sound (changes.Then within.leads within.change) req request
@@ -312,51 +276,34 @@ module _ (script : List Statement) (range : RunsAreInRange script) (events : Lis
         own_entered =
             subst (λ (i : Content). IsOwnByTable i one.index) (sym (entered_so
             (work_after (input_of_cause on.cause) on.host.node sound so_far
-            (both_in_chain (input_of_cause on.cause) on.host.node sound so_far within.leads).0 req work ends.ends.learns.there session driven
+            (both_in_chain (input_of_cause on.cause) on.host.node sound so_far within.leads).0 req work ends.ends.learns.there
+            request.session driven
             asked disk open_here wants next within.change)))
             (own_new disk.inode one one.index
-            (long_table script range events start ran on is by so_far next within trail session disk open_here) refl)
+            (long_table script range events start ran on is by so_far next within trail request.session disk open_here) refl)
 
       by_origin : CameFrom payload stage piece rest driver → Has
       by_origin (Fetched same apart) = same_piece Fetching same
       by_origin (Created same entered) = same_piece Creating same
       by_origin (Wrote one same apart) =
           one_more InPlace one same
-          (stays one.index (own_in_place session req number work attempt status bytes payload one (piece ∷ rest) disk
-          (subst (λ (d : Driver). EndsWork (input_of_cause on.cause) on.host.node so_far session req number work attempt status (Driving d)
+          (stays one.index (own_in_place request.session req number work attempt status bytes payload one (piece ∷ rest) disk
+          (subst (λ (d : Driver). EndsWork (input_of_cause on.cause) on.host.node so_far request.session req number work attempt status
+          (Driving d)
           bytes) same ends) open_here))
       by_origin (Entered one same apart) = one_more Entering one same (own_entered one same apart)
 
       goes_on : Has
-      goes_on = by_origin (came_from payload stage piece rest disk.inode bytes driver step goes (driver_so session step.driver got))
-
-    by_steps : (session : ℕ) (outcome : Outcome) (moved : StepState)
-        → RequestSteps (input_of_cause on.cause) on.host.node so_far session req outcome moved
-        → tree.get moved.node.requests req ≡ Some request → Has
-    by_steps session outcome moved (DiskBegins ask disk had on_disk may) got = begins session ask disk had on_disk got
-    by_steps session outcome moved (DiskGoesOn number work attempt status bytes driver disk step ends on_disk goes) got =
-        goes_on session number work attempt status bytes driver disk step ends
-        (sym (same_view (λ (s : Session). s.disk) so_far.node.sessions session _ refl session) ∙ on_disk) goes got
-    by_steps session outcome moved (CommandBegins ask step arrival goes) got = not_driving session _ (λ d same. cc (same)) got
-    by_steps session outcome moved (CommandGoesOn number work attempt status bytes op step ends goes) got =
-        not_driving session _ (λ d same. cc (same)) got
-    by_steps session outcome moved (CommandDecided entry op step from read had waits goes) got =
-        not_driving session _ (λ d same. cc (same)) got
-    by_steps session outcome moved (CheckBegins inode arrival on_disk) got = not_driving session _ (λ d same. cc (same)) got
-    by_steps session outcome moved (CheckGoesOn number work attempt status bytes check step ends goes) got =
-        not_driving session _ (λ d same. cc (same)) got
-    by_steps session outcome moved (ObjectBegins asked arrival) got = not_driving session _ (λ d same. cc (same)) got
-    by_steps session outcome moved (ObjectIsDone number work attempt status bytes asked ends) got = was_so got
-    by_steps session outcome moved (EntryBegins entry arrival) got = not_driving session _ (λ d same. cc (same)) got
-    by_steps session outcome moved (EntryDecided entry awaited from read had waits) got = was_so got
+      goes_on = by_origin (came_from payload stage piece rest disk.inode bytes driver step goes driver_so)
 
     has_now : Has
-    has_now = ⊎_elim
-        (λ (had : tree.get so_far.node.requests req ≡ Some request). was_so had)
-        (⊎_elim
-        (λ (s : StepsNow (input_of_cause on.cause) on.host.node so_far req request). by_steps s.session s.next s.moved s.steps s.there)
-        (λ (waits : (ask : DiskAsk) × (request.course ≡ Waiting ask)). let both = sym waits.1 ∙ course in absurd (cc (both))))
-        (courses_come req (input_of_cause on.cause) on.host.node so_far next within.change request there)
+    has_now = by_case (driver_came so_far next within.change req request there (Writes payload stage piece rest) course)
+      where
+        by_case : DriverCame (input_of_cause on.cause) on.host.node so_far req request (Writes payload stage piece rest) → Has
+        by_case (Remained had) = was_so had
+        by_case (Started ask disk had on_disk driver_so) = begins ask disk had on_disk driver_so
+        by_case (Stepped number work attempt status bytes driver disk step ends open_here goes driver_so) =
+            goes_on number work attempt status bytes driver disk step ends open_here goes driver_so
 
   pub goes_on_own : OwnObjectsAreBehind (moment_in_step script on start so_far).world.hosts
       → OwnObjectsAreBehind (moment_in_step script on start next).world.hosts

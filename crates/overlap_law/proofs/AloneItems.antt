@@ -1,5 +1,5 @@
--- What holds of the items of a request, wherever they are, holds behind an event, if it does of those that begin, and no disk is copied of
--- which it holds of some.
+-- What holds of the items of a request, wherever they are, holds behind an event, if it does of those that begin, and of a copied disk's
+-- where it holds of the disk's.
 use Rattle.std.proofs.Common.{◌≡◌, ℕ, zero, suc, ◌==◌, Bool, true, false, not, cond, List, [], ◌∷◌, ◌++◌, map, filter, fold, slice_get, Option}
 use Rattle.std.proofs.Common.{Some, None, option_map, refl, sym, ap, subst, ◌∙◌}
 use Rattle.std.specs.List.{list_any}
@@ -40,13 +40,13 @@ module _ (req : ℕ) (Q : ℕ → ℕ → List ℕ → Type 0) where
   push_so disk block [] item all own = (own, tt)
   push_so disk block (first ∷ items) item all own = (all.0, push_so disk block items item all.1 own)
 
-  -- of a block of which it holds of nothing there is none
-  none_so : (disk other block : ℕ) (items : List Item) → ((bytes : List ℕ) → Q disk block bytes → ⊥) → AreSoIn disk block items
-      → AreSoIn other block items
-  none_so disk other block [] none all = tt
-  none_so disk other block (item ∷ items) none all = (
-    λ own. absurd (none item.bytes (all.0 own)),
-    none_so disk other block items none all.1,
+  -- on another disk
+  moved_so : (disk other block : ℕ) (items : List Item) → ((bytes : List ℕ) → Q disk block bytes → Q other block bytes)
+      → AreSoIn disk block items → AreSoIn other block items
+  moved_so disk other block [] moves all = tt
+  moved_so disk other block (item ∷ items) moves all = (
+    λ own. moves item.bytes (all.0 own),
+    moved_so disk other block items moves all.1,
   )
 
   marked_so : (mark : Mark) (ended disk block : ℕ) (items : List Item) → AreSoIn disk block items
@@ -90,10 +90,10 @@ module _ (req : ℕ) (Q : ℕ → ℕ → List ℕ → Type 0) where
       by_test true same = subst (λ (k : ℕ). AreSoOn k new) (sym (eqb-true disk place same)) own
       by_test false apart = all disk
 
-  copied_so : (old new : ℕ) (found : Option Disk) → ((block : ℕ) (bytes : List ℕ) → Q old block bytes → ⊥) → AreSoOn old found
-      → AreSoOn new (option_map (λ (disk : Disk). record disk { deleted = false }) found)
-  copied_so old new None none all = λ block. tt
-  copied_so old new (Some disk) none all = λ block. none_so old new block (disk.items block) (none block) (all block)
+  copied_so : (old new : ℕ) (found : Option Disk) → ((block : ℕ) (bytes : List ℕ) → Q old block bytes → Q new block bytes)
+      → AreSoOn old found → AreSoOn new (option_map (λ (disk : Disk). record disk { deleted = false }) found)
+  copied_so old new None moves all = λ block. tt
+  copied_so old new (Some disk) moves all = λ block. moved_so old new block (disk.items block) (moves block) (all block)
 
   deleted_so : (disk : ℕ) (found : Option Disk) → AreSoOn disk found
       → AreSoOn disk (option_map (λ (d : Disk). record d { deleted = true }) found)
@@ -119,10 +119,10 @@ module _ (req : ℕ) (Q : ℕ → ℕ → List ℕ → Type 0) where
 
   -- ---- events
 
-  -- what begins of the request is so, and what is copied has nothing of which it holds
+  -- what begins of the request is so, and where a disk is copied it holds of the copy too
   abbrev pub IsFine : HistEvent → Type 0
   IsFine (Create disk blocks) = Unit {0}
-  IsFine (Copy old new) = (block : ℕ) (bytes : List ℕ) → Q old block bytes → ⊥
+  IsFine (Copy old new) = (block : ℕ) (bytes : List ℕ) → Q old block bytes → Q new block bytes
   IsFine (Delete disk) = Unit {0}
   IsFine (WriteStart other disk block coded bytes) = other ≡ req → Q disk block bytes
   IsFine (WriteDone other) = Unit {0}
@@ -200,7 +200,7 @@ fine_of req vid Q own (event ∷ events) copies begins =
     one : (event : HistEvent) → copies_disk vid event ≡ false → begins_write_of req event ≡ false → IsFine req Q event
     one (Create disk blocks) copies begins = tt
     one (Copy old new) copies begins = λ block bytes is.
-        let same = eq-eqb old vid (own old block bytes is) in cc (copies, same)
+        let same = eq-eqb old vid (own old block bytes is) in absurd (cc (copies, same))
     one (Delete disk) copies begins = tt
     one (WriteStart other disk block coded bytes) copies begins = λ same.
         let is = eq-eqb other req same in absurd (cc (begins, is))

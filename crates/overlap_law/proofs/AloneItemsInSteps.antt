@@ -32,6 +32,7 @@ use Rattle.sheep_world.specs.Began.{Began}
 use Rattle.sheep_world.specs.Effects.{open_disk_at}
 use Rattle.sheep_world.specs.NodeCauses.{NodeCause, GuestAsks, RequestComes, ReplyComes, LossIsTold, EntryIsRead, EntryIsPut, RecoveryTicks}
 use Rattle.sheep_world.specs.NodeCauses.{WorkIsRetried, input_of_cause, IsCause}
+use Rattle.sheep_world.specs.World.{Host}
 use Rattle.overlap_law.specs.AloneItems.{HasOwnItems}
 use Rattle.overlap_law.specs.CommandDisks.{opened_as}
 use Rattle.overlap_law.specs.DiskEvents.{IsUnderWay}
@@ -123,9 +124,10 @@ module _ (script : List Statement) (range : RunsAreInRange script) (events : Lis
   Begins req disk = (offset vid : ℕ) (payload : List ℕ) → Asks req offset payload → disk ≡ Some vid
       → AreOwn req vid offset payload (ledger_of (start.past.history ++ added_at_cause script start.world on.cause))
 
-  -- ---- a request that was there
+  -- ---- a request that was there, at whichever node
 
-  module _ (req : ℕ) (request : Request) (got : tree.get on.host.node.requests req ≡ Some request) (offset : ℕ) (payload : List ℕ)
+  module _ (n : ℕ) (host : Host) (there : tree.get start.world.hosts n ≡ Some host) (not_gone : host.is_lost ≡ false) (req : ℕ)
+      (request : Request) (got : tree.get host.node.requests req ≡ Some request) (offset : ℕ) (payload : List ℕ)
       (asked : asked_by script req ≡ Some (asks.Disk (disk_asks.Write offset payload))) where
     writes : is_write_at script req ≡ true
     writes = writes_is offset payload (request_at script req) asked
@@ -135,7 +137,7 @@ module _ (script : List Statement) (range : RunsAreInRange script) (events : Lis
     cause_fine vid (GuestAsks session other ask) caused =
         others_fine req vid offset payload (added_at_cause script start.world (GuestAsks session other ask))
         (asks_copy_none script vid other (open_disk_at session start.world) (request_at script other))
-        (asks_begin_none script range start.world began req on.n on.host is.there request got on.n on.host session other ask caused)
+        (asks_begin_none script range start.world began req n host there request got on.n on.host session other ask caused)
     cause_fine vid (RequestComes name to asked) caused = tt
     cause_fine vid (ReplyComes name from rsp) caused =
         others_fine req vid offset payload (added_at_cause script start.world (ReplyComes name from rsp))
@@ -147,23 +149,23 @@ module _ (script : List Statement) (range : RunsAreInRange script) (events : Lis
     cause_fine vid RecoveryTicks caused = tt
     cause_fine vid WorkIsRetried caused = tt
 
-    own_there : (disk : Option ℕ) (vid : ℕ)
-        → IsCourseOfAsk (asked_by script req) (session_among request.session on.host.node.sessions).disk disk request.course
+    pub own_there : (disk : Option ℕ) (vid : ℕ)
+        → IsCourseOfAsk (asked_by script req) (session_among request.session host.node.sessions).disk disk request.course
         → disk ≡ Some vid → AreOwn req vid offset payload (ledger_of (start.past.history ++ added_at_cause script start.world on.cause))
     own_there disk vid course same =
-        let opened : Option Disk = (session_among request.session on.host.node.sessions).disk in
+        let opened : Option Disk = (session_among request.session host.node.sessions).disk in
         let at = on_disk (asked_by script req) offset payload asked opened disk request.course course in
         let vid_so : vid ≡ at.disk.inode.vid = same_Some vid at.disk.inode.vid (sym same ∙ at.same) in
-        let allowed : IsAllowed (opened_by (session_among request.session on.host.node.sessions)) request.course
-        = subst (IsSeen opened_by IsAllowed on.host.node.sessions) got
-        ((well_in_world script range start.world began on.n on.host is.there).allowed req) in
+        let allowed : IsAllowed (opened_by (session_among request.session host.node.sessions)) request.course
+        = subst (IsSeen opened_by IsAllowed host.node.sessions) got
+        ((well_in_world script range start.world began n host there).allowed req) in
         let working = on_working (asked_by script req) offset payload asked at.disk disk request.course
         (subst (λ (o : Option Disk). IsCourseOfAsk (asked_by script req) o disk request.course) at.there course)
         (subst (λ (o : Option Disk). IsAllowed (opened_as o) request.course) at.there allowed) in
         subst (λ (k : ℕ). AreOwn req k offset payload (ledger_of base)) (sym vid_so)
         (grown_own req at.disk.inode.vid offset payload start.past.history (added_at_cause script start.world on.cause)
         (cause_fine at.disk.inode.vid on.cause is.caused)
-        (are_own-in_run script range events start ran on.n on.host is.there (not_lost on.host is.up) req offset payload at.disk
+        (are_own-in_run script range events start ran n host there not_gone req offset payload at.disk
         (record { request = request; there = got; on = at.there; working = working }) asked))
 
   start_so : ArePlaced (asked_by script) Begins on.host.node.requests on.host.node.sessions
@@ -176,7 +178,8 @@ module _ (script : List Statement) (range : RunsAreInRange script) (events : Lis
       by_got None got placed = tt
       by_got (Some request) got (disk, at, course) = (
         disk,
-        λ offset vid payload asked same. own_there req request got offset payload asked disk vid course same,
+        λ offset vid payload asked same.
+            own_there on.n on.host is.there (not_lost on.host is.up) req request got offset payload asked disk vid course same,
         course,
       )
 
@@ -247,25 +250,31 @@ module _ (script : List Statement) (range : RunsAreInRange script) (events : Lis
       → asked_by script req ≡ Some ask
   asked_in_step req session ask from = (brought req session ask from).1
 
-  -- the replies so far leave its items where they are
-  pub own_in_step : (req : ℕ) (request : Request) → tree.get so_far.node.requests req ≡ Some request → (opened : Disk)
-      → (session_among request.session so_far.node.sessions).disk ≡ Some opened → (offset : ℕ) (payload : List ℕ)
-      → asked_by script req ≡ Some (asks.Disk (disk_asks.Write offset payload))
-      → HasOwnItems req opened.inode.vid offset payload (ledger_of (moment_in_step script on start so_far).past.history)
-  own_in_step req request got opened at offset payload asked =
-      let vid : ℕ = opened.inode.vid in
-      let (disk, so, course) = subst (IsPlacedIn (asked_by script) Begins req so_far.node.sessions) got (placed req) in
-      let there = on_disk (asked_by script req) offset payload asked (session_among request.session so_far.node.sessions).disk disk
-      request.course course in
-      let same : disk ≡ Some opened.inode.vid
-      = there.same ∙ ap (λ (d : Disk). Some d.inode.vid) (same_Some there.disk opened (sym there.there ∙ at)) in
+  -- the replies so far leave items where they are
+  pub by_replies : (req offset vid : ℕ) (payload : List ℕ)
+      → AreOwn req vid offset payload (ledger_of (start.past.history ++ added_at_cause script start.world on.cause))
+      → HasOwnItems req vid offset payload (ledger_of (moment_in_step script on start so_far).past.history)
+  by_replies req offset vid payload own =
       let replies : List (ℕ × GuestRsp) = so_far.outputs.replies in
       let told : List HistEvent = flat_map (added_by_reply script start.world on.cause) so_far.outputs.replies in
-      subst (λ (history : List HistEvent). HasOwnItems req opened.inode.vid offset payload (ledger_of history))
+      subst (λ (history : List HistEvent). HasOwnItems req vid offset payload (ledger_of history))
       (sym (history_so script range start began on by so_far))
       (items_own req vid offset payload (ledger_of (base ++ told))
       (grown_own req vid offset payload base told
       (others_fine req vid offset payload told
       (replies_copy_none script vid (world_at_cause start.world on.cause) (check_write_at start.world on.cause) replies)
       (replied.replies_none script req (world_at_cause start.world on.cause) (check_write_at start.world on.cause) replies))
-      (so offset vid payload asked same)))
+      own))
+
+  -- and so those of a request then
+  pub own_in_step : (req : ℕ) (request : Request) → tree.get so_far.node.requests req ≡ Some request → (opened : Disk)
+      → (session_among request.session so_far.node.sessions).disk ≡ Some opened → (offset : ℕ) (payload : List ℕ)
+      → asked_by script req ≡ Some (asks.Disk (disk_asks.Write offset payload))
+      → HasOwnItems req opened.inode.vid offset payload (ledger_of (moment_in_step script on start so_far).past.history)
+  own_in_step req request got opened at offset payload asked =
+      let (disk, so, course) = subst (IsPlacedIn (asked_by script) Begins req so_far.node.sessions) got (placed req) in
+      let there = on_disk (asked_by script req) offset payload asked (session_among request.session so_far.node.sessions).disk disk
+      request.course course in
+      let same : disk ≡ Some opened.inode.vid
+      = there.same ∙ ap (λ (d : Disk). Some d.inode.vid) (same_Some there.disk opened (sym there.there ∙ at)) in
+      by_replies req offset opened.inode.vid payload (so offset opened.inode.vid payload asked same)

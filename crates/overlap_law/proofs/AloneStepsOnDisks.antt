@@ -64,7 +64,7 @@ use Rattle.overlap_law.proofs.UnderWayInRuns.{writer_in_run}
 use Rattle.overlap_law.proofs.WholeInRuns.{may_change, sound_here}
 
 -- where a check is, that is no command: on the working disk that its session has open
-check_working : (asked : Option Ask) → asked ≡ Some (asks.Vdi disk_commands.Check) → (opened : Option Disk) (began : Option ℕ)
+pub check_working : (asked : Option Ask) → asked ≡ Some (asks.Vdi disk_commands.Check) → (opened : Option Disk) (began : Option ℕ)
     (course : Course) → IsCourseOfAsk asked opened began course → ((op : Op) → course ≡ Commanding op → ⊥)
     → (disk : Disk) × (opened ≡ Some disk) × (began ≡ Some disk.inode.vid) × (disk.snapshot ≡ false)
 check_working asked checks opened began (Waiting ask) is plain = let of = is.0 in absurd (cc (checks, of))
@@ -75,7 +75,7 @@ check_working asked checks opened began (DoingWork work) is plain = absurd is
 check_working asked checks opened began (AwaitingDecision entry) is plain = absurd is
 
 -- a line that checks asks for a check
-check_asked : (o : Option Statement) → option_map_or is_check o false ≡ true
+pub check_asked : (o : Option Statement) → option_map_or is_check o false ≡ true
     → option_and_then ask_of_statement o ≡ Some (asks.Vdi disk_commands.Check)
 check_asked None is = absurd (cc (is))
 check_asked (Some (lines.Check session)) is = refl

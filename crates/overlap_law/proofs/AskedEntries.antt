@@ -1,29 +1,24 @@
 -- The entries that requests lead to: no command comes to a `Recovered`.
 use Rattle.std.proofs.Common.{◌≡◌, ℕ, true, false, List, Option, Some, None, IfSome, refl, subst}
 use Rattle.std.specs.FinMap as tree
-use Rattle.std.specs.Option.{option_map, option_and_then}
+use Rattle.std.specs.Option.{option_map}
 use Rattle.object_id.specs.declared.oid.Vid.{Vid}
 use Rattle.object_id.specs.declared.cause.Cause.{Cause}
 use Rattle.object_id.specs.declared.node.NodeId.{NodeId}
 use Rattle.object_id.specs.declared.entry.Entry.{Entry}
 use Rattle.object_id.specs.declared.entry.Entry.TheVariants as entries
 use Rattle.object_id.specs.declared.entry.Entry.TheVariants.{Format, Join, Leave, Reweight, Recovered, Reserve, Publish, Lock, Unlock}
-use Rattle.object_id.specs.declared.entry.Origin.TheVariants.{Fresh, SnapshotOf, CloneOf}
 use Rattle.epoch_log.specs.Epochs.{recovers}
 use Rattle.inode.specs.Layout.{Content}
-use Rattle.vdi_directory.specs.declared.header.Header.{Header}
 use Rattle.vdi_directory.specs.declared.effect.Effect.{Effect}
 use Rattle.vdi_directory.specs.declared.decision.Decision.{Decision}
-use Rattle.vdi_directory.specs.declared.decision.Decision.TheVariants as decisions
-use Rattle.vdi_directory.specs.Chains.{chain_of}
-use Rattle.vdi_directory.specs.Effects.{header_of}
 use Rattle.peer_proto.specs.declared.guest.VdiAsk.{VdiAsk}
 use Rattle.peer_proto.specs.declared.guest.VdiAsk.TheVariants.{Create, Attach, Close, Snapshot, Clone, Delete, Check}
 use Rattle.vdi_ops.specs.declared.end.OpEnd.{OpEnd}
 use Rattle.vdi_ops.specs.Entries.{first_entry}
 use Rattle.vdi_ops.specs.Op as ops
-use Rattle.vdi_ops.specs.Op.{Task, Opening, WritingBack, Tagging, Copying, Making, OpStage, Asked, Working, Publishing, Answered, Op, IsAwaitedAtOpStage, IsAwaitedByCommand}
-use Rattle.vdi_ops.specs.Steps.{first_step, begin_command, tag_step, copy_step, step_after_grant, step_after_decision, decided_at, on_decision, task_done, done_at, op_on_done, refused_at, on_refusal}
+use Rattle.vdi_ops.specs.Op.{Task, Opening, WritingBack, Tagging, Copying, Making, OpStage, Asked, Working, Publishing, Answered, Op}
+use Rattle.vdi_ops.specs.Steps.{first_step, begin_command, on_decision, task_done, done_at, op_on_done, refused_at, on_refusal}
 use Rattle.sheep_node.specs.declared.ask.Ask.TheVariants as asks
 use Rattle.sheep_node.specs.declared.input.Input.{Input}
 use Rattle.sheep_node.specs.declared.input.Input.TheVariants as inputs
@@ -31,6 +26,7 @@ use Rattle.sheep_node.specs.declared.course.Course.{Course}
 use Rattle.sheep_node.specs.declared.course.Request.{Request}
 use Rattle.sheep_node.specs.declared.course.Course.TheVariants.{Waiting, Driving, Commanding, Checking, DoingWork, AwaitingDecision}
 use Rattle.sheep_node.specs.State.{Node}
+use Rattle.overlap_law.proofs.ClosedFirstStages.{HoldsAtFirst, decision_so}
 
 -- an entry that a request puts
 abbrev pub IsAskedEntry : Entry → Type 0
@@ -110,7 +106,8 @@ first_to by session disk (Clone base tag name) = tt
 first_to by session disk (Delete name tag) = tt
 first_to by session disk Check = tt
 
-begun_to : (by : NodeId) (session : ℕ) (entry : Option Entry) → IfSome entry IsAskedEntry → IfSome (option_map (first_step by session) entry) StepTo
+begun_to : (by : NodeId) (session : ℕ) (entry : Option Entry) → IfSome entry IsAskedEntry
+    → IfSome (option_map (first_step by session) entry) StepTo
 begun_to by session None of = tt
 begun_to by session (Some entry) of = of
 
@@ -118,47 +115,17 @@ pub begin_to : (by : NodeId) (session : ℕ) (ask : VdiAsk) (disk : Option Conte
 unfolding begin_command
 begin_to by session ask disk = begun_to by session (first_entry by session disk ask) (first_to by session disk ask)
 
+asked_at_first : HoldsAtFirst IsStageToAsked
+asked_at_first = record {
+  stays = tt;
+  closes = tt;
+  opening = λ vid snapshot ids header. tt;
+  tagging = λ vid old inode. tt;
+  copying = λ vid ids header. tt;
+  making = λ vid by. tt;
+}
+
 module _ (op : Op) where
-  taken_to : (vid : Vid) (tag : List ℕ) (header : Header) (disk : Option Content) → IfSome (option_map (tag_step op vid tag header) disk) StepTo
-  taken_to vid tag header None = tt
-  taken_to vid tag header (Some old) = tt
-
-  copied_to : (vid : Vid) (chain : List ℕ) (header : Header) (parent : Option Vid) → IfSome (option_map (copy_step op vid chain header) parent) StepTo
-  copied_to vid chain header None = tt
-  copied_to vid chain header (Some parent) = tt
-
-  granted_to : (vid : Vid) (chain : List ℕ) (disk : Option Content) (entry : Entry) (header : Header) → IfSome (step_after_grant op vid chain disk entry header) StepTo
-  granted_to vid chain disk (Reserve by session name (Fresh spec)) header = tt
-  granted_to vid chain disk (Reserve by session name (SnapshotOf tag)) header = taken_to vid tag header disk
-  granted_to vid chain disk (Reserve by session name (CloneOf base tag)) header = copied_to vid chain header header.parent
-  granted_to vid chain disk (Lock by session name tag) header = tt
-  granted_to vid chain disk (Unlock by session id) header = tt
-  granted_to vid chain disk (entries.Delete by session name tag) header = tt
-  granted_to vid chain disk (Format members) header = tt
-  granted_to vid chain disk (Join node zone vnodes) header = tt
-  granted_to vid chain disk (Leave node) header = tt
-  granted_to vid chain disk (Reweight node vnodes) header = tt
-  granted_to vid chain disk (Recovered node epoch) header = tt
-  granted_to vid chain disk (Publish by id) header = tt
-  granted_to vid chain disk (entries.Clone by id) header = tt
-  granted_to vid chain disk (entries.Snapshot by old id) header = tt
-
-  known_to : (vid : Vid) (chain : List ℕ) (disk : Option Content) (entry : Entry) (header : Option Header)
-      → IfSome (option_and_then (step_after_grant op vid chain disk entry) header) StepTo
-  known_to vid chain disk entry None = tt
-  known_to vid chain disk entry (Some header) = granted_to vid chain disk entry header
-
-  decided_to : (known : List Effect) (disk : Option Content) (entry : Entry) (decision : Decision) → IfSome (step_after_decision known disk op entry decision) StepTo
-  decided_to known disk entry decisions.None = tt
-  decided_to known disk entry (decisions.Granted vid) = known_to vid (chain_of known vid.0) disk entry (header_of known vid.0)
-  decided_to known disk entry (decisions.Refused cause) = tt
-
-  at_decision : (known : List Effect) (disk : Option Content) (decision : Decision) (stage : OpStage) → IfSome (decided_at known disk decision op stage) StepTo
-  at_decision known disk decision (Asked entry) = decided_to known disk entry decision
-  at_decision known disk decision (Working vid task) = tt
-  at_decision known disk decision (Publishing entry opened) = tt
-  at_decision known disk decision (Answered change) = tt
-
   task_to : (vid : Vid) (bytes : List ℕ) (task : Task) → IsTaskToAsked task → StepTo (task_done op vid bytes task)
   task_to vid bytes (Opening true ids header) of = tt
   task_to vid bytes (Opening false ids header) of = tt
@@ -183,9 +150,9 @@ module _ (op : Op) where
   unfolding op_on_done
   done_to bytes of = at_done bytes op.stage of
 
-  pub decision_to : (known : List Effect) (disk : Option Content) (decision : Decision) → IfSome (on_decision known disk decision op) StepTo
-  unfolding on_decision
-  decision_to known disk decision = at_decision known disk decision op.stage
+  pub decision_to : (known : List Effect) (disk : Option Content) (decision : Decision)
+      → IfSome (on_decision known disk decision op) StepTo
+  decision_to = decision_so IsStageToAsked asked_at_first op (λ inode. tt)
 
   pub refusal_to : (cause : Cause) → IfSome (on_refusal cause op) (λ (end : OpEnd). IfSome end.unlock IsAskedEntry)
   unfolding on_refusal

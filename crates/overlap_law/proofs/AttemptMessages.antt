@@ -1,5 +1,5 @@
 -- The messages of an attempt as it begins: their numbers, their indexes, and the targets that they go to.
-use Rattle.std.proofs.Common.{◌≡◌, arith, ℕ, zero, suc, ◌+◌, true, List, [], ◌∷◌, map, Contains, Some, slice_get, refl, sym, ap, ◌∙◌}
+use Rattle.std.proofs.Common.{◌≡◌, arith, ℕ, zero, suc, ◌+◌, Bool, true, List, [], ◌∷◌, map, Contains, Some, slice_get, refl, sym, ap, ◌∙◌}
 use Rattle.std.specs.List.{enumerate_from}
 use Rattle.std.proofs.lemmas.Option.{same_Some}
 use Rattle.proof_tools.proofs.Lists.{Contains-first, Contains-cons}
@@ -10,7 +10,7 @@ use Rattle.peer_proto.specs.Work.{oid_of, policy_of}
 use Rattle.peer_proto.specs.declared.work.ObjWork.{ObjWork}
 use Rattle.peer_proto.specs.declared.work.ObjWork.TheVariants as obj_works
 use Rattle.gateway.specs.declared.message.Message.{Message}
-use Rattle.gateway.specs.Work.{is_making, targets_asked}
+use Rattle.gateway.specs.Work.{asks_all, is_making, read_from, targets_asked}
 use Rattle.gateway.specs.Attempt.{message_for}
 
 -- the message at a place
@@ -41,6 +41,15 @@ targets-of_making (obj_works.Create oid policy size offset bytes) ended targets 
 targets-of_making (obj_works.Write oid policy offset bytes) ended targets making = refl
 targets-of_making (obj_works.Read oid policy offset size) ended targets making = absurd (cc (making))
 targets-of_making (obj_works.ReadAll oid policy size) ended targets making = absurd (cc (making))
+
+-- so does each work that asks all
+pub targets-of_all : (work : ObjWork) (ended : ℕ) (targets : List NodeId) → asks_all work ≡ true
+    → targets_asked work ended targets ≡ enumerate_from 0 targets
+targets-of_all (obj_works.Create oid policy size offset bytes) ended targets all = refl
+targets-of_all (obj_works.Write oid policy offset bytes) ended targets all = refl
+targets-of_all (obj_works.Read oid policy offset size) ended targets all =
+    ap (λ (b : Bool). read_from b ended (enumerate_from 0 targets)) all
+targets-of_all (obj_works.ReadAll oid policy size) ended targets all = refl
 
 pub contains_at : {X : Type 0} (xs : List X) (place : ℕ) (x : X) → slice_get xs place ≡ Some x → Contains xs x
 contains_at [] place x got = absurd (cc (got))

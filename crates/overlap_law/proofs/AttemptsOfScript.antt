@@ -73,7 +73,7 @@ module _ (script : List Statement) where
     of_change so_far next (changes.Rejects session req ask cause arrival) known me = none_begins
     of_change so_far next (changes.Recovers due) known me = none_begins
 
-  abbrev AreForRequests : MomentWithPast → Type 0
+  abbrev pub AreForRequests : MomentWithPast → Type 0
   AreForRequests moment = AllAttempts (IsForARequest script) moment.past.attempts
 
   module _ (range : RunsAreInRange script) where
@@ -89,7 +89,7 @@ module _ (script : List Statement) where
         (me_so_far script start.world stepping (known_step script range start.world began stepping is) next (changes.Then within.leads within.change)))
         all
 
-    kept_for : KeptByChanges script AreForRequests
+    pub kept_for : KeptByChanges script AreForRequests
     kept_for = record { opens = λ j attempt got. absurd (cc (got)); keeps = λ start before after began change all. change_for start before after began change all }
 
     pub change_of_script : (start before after : MomentWithPast) → Began script start.world → MomentChange script start before after

@@ -1,5 +1,7 @@
--- At each event the entries of nodes' commands that are on their way stay awaited; so they are in each world of a run, and along its trails.
-use Rattle.std.proofs.Common.{◌≡◌, ◌≢◌, ⊎_elim, arith, ℕ, ◌+◌, ◌≤◌, Bool, true, false, List, [], ◌∷◌, ◌++◌, drop, length, Option, Some, None, is_some, refl, sym, ap, subst, ◌∙◌}
+-- At each event the entries of nodes' commands that are on their way stay awaited; so they are in each world of a run, and along its
+-- trails.
+use Rattle.std.proofs.Common.{◌≡◌, ◌≢◌, ⊎_elim, arith, ℕ, ◌+◌, ◌≤◌, Bool, true, false, List, [], ◌∷◌, ◌++◌, drop, length, Option, Some}
+use Rattle.std.proofs.Common.{None, is_some, refl, sym, ap, subst, ◌∙◌}
 use Rattle.std.specs.FinMap as tree
 use Rattle.std.proofs.lemmas.Bool.{cases_eq}
 use Rattle.std.proofs.Math.Seq.{drop-length}
@@ -12,44 +14,45 @@ use Rattle.cluster_script.specs.declared.statement.Statement.TheVariants as line
 use Rattle.cluster_script.specs.Settings.{tries_of, vnodes_of}
 use Rattle.sheep_node.specs.declared.event.Event.{Event}
 use Rattle.sheep_node.specs.declared.input.Input.TheVariants as inputs
-use Rattle.sheep_node.specs.Changes as changes
 use Rattle.sheep_node.specs.Changes.{input_received}
-use Rattle.sheep_node.specs.StepState.{at_first}
+use Rattle.sheep_node.specs.StepState.{at_first, StepState}
 use Rattle.sheep_node.specs.State as nodes
 use Rattle.sheep_node.specs.Step.{node_step}
 use Rattle.sheep_node.proofs.StepChain.{step_chain}
 use Rattle.sheep_world.specs.World.{Host, World}
 use Rattle.sheep_world.specs.Began.{Began}
-use Rattle.sheep_world.specs.EventKinds.{log_after_return, EventKind, NodeStep, UntoldLoss, UnreadDelivery, NodeLoss, NodeLeave, NodeReweight, NodeJoin, NodeReturn, PhaseEnd}
+use Rattle.sheep_world.specs.EventKinds.{log_after_return, EventKind, NodeStep, UntoldLoss, UnreadDelivery, NodeLoss, NodeLeave}
+use Rattle.sheep_world.specs.EventKinds.{NodeReweight, NodeJoin, NodeReturn, PhaseEnd}
 use Rattle.sheep_world.specs.HostChanges.{joined_host, host_after_return}
 use Rattle.sheep_world.specs.MembershipChanges.{lost_host, join_of, last_weight}
 use Rattle.sheep_world.specs.NodeCauses.{input_of_cause}
 use Rattle.sheep_world.specs.Opening.{format_entry, initial_world}
-use Rattle.sheep_world.specs.Step.{EventOutcome, step}
-use Rattle.sheep_world.proofs.BegunWorlds.{by_induction, goes_on}
+use Rattle.sheep_world.specs.Step.{EventOutcome}
+use Rattle.sheep_world.proofs.BegunWorlds.{by_induction}
 use Rattle.sheep_world.proofs.ControlLaws.{next_fits}
 use Rattle.sheep_world.proofs.EventInversion.{happens}
 use Rattle.sheep_world.proofs.LogFrontLaws.{all_read}
 use Rattle.sheep_world.proofs.WireAtOpening.{opening_found}
 use Rattle.overlap_law.specs.AwaitedEntries.{IsCommandEntry, CommandEntriesAreAwaited, CommandsAreTheSessions}
 use Rattle.overlap_law.specs.Past.{MomentWithPast, run_with_past}
-use Rattle.overlap_law.specs.MomentChanges as moments
 use Rattle.overlap_law.specs.MomentChanges.{MomentChange, MomentTrail, RunsAreInRange}
 use Rattle.overlap_law.specs.Reached.{Hosts}
-use Rattle.overlap_law.specs.StepMoments.{first_in_step, last_in_step}
+use Rattle.overlap_law.specs.StepMoments.{first_in_step, SteppingNode, IsStepping, StepsByChanges, LeadsInStep, moment_in_step}
 use Rattle.overlap_law.proofs.AwaitedChanges.{IsOwnCourse}
 use Rattle.overlap_law.proofs.AwaitedEntriesInMoments.{unread_of, AreAwaitedAmong, unread_more, meets_otherwise, along_chain, step_awaited}
 use Rattle.overlap_law.proofs.AwaitedInputs.{AreAwaitedAt, IsThen, none_awaited, back_awaited, received_awaited, one_more_unread}
 use Rattle.overlap_law.proofs.CountedEntries.{times, once_if, times-append, times-push, times-none, none_of_them}
 use Rattle.overlap_law.proofs.KnownSteps.{together}
 use Rattle.overlap_law.proofs.NoRecoveredDue.{began-with_past}
+use Rattle.overlap_law.proofs.ClosedWorlds.{world_after, world_along}
 
 -- ---- an entry that no node puts
 
 abbrev pub IsNobodys : Entry → Type 0
 IsNobodys entry = (me : NodeId) → IsCommandEntry me entry → ⊥
 
-pub no_count : (log : List Entry) (last : Entry) → IsNobodys last → (me : NodeId) (entry : Entry) → IsCommandEntry me entry → times entry log ≡ 0
+pub no_count : (log : List Entry) (last : Entry) → IsNobodys last → (me : NodeId) (entry : Entry) → IsCommandEntry me entry
+    → times entry log ≡ 0
     → times entry (log ++ last ∷ []) ≡ 0
 no_count log last nobodys me entry is none =
     let more : times entry (log ++ last ∷ []) ≡ times entry log + 0
@@ -57,15 +60,18 @@ no_count log last nobodys me entry is none =
     omega (arith, more, none)
 
 module _ (script : List Statement) (range : RunsAreInRange script) where
-  module _ (world : World) (began : Began script world) (all : AreAwaitedAmong world.log world.hosts) (last : Entry) (nobodys : IsNobodys last) where
+  module _ (world : World) (began : Began script world) (all : AreAwaitedAmong world.log world.hosts) (last : Entry)
+      (nobodys : IsNobodys last) where
     each_more : (n : ℕ) (host : Host) → tree.get world.hosts n ≡ Some host → host.is_lost ≡ false
         → AreAwaitedAt (unread_of (world.log ++ last ∷ []) host.node) host.node
     each_more n host there up =
-        subst (λ (unread : List Entry). AreAwaitedAt unread host.node) (sym (unread_more world.log host.node last (all_read script world began n host there)))
+        subst (λ (unread : List Entry). AreAwaitedAt unread host.node)
+        (sym (unread_more world.log host.node last (all_read script world began n host there)))
         (one_more_unread host.node.peer.entries host.node.me (unread_of world.log host.node) host.node.requests host.node.outbox last
         (λ entry is. none_of_them host.node.me entry last is (nobodys host.node.me)) (all.each n host there up))
 
-    absent_more : (n : ℕ) (entry : Entry) → tree.get world.hosts n ≡ None → IsCommandEntry (record { 0 = n }) entry → times entry (world.log ++ last ∷ []) ≡ 0
+    absent_more : (n : ℕ) (entry : Entry) → tree.get world.hosts n ≡ None → IsCommandEntry (record { 0 = n }) entry
+        → times entry (world.log ++ last ∷ []) ≡ 0
     absent_more n entry gone is = no_count world.log last nobodys (record { 0 = n }) entry is (all.absent n entry gone is)
 
     log_awaited : AreAwaitedAmong (world.log ++ last ∷ []) world.hosts
@@ -88,7 +94,8 @@ module _ (script : List Statement) (range : RunsAreInRange script) where
     }
 
   -- a node is lost
-  one_lost : (world : World) (n : ℕ) (host : Host) → AreAwaitedAmong world.log world.hosts → AreAwaitedAmong world.log (tree.insert world.hosts n (lost_host host))
+  one_lost : (world : World) (n : ℕ) (host : Host) → AreAwaitedAmong world.log world.hosts
+      → AreAwaitedAmong world.log (tree.insert world.hosts n (lost_host host))
   one_lost world n host all = record {
     each = λ q other at up. ⊎_elim
         (λ (own : (q ≡ n) × (lost_host host ≡ other)).
@@ -114,7 +121,8 @@ module _ (script : List Statement) (range : RunsAreInRange script) where
       → AreAwaitedAt (unread_of log (node_step (inputs.Back log) host.node).node) (node_step (inputs.Back log) host.node).node
   back_node log host =
       along_chain log (inputs.Back log) host.node (meets_otherwise (inputs.Back log) host.node (λ req session ask from. absurd (cc (from))))
-      (back_awaited host.node log (drop (length log) log) (drop-length log)) (node_step (inputs.Back log) host.node) (step_chain (inputs.Back log) host.node)
+      (back_awaited host.node log (drop (length log) log) (drop-length log)) (node_step (inputs.Back log) host.node)
+      (step_chain (inputs.Back log) host.node)
 
   kept : (event : Event) (world : World) (made : EventOutcome) → Began script world → EventKind script event world made
       → AreAwaitedAmong world.log world.hosts → AreAwaitedAmong made.world.log made.world.hosts
@@ -144,12 +152,13 @@ module _ (script : List Statement) (range : RunsAreInRange script) where
       was_absent : (o : Option Host) → tree.get world.hosts h.n ≡ o → tree.get world.hosts h.n ≡ None
       was_absent None is = is
       was_absent (Some host) is =
-          let none : is_some (tree.get world.hosts h.n) ≡ false = (next_fits script world (lines.Join h.n) h.control (together script range world began).fit).1 in
+          let none : is_some (tree.get world.hosts h.n) ≡ false = (next_fits script world (lines.Join h.n) h.control
+          (together script range world began).fit).1 in
           absurd (cc (sym none ∙ ap (λ (o : Option Host). is_some o) is))
   kept event world made began (NodeReturn h) all =
       subst (λ (m : EventOutcome). AreAwaitedAmong m.world.log m.world.hosts) h.made_so
-      (one_comes world began all (join_of script h.n (last_weight world.log h.n)) (λ me is. is) h.n (host_after_return (log_after_return script h.n world) h.host)
-      (back_node (log_after_return script h.n world) h.host))
+      (one_comes world began all (join_of script h.n (last_weight world.log h.n)) (λ me is. is) h.n
+      (host_after_return (log_after_return script h.n world) h.host) (back_node (log_after_return script h.n world) h.host))
   kept event world made began (PhaseEnd h) all = subst (λ (m : EventOutcome). AreAwaitedAmong m.world.log m.world.hosts) h.made_so all
 
   -- a node that opens, once it received the log's first entry
@@ -181,33 +190,21 @@ module _ (script : List Statement) (range : RunsAreInRange script) where
   -- ---- along trails
 
   module _ (start : MomentWithPast) (began : Began script start.world) where
-    at_start : AreAwaitedAmong start.world.log start.world.hosts
-    at_start = awaited_in_worlds start.world began
+    abbrev Among : World → Type 0
+    Among world = AreAwaitedAmong world.log world.hosts
 
-    at_end : (event : Event) (made : EventOutcome) → step script event start.world ≡ Some made → AreAwaitedAmong made.world.log made.world.hosts
-    at_end event made happened = awaited_in_worlds made.world (goes_on script event start.world made began happened)
+    in_step : (stepping : SteppingNode) → IsStepping script start.world stepping → StepsByChanges stepping.cause → (so_far : StepState)
+        → LeadsInStep stepping (first_in_step stepping) so_far → Among (moment_in_step script stepping start so_far).world
+    in_step stepping is by so_far leads =
+        step_awaited script range start.world began stepping.n stepping.host is.there is.up stepping.cause is.caused
+        (awaited_in_worlds start.world began) so_far leads
 
-    pub awaited_after : {before after : MomentWithPast} → MomentChange script start before after → AreAwaitedAmong after.world.log after.world.hosts
-    awaited_after (moments.StepBegins stepping is by) =
-        step_awaited script range start.world began stepping.n stepping.host is.there is.up stepping.cause is.caused at_start (first_in_step stepping) changes.Still
-    awaited_after (moments.StepGoesOn stepping so_far next is by within) =
-        step_awaited script range start.world began stepping.n stepping.host is.there is.up stepping.cause is.caused at_start next
-        (changes.Then within.leads within.change)
-    awaited_after (moments.StepIsMade stepping is by) =
-        step_awaited script range start.world began stepping.n stepping.host is.there is.up stepping.cause is.caused at_start (last_in_step stepping)
-        (step_chain (input_of_cause stepping.cause) stepping.host.node)
-    awaited_after (moments.LossIsUntold event made happened h) = at_end event made happened
-    awaited_after (moments.DeliveryIsUnread event made happened h) = at_end event made happened
-    awaited_after (moments.NodeIsLost event made happened h) = at_end event made happened
-    awaited_after (moments.NodeLeaves event made happened h) = at_end event made happened
-    awaited_after (moments.NodeIsReweighted event made happened h) = at_end event made happened
-    awaited_after (moments.NodeJoins event made happened h) = at_end event made happened
-    awaited_after (moments.NodeComesBack event made happened h) = at_end event made happened
-    awaited_after (moments.PhaseEnds event made happened h) = at_end event made happened
+    pub awaited_after : {before after : MomentWithPast} → MomentChange script start before after
+        → AreAwaitedAmong after.world.log after.world.hosts
+    awaited_after change = world_after script Among awaited_in_worlds start began in_step change
 
     along_trail : {moment : MomentWithPast} → MomentTrail script start moment → AreAwaitedAmong moment.world.log moment.world.hosts
-    along_trail moments.Still = at_start
-    along_trail (moments.Then trail change) = awaited_after change
+    along_trail trail = world_along script Among awaited_in_worlds start began in_step trail
 
   -- ---- as it is said
 
@@ -223,10 +220,12 @@ module _ (script : List Statement) (range : RunsAreInRange script) where
     pub said_sessions : CommandsAreTheSessions hosts
     said_sessions = record {
       each = λ n host there up req request op got command.
-          subst (IsOwnCourse host.node.peer.entries host.node.me request.session) command ((all.each n host there up).commands.own req request got);
+          subst (IsOwnCourse host.node.peer.entries host.node.me request.session) command
+          ((all.each n host there up).commands.own req request got);
     }
 
-  module _ (events : List Event) (start moment : MomentWithPast) (is : run_with_past script events ≡ Some start) (trail : MomentTrail script start moment) where
+  module _ (events : List Event) (start moment : MomentWithPast) (is : run_with_past script events ≡ Some start)
+      (trail : MomentTrail script start moment) where
     there_along : AreAwaitedAmong moment.world.log moment.world.hosts
     there_along = along_trail start (began-with_past script events start is) trail
 

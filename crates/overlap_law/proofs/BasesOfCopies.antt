@@ -30,10 +30,9 @@ use Rattle.peer_proto.specs.declared.guest.DiskAsk.{DiskAsk}
 use Rattle.peer_proto.specs.declared.guest.VdiAsk.{VdiAsk}
 use Rattle.peer_service.specs.LogReading.{decision_on}
 use Rattle.peer_service.specs.State.{effects_of}
-use Rattle.vdi_ops.specs.Entries.{first_entry}
 use Rattle.vdi_ops.specs.Op.{Op, OpStep, OpStage, Asked, Working, Publishing, Answered, Task, Opening, WritingBack, Tagging, Copying}
 use Rattle.vdi_ops.specs.Op.{Making}
-use Rattle.vdi_ops.specs.Steps.{first_step, begin_command, tag_step, copy_step, step_after_grant, step_after_decision, decided_at}
+use Rattle.vdi_ops.specs.Steps.{begin_command, tag_step, copy_step, step_after_grant, step_after_decision, decided_at}
 use Rattle.vdi_ops.specs.Steps.{on_decision, task_done, done_at, op_on_done}
 use Rattle.sheep_node.specs.declared.course.Course.{Course}
 use Rattle.sheep_node.specs.declared.course.Course.TheVariants.{Waiting, Commanding}
@@ -51,6 +50,7 @@ use Rattle.overlap_law.specs.Each.{spec_in}
 use Rattle.overlap_law.specs.MomentChanges.{MomentChange, MomentTrail, RunsAreInRange, KeptByChanges}
 use Rattle.overlap_law.specs.Past.{MomentWithPast, run_with_past}
 use Rattle.overlap_law.specs.StepMoments.{SteppingNode, IsStepping, IsWithinStep, moment_in_step}
+use Rattle.overlap_law.proofs.ClosedFirstStages.{begins_first}
 use Rattle.overlap_law.proofs.AnswersInMoments.{not_lost}
 use Rattle.overlap_law.proofs.CoursesCome.{StepsNow, courses_come}
 use Rattle.overlap_law.proofs.DraftsOfLogs.{parent_stays}
@@ -122,13 +122,9 @@ module _ (vid : Vid) (ids : List ℕ) (header : Header) where
 
   begins_not : (by : NodeId) (session : ℕ) (ask : VdiAsk) (disk : Option Content) (step : OpStep)
       → begin_command by session ask disk ≡ Some step → IsCopying step.op.stage → ⊥
-  unfolding begin_command
-  begins_not by session ask disk step is at = by_entry (first_entry by session disk ask) is
-    where
-      by_entry : (o : Option Entry) → option_map (first_step by session) o ≡ Some step → ⊥
-      by_entry None is = cc (is)
-      by_entry (Some entry) is =
-          let same = ap (λ (s : OpStep). s.op.stage) (same_Some (first_step by session entry) step is) in cc (same, at)
+  begins_not by session ask disk step is at =
+      let (entry, first) = begins_first by session ask disk step is in
+      let same = ap (λ (s : OpStep). s.op.stage) first in cc (same, at)
 
   task_not : (op : Op) (of : Vid) (bytes : List ℕ) (task : Task) → IsCopying (task_done op of bytes task).op.stage → ⊥
   task_not op of bytes (Opening true own has) at = cc (at)

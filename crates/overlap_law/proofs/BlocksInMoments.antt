@@ -95,7 +95,7 @@ module _ (script : List Statement) (range : RunsAreInRange script) (events : Lis
       (λ mute. both_ways (is_mute was) served (muter mute))
 
   -- what was served is, so what might stay may
-  served_still : (req : ℕ) → WasServed before.past.attempts req → WasServed attempts req
+  pub served_still : (req : ℕ) → WasServed before.past.attempts req → WasServed attempts req
   served_still req was =
       let (fates, there, muter) = grows.stays was.place was.attempt was.there in
       record {

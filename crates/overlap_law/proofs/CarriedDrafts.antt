@@ -1,5 +1,5 @@
--- What the inodes of reserved ids may come to have stays drawn from what the ids are made from over events, by the test for good ids of the
--- moment at which the event ends; so it holds in every run in range, of disks that were available.
+-- What the inodes of reserved ids may come to have stays drawn from what the ids are made from over events, by each test for good ids that
+-- serves on their way; so it holds in every run in range, of disks that were available.
 use Rattle.std.proofs.Common.{◌≡◌, ℕ, ◌==◌, Bool, List, Option, Some, refl, ap, ◌∙◌}
 use Rattle.std.proofs.lemmas.Bool.{eq-eqb, or_left}
 use Rattle.object_id.specs.declared.entry.Entry.{Entry}
@@ -16,24 +16,23 @@ use Rattle.vdi_directory.proofs.LineLemmas.{above-line, line-log_effects}
 use Rattle.sheep_node.specs.declared.event.Event.{Event}
 use Rattle.sheep_world.specs.Opening.{initial_world}
 use Rattle.overlap_law.specs.Drafts.{IsReservedEntry}
-use Rattle.overlap_law.specs.MomentChanges.{MomentTrail, TrailLeft, RunsAreInRange, Next}
+use Rattle.overlap_law.specs.HistoryStands.{CallsAvailable}
+use Rattle.overlap_law.specs.MomentChanges.{MomentTrail, TrailLeft, RunsAreInRange}
 use Rattle.overlap_law.specs.NamedWorks.{AboveIsGood}
 use Rattle.overlap_law.specs.Overlap.{CallsFewer}
 use Rattle.overlap_law.specs.Past.{MomentWithPast, first_moment, next_moment, run_with_past}
 use Rattle.overlap_law.specs.StayingDrafts.{DraftsStayDrawn, ParentsAreGood}
-use Rattle.overlap_law.proofs.CarriedInodes.{inodes-on_the_way}
-use Rattle.overlap_law.proofs.CarriedTables.{tables-on_the_way}
 use Rattle.overlap_law.proofs.ClonesDrawn.{clones_drawn}
 use Rattle.overlap_law.proofs.DraftsOfLogs.{state_reserved}
 use Rattle.overlap_law.proofs.DraftsStay.{drafts_stay}
 use Rattle.overlap_law.proofs.DrawnInodes.{inodes_drawn}
-use Rattle.overlap_law.proofs.GoodAbove.{above_good_on_the_way}
+use Rattle.overlap_law.proofs.HistoryTests.{test_before, test_at_start, test_of_end, IsKeptByTests, by_tests-in_run, by_tests-on_the_way}
 use Rattle.overlap_law.proofs.MakingInRuns.{each_object}
 use Rattle.overlap_law.proofs.OpeningOverlap.{unused_at_opening}
-use Rattle.overlap_law.proofs.ReadsToComeInRuns.{reads_to_come-by_the_end}
+use Rattle.overlap_law.proofs.ReadsToComeInRuns.{reads_to_come-in_run}
+use Rattle.overlap_law.proofs.ReadsToldTables.{tables_along, inodes_along}
 use Rattle.overlap_law.proofs.SnappedFrozen.{snapshots_frozen}
-use Rattle.overlap_law.proofs.KeptToTheEnd.{good_id_at, IsKeptToTheEnd, OfGoodIds, begins_with_fewer, to_the_end-in_run}
-use Rattle.overlap_law.proofs.KeptToTheEnd.{to_the_end-on_the_way}
+use Rattle.overlap_law.proofs.KeptToTheEnd.{good_id_at}
 
 abbrev pub HasDrafts : (ℕ → Bool) → MomentWithPast → Type 0
 HasDrafts good_id moment = DraftsStayDrawn (log_effects moment.world.log) good_id moment.world.hosts moment.past.attempts
@@ -78,34 +77,42 @@ none_reserved script vid r stands =
     absurd (cc (reserved, unused))
 
 module _ (script : List Statement) (range : RunsAreInRange script) where
-  kept : IsKeptToTheEnd script (OfGoodIds HasDrafts)
+  kept : IsKeptByTests script HasDrafts
   kept = record {
-    begins = begins_with_fewer script HasDrafts fewer_drafts;
+    fewer = fewer_drafts;
     opens = record {
       bases = λ vid index draft. none_reserved script vid draft.reservation draft.stands;
       inodes = λ vid index draft. none_reserved script vid draft.reservation draft.stands;
       works = λ n host at up req work has vid index draft. none_reserved script vid draft.reservation draft.stands;
     };
-    keeps = λ events event start end before after way drafts.
-        let named = tables-on_the_way script range events event start end way.run way.happens way.behind (Next way.change way.left) in
-        let inodes = inodes-on_the_way script range events event start end way.run way.happens way.behind (Next way.change way.left) in
-        let were_good = parents_good before.world.log (good_id_at end) (above_good_on_the_way script (Next way.change way.left)) in
-        let are_good = parents_good after.world.log (good_id_at end) (above_good_on_the_way script way.left) in
-        drafts_stay script range events start before after way.run way.behind way.change (good_id_at end)
-        (inodes_drawn script range events start before way.run way.behind (good_id_at end)
-        (clones_drawn script range events start before way.run way.behind (good_id_at end)
-        (reads_to_come-by_the_end script range events start before way.run way.behind event end way.happens) each_object (λ oid. refl)
+    keeps = λ events event start end before after way good_id test drafts.
+        let was = test_before script way.change good_id test in
+        let at_start = test_at_start script way.change good_id was in
+        let named = tables_along script range events start way.run good_id test.fewer at_start way.behind in
+        let inodes = inodes_along script range events start way.run good_id test.fewer at_start way.behind in
+        let were_good = parents_good before.world.log good_id was.above in
+        let are_good = parents_good after.world.log good_id test.above in
+        drafts_stay script range events start before after way.run way.behind way.change good_id
+        (inodes_drawn script range events start before way.run way.behind good_id
+        (clones_drawn script range events start before way.run way.behind good_id
+        (reads_to_come-in_run script range events start before way.run way.behind good_id test.fewer) each_object (λ oid. refl)
         named.inodes.entries were_good drafts))
         are_good
-        (snapshots_frozen before.world.log (good_id_at end) before.world.hosts before.past.attempts inodes.frozen) drafts;
+        (snapshots_frozen before.world.log good_id before.world.hosts before.past.attempts inodes.frozen) drafts;
   }
 
   pub drafts-in_run : (events : List Event) (moment : MomentWithPast) → run_with_past script events ≡ Some moment
       → HasDrafts (good_id_at moment) moment
-  drafts-in_run = to_the_end-in_run script (OfGoodIds HasDrafts) kept
+  drafts-in_run = by_tests-in_run script HasDrafts kept
 
-  -- by the test of the end, at each moment on the way of an event
+  -- by each test that serves, at each moment on the way of an event
+  pub drafts-by_tests : (events : List Event) (event : Event) (start end : MomentWithPast) → run_with_past script events ≡ Some start
+      → next_moment script event start ≡ Some end → (good_id : ℕ → Bool) → {moment : MomentWithPast} → MomentTrail script start moment
+      → TrailLeft script start moment end → CallsAvailable start moment good_id → HasDrafts good_id moment
+  drafts-by_tests = by_tests-on_the_way script HasDrafts kept
+
   pub drafts-on_the_way : (events : List Event) (event : Event) (start end : MomentWithPast) → run_with_past script events ≡ Some start
       → next_moment script event start ≡ Some end → {moment : MomentWithPast} → MomentTrail script start moment
       → TrailLeft script start moment end → HasDrafts (good_id_at end) moment
-  drafts-on_the_way = to_the_end-on_the_way script (OfGoodIds HasDrafts) kept
+  drafts-on_the_way events event start end run happens trail left =
+      drafts-by_tests events event start end run happens (good_id_at end) trail left (test_of_end script event start end happens left)

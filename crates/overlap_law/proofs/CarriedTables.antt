@@ -1,21 +1,20 @@
--- What tables name, and what attempts and works give to inodes, stands for what was created: over events, by the test for good ids of the
--- moment at which the event ends, so that it holds in every run in range, of disks that were available.
+-- What tables name, and what attempts and works give to inodes, stands for what was created, whether or not the disks were available: in
+-- every run in range, and at each moment on the way of an event. So it is of the ids that a test calls good.
 use Rattle.std.proofs.Common.{◌≡◌, ℕ, Bool, List, Some, refl}
 use Rattle.vdi_directory.specs.Decisions.{log_effects}
 use Rattle.cluster_script.specs.declared.statement.Statement.{Statement}
 use Rattle.sheep_node.specs.declared.event.Event.{Event}
 use Rattle.overlap_law.specs.MadeTables.{TablesNameWhatIsMade}
-use Rattle.overlap_law.specs.MomentChanges.{MomentTrail, TrailLeft, RunsAreInRange, Next}
+use Rattle.overlap_law.specs.MomentChanges.{MomentTrail, RunsAreInRange, Still}
 use Rattle.overlap_law.specs.NamedWorks.{InodesNameWhatIsMade}
 use Rattle.overlap_law.specs.Overlap.{CallsFewer}
-use Rattle.overlap_law.specs.Past.{MomentWithPast, first_moment, next_moment, run_with_past}
-use Rattle.overlap_law.proofs.GoodAbove.{above_good_on_the_way}
+use Rattle.overlap_law.specs.Past.{MomentWithPast, first_moment, run_with_past}
+use Rattle.overlap_law.specs.Tables.{every_id}
+use Rattle.overlap_law.proofs.KeptInRuns.{KeptOnTheWay, kept_on_the_way}
 use Rattle.overlap_law.proofs.MadeTables.{tables_stay_made}
 use Rattle.overlap_law.proofs.MakingInRuns.{each_object}
 use Rattle.overlap_law.proofs.NamesKept.{names_kept, names_of_fewer, names_open}
 use Rattle.overlap_law.proofs.OpeningOverlap.{no_request, no_session}
-use Rattle.overlap_law.proofs.KeptToTheEnd.{IsKeptToTheEnd, OfGoodIds, begins_with_fewer, to_the_end-in_run}
-use Rattle.overlap_law.proofs.KeptToTheEnd.{to_the_end-on_the_way}
 pub use Rattle.overlap_law.proofs.KeptToTheEnd.{good_id_at}
 
 -- what is carried of a moment, of the ids that a test calls good
@@ -36,41 +35,47 @@ fewer_tables few many moment fewer said = record {
       said.to_open n host up_at up req request inode got at (fewer inode.vid good);
 }
 
+-- and so is all that is carried
+fewer_carried : (few many : ℕ → Bool) (moment : MomentWithPast) → CallsFewer few many → CarriesTables many moment → CarriesTables few moment
+fewer_carried few many moment fewer carries = record {
+  inodes = names_of_fewer each_object few many moment fewer carries.inodes;
+  tables = fewer_tables few many moment fewer carries.tables;
+}
+
 module _ (script : List Statement) (range : RunsAreInRange script) where
-  kept : IsKeptToTheEnd script (OfGoodIds CarriesTables)
-  kept = record {
-    begins = begins_with_fewer script CarriesTables (λ few many moment fewer carries. record {
-      inodes = names_of_fewer each_object few many moment fewer carries.inodes;
-      tables = fewer_tables few many moment fewer carries.tables;
-    });
-    opens = record {
-      inodes = names_open script range each_object (good_id_at (first_moment script));
+  opens : CarriesTables every_id (first_moment script)
+  opens = record {
+    inodes = names_open script range each_object every_id;
+    tables = record {
       tables = record {
-        tables = record {
-          each = λ n host at up number index session disk of. no_session script n host at number session of;
-        };
-        to_open = λ n host at up req request inode there. no_request script n host at req request there;
+        each = λ n host at up number index session disk of. no_session script n host at number session of;
       };
+      to_open = λ n host at up req request inode there. no_request script n host at req request there;
     };
-    keeps = λ events event start end before after way carries.
-        let above = above_good_on_the_way script (Next way.change way.left) in
-        record {
-          inodes = names_kept script range events start before after way.run way.behind way.change each_object (good_id_at end)
-              (λ oid some alive. refl) above carries.tables.tables carries.inodes;
-          tables = tables_stay_made script range events start before after way.run way.behind way.change each_object (good_id_at end)
-              (λ oid some alive. refl) above carries.inodes.entries carries.tables;
-        };
   }
+
+  keeps : KeptOnTheWay script (CarriesTables every_id)
+  keeps events start before after run trail change carries = record {
+    inodes = names_kept script range events start before after run trail change each_object every_id (λ oid some alive. refl)
+        (λ elder vid above good. refl) carries.tables.tables carries.inodes;
+    tables = tables_stay_made script range events start before after run trail change each_object every_id (λ oid some alive. refl)
+        (λ elder vid above good. refl) carries.inodes.entries carries.tables;
+  }
+
+  -- of each id, at each moment on the way of an event
+  pub all_tables-on_the_way : (events : List Event) (start moment : MomentWithPast) → run_with_past script events ≡ Some start
+      → MomentTrail script start moment → CarriesTables every_id moment
+  all_tables-on_the_way = kept_on_the_way script (CarriesTables every_id) opens keeps
+
+  -- of those that a test calls good
+  pub some_tables-on_the_way : (good_id : ℕ → Bool) (events : List Event) (start moment : MomentWithPast)
+      → run_with_past script events ≡ Some start → MomentTrail script start moment → CarriesTables good_id moment
+  some_tables-on_the_way good_id events start moment run trail =
+      fewer_carried good_id every_id moment (λ vid good. refl) (all_tables-on_the_way events start moment run trail)
 
   pub tables-in_run : (events : List Event) (moment : MomentWithPast) → run_with_past script events ≡ Some moment
       → CarriesTables (good_id_at moment) moment
-  tables-in_run = to_the_end-in_run script (OfGoodIds CarriesTables) kept
-
-  -- by the test of the end, at each moment on the way of an event
-  pub tables-on_the_way : (events : List Event) (event : Event) (start end : MomentWithPast) → run_with_past script events ≡ Some start
-      → next_moment script event start ≡ Some end → {moment : MomentWithPast} → MomentTrail script start moment
-      → TrailLeft script start moment end → CarriesTables (good_id_at end) moment
-  tables-on_the_way = to_the_end-on_the_way script (OfGoodIds CarriesTables) kept
+  tables-in_run events moment run = some_tables-on_the_way (good_id_at moment) events moment moment run Still
 
 -- whichever objects are live
 pub inodes_where : (live good_id : ℕ → Bool) (moment : MomentWithPast) → InodesNameWhatIsMade each_object good_id moment

@@ -5,7 +5,8 @@ use Rattle.sheep_node.specs.May.{has_numbers}
 use Rattle.std.proofs.lemmas.Bool.{not-true, and_parts}
 use Rattle.overlap_law.proofs.CountedEntries.{times, times-none}
 use Rattle.overlap_law.proofs.ClaimsAtPuts.{snapshot_writes}
-use Rattle.std.proofs.Common.{◌≡◌, ◌≢◌, ⊎_elim, ℕ, ◌≤◌, true, false, List, [], ◌∷◌, ◌++◌, All, drop, length, Some, None, refl, sym, ap, subst, ◌∙◌, append_assoc, arith, not}
+use Rattle.std.proofs.Common.{◌≡◌, ◌≢◌, ⊎_elim, ℕ, ◌≤◌, true, false, List, [], ◌∷◌, ◌++◌, All, drop, length, Some, None, refl, sym, ap}
+use Rattle.std.proofs.Common.{subst, ◌∙◌, append_assoc, arith, not}
 use Rattle.std.specs.FinMap as tree
 use Rattle.std.specs.List.{slice_get}
 use Rattle.std.proofs.lemmas.List.{length-append}
@@ -24,7 +25,6 @@ use Rattle.sheep_node.specs.declared.course.Request.{Request}
 use Rattle.sheep_node.specs.declared.event.Event.{Event}
 use Rattle.sheep_node.specs.declared.input.Input.{Input}
 use Rattle.sheep_node.specs.declared.input.Input.TheVariants as inputs
-use Rattle.sheep_node.specs.Changes as changes
 use Rattle.sheep_node.specs.Changes.{input_received, Leads}
 use Rattle.sheep_node.specs.OwnEntries.{IsEntryOf}
 use Rattle.sheep_node.specs.State as nodes
@@ -35,14 +35,16 @@ use Rattle.sheep_node.specs.StepState.{StepState, at_first}
 use Rattle.sheep_node.proofs.StepChain.{step_chain}
 use Rattle.sheep_world.specs.World.{Host, World, is_host_up}
 use Rattle.sheep_world.specs.Began.{Began}
-use Rattle.sheep_world.specs.EventKinds.{log_after_return, EventKind, NodeStep, UntoldLoss, UnreadDelivery, NodeLoss, NodeLeave, NodeReweight, NodeJoin, NodeReturn, PhaseEnd}
+use Rattle.sheep_world.specs.EventKinds.{log_after_return, EventKind, NodeStep, UntoldLoss, UnreadDelivery, NodeLoss, NodeLeave}
+use Rattle.sheep_world.specs.EventKinds.{NodeReweight, NodeJoin, NodeReturn, PhaseEnd}
 use Rattle.sheep_world.specs.HostChanges.{joined_host, host_after_return}
 use Rattle.sheep_world.specs.LogFronts.{IsFront}
 use Rattle.sheep_world.specs.MembershipChanges.{lost_host, join_of, last_weight}
-use Rattle.sheep_world.specs.NodeCauses.{NodeCause, GuestAsks, RequestComes, ReplyComes, LossIsTold, EntryIsRead, EntryIsPut, RecoveryTicks, WorkIsRetried, input_of_cause, IsCause, host_with_node, log_after_cause}
+use Rattle.sheep_world.specs.NodeCauses.{NodeCause, GuestAsks, RequestComes, ReplyComes, LossIsTold, EntryIsRead, EntryIsPut, RecoveryTicks}
+use Rattle.sheep_world.specs.NodeCauses.{WorkIsRetried, input_of_cause, IsCause, host_with_node, log_after_cause}
 use Rattle.sheep_world.specs.Opening.{format_entry, initial_world}
-use Rattle.sheep_world.specs.Step.{EventOutcome, step}
-use Rattle.sheep_world.proofs.BegunWorlds.{by_induction, goes_on}
+use Rattle.sheep_world.specs.Step.{EventOutcome}
+use Rattle.sheep_world.proofs.BegunWorlds.{by_induction}
 use Rattle.sheep_world.proofs.EventInversion.{happens}
 use Rattle.sheep_world.proofs.LogFrontLaws.{all_read, next_after}
 use Rattle.sheep_world.proofs.NodesByTheLog.{knows_its_number}
@@ -50,22 +52,23 @@ use Rattle.sheep_world.proofs.WireAtOpening.{opening_found}
 use Rattle.overlap_law.specs.AwaitedEntries.{IsSessionsCommand, IsCommandEntry}
 use Rattle.overlap_law.specs.Grants.{writer_of}
 use Rattle.overlap_law.specs.Past.{MomentWithPast, run_with_past}
-use Rattle.overlap_law.specs.MomentChanges as moments
 use Rattle.overlap_law.specs.MomentChanges.{MomentChange, MomentTrail, RunsAreInRange}
 use Rattle.overlap_law.specs.Reached.{Hosts}
-use Rattle.overlap_law.specs.StepMoments.{first_in_step, last_in_step, SteppingNode, IsStepping}
+use Rattle.overlap_law.specs.StepMoments.{first_in_step, SteppingNode, IsStepping, StepsByChanges, LeadsInStep, moment_in_step}
 use Rattle.overlap_law.specs.WriterClaims.{holder_at, HasClaims, ClaimsAreKept}
 use Rattle.overlap_law.proofs.AwaitedChanges.{AreAwaited, IsOwnCourse}
 use Rattle.overlap_law.proofs.AwaitedEntriesInMoments.{unread_of, meets_otherwise, meets, own_first, own_entries, entries_so}
 use Rattle.overlap_law.proofs.AwaitedInputs.{AreAwaitedAt, back_awaited}
 use Rattle.overlap_law.proofs.AwaitedInRuns.{opening_first, awaited_in_worlds, no_count, new_node}
-use Rattle.overlap_law.proofs.ClaimInputs.{HasClaimsAt, no_claims, LogGoes, received_claimed, rests_claimed, reads_entry, reads_none, back_received, reads_all}
+use Rattle.overlap_law.proofs.ClaimInputs.{HasClaimsAt, no_claims, LogGoes, received_claimed, rests_claimed, reads_entry, reads_none}
+use Rattle.overlap_law.proofs.ClaimInputs.{back_received, reads_all}
 use Rattle.overlap_law.proofs.ClaimRefusals.{Together, chain_kept}
 use Rattle.overlap_law.proofs.ClaimRequests.{IsReadOf}
 use Rattle.overlap_law.proofs.ClaimsElsewhere.{Spares, elsewhere_kept, leave_spares, other_spares, one_nodes}
 use Rattle.overlap_law.proofs.NoRecoveredDue.{began-with_past}
 use Rattle.overlap_law.proofs.OpenDiskChanges.{none_open, received_open}
 use Rattle.overlap_law.proofs.OpenDisksInRuns.{open_in_worlds}
+use Rattle.overlap_law.proofs.ClosedWorlds.{world_after, world_along}
 
 -- a node that steps on the input doesn't come back by it
 abbrev IsNoReturn : Input → Type 0
@@ -361,36 +364,21 @@ module _ (script : List Statement) (range : RunsAreInRange script) where
   -- ---- along trails
 
   module _ (start : MomentWithPast) (began : Began script start.world) where
-    at_start : AreClaimedAmong start.world.log start.world.hosts
-    at_start = claimed_in_worlds start.world began
+    abbrev Among : World → Type 0
+    Among world = AreClaimedAmong world.log world.hosts
 
-    at_end : (event : Event) (made : EventOutcome) → step script event start.world ≡ Some made → AreClaimedAmong made.world.log made.world.hosts
-    at_end event made happened = claimed_in_worlds made.world (goes_on script event start.world made began happened)
+    in_step : (stepping : SteppingNode) → IsStepping script start.world stepping → StepsByChanges stepping.cause → (so_far : StepState)
+        → LeadsInStep stepping (first_in_step stepping) so_far → Among (moment_in_step script stepping start so_far).world
+    in_step stepping is by so_far leads =
+        step_claimed start.world began stepping.n stepping.host is.there is.up (up_not_lost stepping.host is.up)
+        (claimed_in_worlds start.world began) stepping.cause is.caused so_far leads
 
-    in_step : (stepping : SteppingNode) → IsStepping script start.world stepping → (so_far : StepState)
-        → Leads (input_of_cause stepping.cause) stepping.host.node (input_received (input_of_cause stepping.cause) (at_first stepping.host.node)) so_far
-        → AreClaimedAmong (log_after_cause stepping.cause start.world.log)
-        (tree.insert start.world.hosts stepping.n (host_with_node stepping.host so_far.node))
-    in_step stepping is so_far leads =
-        step_claimed start.world began stepping.n stepping.host is.there is.up (up_not_lost stepping.host is.up) at_start stepping.cause is.caused so_far leads
-
-    pub claimed_after : {before after : MomentWithPast} → MomentChange script start before after → AreClaimedAmong after.world.log after.world.hosts
-    claimed_after (moments.StepBegins stepping is by) = in_step stepping is (first_in_step stepping) changes.Still
-    claimed_after (moments.StepGoesOn stepping so_far next is by within) = in_step stepping is next (changes.Then within.leads within.change)
-    claimed_after (moments.StepIsMade stepping is by) =
-        in_step stepping is (last_in_step stepping) (step_chain (input_of_cause stepping.cause) stepping.host.node)
-    claimed_after (moments.LossIsUntold event made happened h) = at_end event made happened
-    claimed_after (moments.DeliveryIsUnread event made happened h) = at_end event made happened
-    claimed_after (moments.NodeIsLost event made happened h) = at_end event made happened
-    claimed_after (moments.NodeLeaves event made happened h) = at_end event made happened
-    claimed_after (moments.NodeIsReweighted event made happened h) = at_end event made happened
-    claimed_after (moments.NodeJoins event made happened h) = at_end event made happened
-    claimed_after (moments.NodeComesBack event made happened h) = at_end event made happened
-    claimed_after (moments.PhaseEnds event made happened h) = at_end event made happened
+    pub claimed_after : {before after : MomentWithPast} → MomentChange script start before after
+        → AreClaimedAmong after.world.log after.world.hosts
+    claimed_after change = world_after script Among claimed_in_worlds start began in_step change
 
     along_trail : {moment : MomentWithPast} → MomentTrail script start moment → AreClaimedAmong moment.world.log moment.world.hosts
-    along_trail moments.Still = at_start
-    along_trail (moments.Then trail change) = claimed_after change
+    along_trail trail = world_along script Among claimed_in_worlds start began in_step trail
 
   pub claims-in_run : (events : List Event) (start moment : MomentWithPast) → run_with_past script events ≡ Some start
       → MomentTrail script start moment → ClaimsAreKept moment.world.log moment.world.hosts

@@ -27,7 +27,7 @@ pub record IsComing (write : CheckWrite) (node : Node) : Type 0 where
   pub comes : write_of_check write.req bytes check ≡ Some write
 
 module _ (write : CheckWrite) where
-  own_request : (req : ℕ) (bytes : List ℕ) (check : Check) (stage : CheckStage)
+  pub own_request : (req : ℕ) (bytes : List ℕ) (check : Check) (stage : CheckStage)
       → option_map (write_of_value req check) (value_at_stage bytes check.spec stage) ≡ Some write → req ≡ write.req
   own_request req bytes check (Comparing index later) is = ap (λ (w : CheckWrite). w.req) (same_Some _ write is)
   own_request req bytes check (WritingBack later) is = absurd (cc (is))

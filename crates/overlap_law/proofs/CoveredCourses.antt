@@ -42,11 +42,12 @@ use Rattle.sheep_node.proofs.SessionViews.{IsSeen, same_seen, alike_seen, free_s
 use Rattle.sheep_node.proofs.StepChain.{kept_by_chain}
 use Rattle.sheep_node.proofs.ReceivedInputs.{received_keeps}
 use Rattle.sheep_node.proofs.WantedSteps.{driver_begins-wanted, driver_goes_on-wanted}
-use Rattle.overlap_law.proofs.CoveredPieces.{CoversPiece, begins_covered, goes_on_keeps, run_is_queued}
+use Rattle.overlap_law.proofs.CoveredPieces.{CoversPiece, all_covered, begins_covered, goes_on_keeps, run_is_queued}
 use Rattle.overlap_law.proofs.PiecesBehind.{CoversBehind, begins_behind, goes_on_behind}
 use Rattle.overlap_law.proofs.SeenCourses.{AreSeen, moved_seen, gone_seen, course_seen, lined_seen}
 use Rattle.overlap_law.proofs.ChangeWalk.{ComesNext, freed_holds, kept_by_steps, change_holds}
 use Rattle.guest_driver.specs.InodeQueue.{InodeQueue}
+use Rattle.guest_driver.specs.Pieces.{offset_of, size_of, pieces}
 use Rattle.sheep_node.specs.SessionQueues.{session_among}
 
 -- how large the objects are of the disk that is open
@@ -199,7 +200,9 @@ module _ {input : Input} {node : Node} (may : May input node) (sound : IsSoundSt
       (λ one among same. (
         subst (λ (q : Queued). All (CoversPiece q) (pieces_left (begin_driver disk ask).driver))
             (sym (before disk.inode.spec.shift (ap shift_open on) one among same)) (begins_covered disk req ask),
-        begins_behind disk one ask,
+        begins_behind disk one ask
+            (subst (λ (q : Queued). All (CoversPiece q) (pieces disk.inode.spec.shift (offset_of ask) (size_of ask)))
+            (sym (before disk.inode.spec.shift (ap shift_open on) one among same)) (all_covered disk.inode.spec.shift req ask)),
       ))
       (driver_begins-wanted disk ask).spec all.2
   steps_covered so_far session req next moved (DiskGoesOn number work attempt status bytes driver disk step ends on is) all =

@@ -1,8 +1,8 @@
 -- In each run in range, on the way of an event: what a write of whole copies has read of another disk's object was served there, and each
 -- attempt behind it is doomed, of disks that are available up to the event's end. For the object is a snapshot's, which nothing is written
 -- to any more.
-use Rattle.std.proofs.Common.{◌≡◌, ◌≢◌, ◌⊎◌, inl, inr, ⊎_elim, arith, ℕ, zero, suc, ◌+◌, ◌*◌, ◌-◌, ◌/◌, ◌^◌, ◌≤◌, ◌<◌, Bool, true, false}
-use Rattle.std.proofs.Common.{List, [], ◌∷◌, ◌++◌, Option, Some, IfSome, slice_index, refl, sym, ap, subst, ◌∙◌}
+use Rattle.std.proofs.Common.{◌≡◌, ◌≢◌, ◌⊎◌, inl, inr, ⊎_elim, arith, ℕ, zero, suc, ◌+◌, ◌*◌, ◌-◌, ◌/◌, ◌≤◌, ◌<◌, Bool, true, false}
+use Rattle.std.proofs.Common.{List, [], Option, Some, IfSome, refl, sym, ap, subst, ◌∙◌}
 use Rattle.std.specs.Str.{bytes_eq}
 use Rattle.std.specs.FinMap as tree
 use Rattle.std.proofs.lemmas.List.Elements.{All-head}
@@ -12,14 +12,13 @@ use Rattle.object_id.specs.declared.entry.Entry.{Entry}
 use Rattle.object_id.specs.declared.limits.TheConstants.{OBJECTS_MAX, BLOCK_BYTES}
 use Rattle.object_id.specs.declared.oid.Kind.{Kind}
 use Rattle.object_id.specs.declared.oid.Kind.TheVariants.{Block}
-use Rattle.object_id.specs.Oid.{IsOid, IsVid, kind_of, object_number, vid_of}
+use Rattle.object_id.specs.Oid.{IsVid, kind_of, object_number}
 use Rattle.object_id.specs.Spec.{objects_of}
 use Rattle.object_store.specs.Bytes.{piece_at}
 use Rattle.gf256.specs.Part.{is_in_strips}
 use Rattle.inode.specs.Layout.{IsEntry}
 use Rattle.cluster_script.specs.declared.statement.Statement.{Statement}
 use Rattle.peer_proto.specs.declared.work.ObjWork.{ObjWork}
-use Rattle.peer_proto.specs.Work.{oid_of}
 use Rattle.gateway.specs.Attempt as gateways
 use Rattle.gateway.specs.declared.message.Status.{Status}
 use Rattle.gateway.specs.State.{Work}
@@ -54,8 +53,10 @@ use Rattle.overlap_law.specs.Courses.{WaitsFor}
 use Rattle.overlap_law.specs.Fates.{IsCreated}
 use Rattle.overlap_law.specs.InodesRead.{IsUnitToCome}
 use Rattle.overlap_law.specs.LastReads.{was_snapped}
-use Rattle.overlap_law.specs.MomentChanges.{MomentTrail, TrailLeft, RunsAreInRange}
-use Rattle.overlap_law.specs.Past.{MomentWithPast, next_moment, run_with_past}
+use Rattle.overlap_law.specs.MomentChanges.{MomentTrail, RunsAreInRange}
+use Rattle.overlap_law.specs.NamedWorks.{AboveIsGood}
+use Rattle.overlap_law.specs.Overlap.{CallsFewer}
+use Rattle.overlap_law.specs.Past.{MomentWithPast, run_with_past}
 use Rattle.overlap_law.specs.ServedLast.{IsServedLast, makes_unit, no_work, IsReadOfSnapshot, IsFetchedServed}
 use Rattle.overlap_law.specs.StepMoments.{SteppingNode, IsStepping, StepsByChanges, LeadsInStep, first_in_step, moment_in_step}
 use Rattle.overlap_law.specs.Tables.{IsOfChain}
@@ -65,23 +66,23 @@ use Rattle.overlap_law.specs.WrittenBlocks.{blocks_per_object}
 use Rattle.overlap_law.proofs.AllowedCourses.{IsAllowed, opened_by}
 use Rattle.overlap_law.proofs.AnswersInMoments.{not_lost}
 use Rattle.overlap_law.proofs.CarriedRows.{good_at}
-use Rattle.overlap_law.proofs.CarriedTables.{good_id_at, tables-on_the_way}
+use Rattle.overlap_law.proofs.CarriedTables.{good_id_at}
 use Rattle.overlap_law.proofs.CausedWorks.{HasWellWorks}
 use Rattle.overlap_law.proofs.ClosedSnapshots.{snapped-later}
 use Rattle.overlap_law.proofs.CoveredCourses.{size_and_queue, IsCovered}
 use Rattle.overlap_law.proofs.CreatesFirst.{session_of, inside as inside_table}
-use Rattle.overlap_law.proofs.EndTests.{was_good_id}
 use Rattle.overlap_law.proofs.GoodDisks.{IsBelow, good_below}
 use Rattle.overlap_law.proofs.GrantsOfCommands.{sound_along}
 use Rattle.overlap_law.proofs.ItemsGoOn.{same_bytes}
 use Rattle.overlap_law.proofs.KnownDisks.{FewAt, kind-of_object, vid-of_object}
-use Rattle.overlap_law.proofs.KnownReads.{entry_at, hole_none}
+use Rattle.overlap_law.proofs.KnownReads.{entry_at}
 use Rattle.overlap_law.proofs.LogsInMoments.{log_by_changes}
 use Rattle.overlap_law.proofs.NoRecoveredDue.{began-with_past}
 use Rattle.overlap_law.proofs.OpenTables.{entries_of_chain, whole_tables}
 use Rattle.overlap_law.proofs.PiecesMade.{FetchesAreAsked, fetches_so, pieces-in_run}
 use Rattle.overlap_law.proofs.QueuesInMoments.{HasGoodQueues}
 use Rattle.overlap_law.proofs.ReadsInMoments.{IsReadingWell}
+use Rattle.overlap_law.proofs.ReadsToldTables.{tables_along}
 use Rattle.overlap_law.proofs.ReadUnits.{read_born, read_unit}
 use Rattle.overlap_law.proofs.SharedTables.{IsSharedEntry, IsSharedDisk}
 use Rattle.overlap_law.proofs.TablesOfReads.{queues_along, reading_along, locked}
@@ -106,9 +107,9 @@ fetched_object : (disk : Disk) (payload : List ℕ) (piece : Piece) (rest : List
     → work ≡ read_object disk.inode piece (entry_of disk.inode piece)
 fetched_object disk payload piece rest work is = cc (is)
 
-module _ (script : List Statement) (range : RunsAreInRange script) (events : List Event) (event : Event) (start end : MomentWithPast)
-    (run : run_with_past script events ≡ Some start) (happens : next_moment script event start ≡ Some end) (before : MomentWithPast)
-    (trail : MomentTrail script start before) (left : TrailLeft script start before end) where
+module _ (script : List Statement) (range : RunsAreInRange script) (events : List Event) (start : MomentWithPast)
+    (run : run_with_past script events ≡ Some start) (good_id : ℕ → Bool) (fewer : CallsFewer good_id (good_id_at start))
+    (closed : AboveIsGood (log_effects start.world.log) good_id) (before : MomentWithPast) (trail : MomentTrail script start before) where
   began : Began script start.world
   began = began-with_past script events start run
 
@@ -138,12 +139,12 @@ module _ (script : List Statement) (range : RunsAreInRange script) (events : Lis
 
     -- ---- the object
 
-    inherited : (entry_of disk.inode piece ≢ 0) × (entry_of disk.inode piece ≢ disk.inode.vid)
+    pub inherited : (entry_of disk.inode piece ≢ 0) × (entry_of disk.inode piece ≢ disk.inode.vid)
     inherited =
         fetches_so anything before (pieces-in_run script range events start before run trail) stepping.n was at
         (not_lost stepping.host is.up) req work request disk payload piece rest ends.ends.learns.there ends.ends.request opened refl
 
-    is_read : work.work ≡ read_object disk.inode piece (entry_of disk.inode piece)
+    pub is_read : work.work ≡ read_object disk.inode piece (entry_of disk.inode piece)
     is_read =
         let waits : WaitsFor [] no_id [] (session_among session so_far.node.sessions).disk (Driving (Writes payload Fetching piece rest))
         work.work
@@ -153,13 +154,13 @@ module _ (script : List Statement) (range : RunsAreInRange script) (events : Lis
         fetched_object waits.disk payload piece rest work.work waits.awaited
         ∙ ap (λ (d : Disk). read_object d.inode piece (entry_of d.inode piece)) one
 
-    few : piece.index < OBJECTS_MAX
+    pub few : piece.index < OBJECTS_MAX
     few = All-head FewAt piece rest (well.on_known.courses req request ends.ends.request)
 
     its_session : (one : Session) × (tree.get so_far.node.sessions session ≡ Some one) × (one.disk ≡ Some disk)
     its_session = session_of so_far.node session disk opened
 
-    is_vid : IsVid (entry_of disk.inode piece)
+    pub is_vid : IsVid (entry_of disk.inode piece)
     is_vid =
         let (one, got, on) = its_session in
         let ids = (subst (λ (o : Option Disk). IfSome o (λ (d : Disk). IsSoundInode d.inode)) on
@@ -167,7 +168,7 @@ module _ (script : List Statement) (range : RunsAreInRange script) (events : Lis
         let most : IsEntry (entry_of disk.inode piece) = entry_at IsEntry (omega arith) disk.inode.table piece.index ids.entries in
         (positive (entry_of disk.inode piece) inherited.0, most)
 
-    in_table : piece.index < objects_of disk.inode.spec
+    pub in_table : piece.index < objects_of disk.inode.spec
     in_table =
         let (one, got, on) = its_session in
         let long = (whole_tables script range events start before run trail).each stepping.n was at (not_lost stepping.host is.up) session
@@ -176,7 +177,7 @@ module _ (script : List Statement) (range : RunsAreInRange script) (events : Lis
         omega (arith, long, low)
 
     -- it is a snapshot's
-    snapped : was_snapped before.world.log (entry_of disk.inode piece) ≡ true
+    pub snapped : was_snapped before.world.log (entry_of disk.inode piece) ≡ true
     snapped =
         let shared : IsSharedDisk so_far.node.peer.entries disk
         = subst (λ (o : Option Disk). IfSome o (IsSharedDisk so_far.node.peer.entries)) opened (reading.shared.disks session) in
@@ -193,10 +194,10 @@ module _ (script : List Statement) (range : RunsAreInRange script) (events : Lis
         by_entry (inr (inl own)) = absurd (inherited.1 own)
         by_entry (inr (inr is)) = is
 
-    log_same : before.world.log ≡ start.world.log
+    pub log_same : before.world.log ≡ start.world.log
     log_same = ap (λ (m : MomentWithPast). m.world.log) same ∙ log_by_changes stepping.cause by start.world.log
 
-    below : IsBelow start.world.log disk.inode.vid (object_number (entry_of disk.inode piece) piece.index)
+    pub below : IsBelow start.world.log disk.inode.vid (object_number (entry_of disk.inode piece) piece.index)
     below =
         let (one, got, on) = its_session in
         let its_id = vid-of_object (entry_of disk.inode piece) piece.index is_vid few in
@@ -224,7 +225,7 @@ module _ (script : List Statement) (range : RunsAreInRange script) (events : Lis
         let both : Some (disk.snapshot, disk.inode.vid) ≡ Some (false, vid) = sym (ap opened_as opened) ∙ so in
         ap (λ (pair : Bool × ℕ). pair.0) (same_Some (disk.snapshot, disk.inode.vid) (false, vid) both)
 
-    stands : is_gone (state_of (log_effects start.world.log) disk.inode.vid) ≡ false
+    pub stands : is_gone (state_of (log_effects start.world.log) disk.inode.vid) ≡ false
     stands =
         let queues : HasGoodQueues so_far.node = queues_along script range start began trail stepping.n was at in
         let covered : IsCovered req (size_and_queue (session_among session so_far.node.sessions))
@@ -243,94 +244,94 @@ module _ (script : List Statement) (range : RunsAreInRange script) (events : Lis
     trail_here : MomentTrail script start (moment_in_step script stepping start so_far)
     trail_here = subst (MomentTrail script start) same trail
 
-    module _ (good : good_id_at end disk.inode.vid ≡ true)
-        (alive : is_dead (log_effects before.world.log) disk.inode.vid ≡ false)
-        (whole : is_in_strips disk.inode.spec.policy Block ≡ false) where
-      created : IsCreated (moment_in_step script stepping start so_far).past.attempts
+    module _ (good : good_id disk.inode.vid ≡ true)
+        (alive : is_dead (log_effects before.world.log) disk.inode.vid ≡ false) where
+      pub created : IsCreated (moment_in_step script stepping start so_far).past.attempts
           (object_number (entry_of disk.inode piece) piece.index) so_far.node.peer.epoch
       created =
           let (one, got, on) = its_session in
           subst (λ (m : MomentWithPast). IsCreated m.past.attempts (object_number (entry_of disk.inode piece) piece.index)
           so_far.node.peer.epoch) same
-          ((tables-on_the_way script range events event start end run happens trail left).tables.tables.each stepping.n was at
+          ((tables_along script range events start run good_id fewer closed trail).tables.tables.each stepping.n was at
           (not_lost stepping.host is.up) session piece.index one disk got on good alive in_table inherited.0)
 
-      kind_so : kind_of (object_number (entry_of disk.inode piece) piece.index) ≡ Block
+      pub kind_so : kind_of (object_number (entry_of disk.inode piece) piece.index) ≡ Block
       kind_so = kind-of_object (entry_of disk.inode piece) piece.index is_vid few
 
-      in_copies : is_in_strips disk.inode.spec.policy (kind_of (object_number (entry_of disk.inode piece) piece.index)) ≡ false
-      in_copies = ap (λ (k : Kind). is_in_strips disk.inode.spec.policy k) kind_so ∙ whole
-
-      good_object : IsBorn start.past.attempts (object_number (entry_of disk.inode piece) piece.index)
+      pub good_object : IsBorn start.past.attempts (object_number (entry_of disk.inode piece) piece.index)
           → good_at start (object_number (entry_of disk.inode piece) piece.index) ≡ true
       good_object born =
           good_below start.world.log disk.inode.vid (object_number (entry_of disk.inode piece) piece.index) stands start.past.attempts
-          start.past.unavailable (was_good_id script event start end happens disk.inode.vid good) below born
+          start.past.unavailable (fewer disk.inode.vid good) below born
 
-      module _ (unit : ℕ) (inside : unit < blocks_per_object disk.inode.spec) where
-        under : BLOCK_BYTES * unit + BLOCK_BYTES ≤ object_bytes disk.inode
-        under = ends_inside (object_bytes disk.inode) unit inside
+      module _ (whole : is_in_strips disk.inode.spec.policy Block ≡ false) where
+        in_copies : is_in_strips disk.inode.spec.policy (kind_of (object_number (entry_of disk.inode piece) piece.index)) ≡ false
+        in_copies = ap (λ (k : Kind). is_in_strips disk.inode.spec.policy k) kind_so ∙ whole
 
-        some_size : 1 ≤ object_bytes disk.inode
-        some_size = let end = under in omega (arith, end)
+        module _ (unit : ℕ) (inside : unit < blocks_per_object disk.inode.spec) where
+          under : BLOCK_BYTES * unit + BLOCK_BYTES ≤ object_bytes disk.inode
+          under = ends_inside (object_bytes disk.inode) unit inside
 
-        from_start : 0 ≤ unit_start (kind_of (object_number (entry_of disk.inode piece) piece.index)) unit
-        from_start = omega arith
+          some_size : 1 ≤ object_bytes disk.inode
+          some_size = let end = under in omega (arith, end)
 
-        to_end : unit_end (kind_of (object_number (entry_of disk.inode piece) piece.index)) unit ≤ 0 + object_bytes disk.inode
-        to_end =
-            subst (λ (k : Kind). unit_end k unit ≤ 0 + object_bytes disk.inode) (sym kind_so)
-            (from_zero (BLOCK_BYTES * unit + BLOCK_BYTES) (object_bytes disk.inode) under)
+          from_start : 0 ≤ unit_start (kind_of (object_number (entry_of disk.inode piece) piece.index)) unit
+          from_start = omega arith
 
-        found : IsUnitToCome here.world.hosts here.past.attempts (object_number (entry_of disk.inode piece) piece.index)
-            so_far.node.peer.epoch unit
-            (piece_at bytes (unit_start (kind_of (object_number (entry_of disk.inode piece) piece.index)) unit - 0)
-            (unit_size (kind_of (object_number (entry_of disk.inode piece) piece.index)) unit))
-        found =
-            read_unit script range events start run stepping is by so_far leads trail_here (good_at start)
-            (told_pieces-in_run script range events start run) session req number work attempt status
-            (Driving (Writes payload Fetching piece rest)) bytes ends (object_number (entry_of disk.inode piece) piece.index)
-            disk.inode.spec.policy 0 (object_bytes disk.inode) is_read in_copies
-            (good_object
-            (read_born script range events start run stepping is by so_far leads trail_here (good_at start)
-            (told_pieces-in_run script range events start run) session req number work attempt status
-            (Driving (Writes payload Fetching piece rest)) bytes ends (object_number (entry_of disk.inode piece) piece.index)
-            disk.inode.spec.policy 0 (object_bytes disk.inode) is_read in_copies unit from_start to_end some_size))
-            so_far.node.peer.epoch unit created from_start to_end some_size
+          to_end : unit_end (kind_of (object_number (entry_of disk.inode piece) piece.index)) unit ≤ 0 + object_bytes disk.inode
+          to_end =
+              subst (λ (k : Kind). unit_end k unit ≤ 0 + object_bytes disk.inode) (sym kind_so)
+              (from_zero (BLOCK_BYTES * unit + BLOCK_BYTES) (object_bytes disk.inode) under)
 
-        has_block : bytes_by unit found.one.work ≡ piece_at bytes (BLOCK_BYTES * unit) BLOCK_BYTES
-        has_block =
-            let start_so : BLOCK_BYTES * unit - 0 ≡ BLOCK_BYTES * unit = omega arith in
-            found.same ∙ ap (λ (k : Kind). piece_at bytes (unit_start k unit - 0) (unit_size k unit)) kind_so
-            ∙ ap (λ (from : ℕ). piece_at bytes from BLOCK_BYTES) start_so
+          found : IsUnitToCome here.world.hosts here.past.attempts (object_number (entry_of disk.inode piece) piece.index)
+              so_far.node.peer.epoch unit
+              (piece_at bytes (unit_start (kind_of (object_number (entry_of disk.inode piece) piece.index)) unit - 0)
+              (unit_size (kind_of (object_number (entry_of disk.inode piece) piece.index)) unit))
+          found =
+              read_unit script range events start run stepping is by so_far leads trail_here (good_at start)
+              (told_pieces-in_run script range events start run) session req number work attempt status
+              (Driving (Writes payload Fetching piece rest)) bytes ends (object_number (entry_of disk.inode piece) piece.index)
+              disk.inode.spec.policy 0 (object_bytes disk.inode) is_read in_copies
+              (good_object
+              (read_born script range events start run stepping is by so_far leads trail_here (good_at start)
+              (told_pieces-in_run script range events start run) session req number work attempt status
+              (Driving (Writes payload Fetching piece rest)) bytes ends (object_number (entry_of disk.inode piece) piece.index)
+              disk.inode.spec.policy 0 (object_bytes disk.inode) is_read in_copies unit from_start to_end some_size))
+              so_far.node.peer.epoch unit created from_start to_end some_size
 
-        served_here : IsServedLast (makes_unit unit (piece_at bytes (BLOCK_BYTES * unit) BLOCK_BYTES)) no_work here.world.hosts
-            here.past.attempts (object_number (entry_of disk.inode piece) piece.index) unit
-        served_here = record {
-          place = found.place;
-          one = found.one;
-          there = found.to_come.there;
-          object = found.to_come.object;
-          covers = found.to_come.covers;
-          served = found.served;
-          is = subst (λ (b : List ℕ). bytes_eq (piece_at bytes (BLOCK_BYTES * unit) BLOCK_BYTES) b ≡ true) (sym has_block)
-              (same_bytes (piece_at bytes (BLOCK_BYTES * unit) BLOCK_BYTES));
-          later = λ k other at_it behind object covers. inl (found.behind k other at_it behind object covers);
+          has_block : bytes_by unit found.one.work ≡ piece_at bytes (BLOCK_BYTES * unit) BLOCK_BYTES
+          has_block =
+              let start_so : BLOCK_BYTES * unit - 0 ≡ BLOCK_BYTES * unit = omega arith in
+              found.same ∙ ap (λ (k : Kind). piece_at bytes (unit_start k unit - 0) (unit_size k unit)) kind_so
+              ∙ ap (λ (from : ℕ). piece_at bytes from BLOCK_BYTES) start_so
+
+          served_here : IsServedLast (makes_unit unit (piece_at bytes (BLOCK_BYTES * unit) BLOCK_BYTES)) no_work here.world.hosts
+              here.past.attempts (object_number (entry_of disk.inode piece) piece.index) unit
+          served_here = record {
+            place = found.place;
+            one = found.one;
+            there = found.to_come.there;
+            object = found.to_come.object;
+            covers = found.to_come.covers;
+            served = found.served;
+            is = subst (λ (b : List ℕ). bytes_eq (piece_at bytes (BLOCK_BYTES * unit) BLOCK_BYTES) b ≡ true) (sym has_block)
+                (same_bytes (piece_at bytes (BLOCK_BYTES * unit) BLOCK_BYTES));
+            later = λ k other at_it behind object covers. inl (found.behind k other at_it behind object covers);
+          }
+
+        read_of_snapshot : IsReadOfSnapshot before.world.log before.world.hosts before.past.attempts disk.inode.spec
+            (entry_of disk.inode piece) piece.index bytes
+        read_of_snapshot = record {
+          id = is_vid;
+          few = few;
+          snapped = snapped;
+          served = λ unit inside.
+              subst (λ (m : MomentWithPast). IsServedLast (makes_unit unit (piece_at bytes (BLOCK_BYTES * unit) BLOCK_BYTES)) no_work
+              m.world.hosts m.past.attempts (object_number (entry_of disk.inode piece) piece.index) unit) (sym same)
+              (served_here unit inside);
         }
 
-      read_of_snapshot : IsReadOfSnapshot before.world.log before.world.hosts before.past.attempts disk.inode.spec
-          (entry_of disk.inode piece) piece.index bytes
-      read_of_snapshot = record {
-        id = is_vid;
-        few = few;
-        snapped = snapped;
-        served = λ unit inside.
-            subst (λ (m : MomentWithPast). IsServedLast (makes_unit unit (piece_at bytes (BLOCK_BYTES * unit) BLOCK_BYTES)) no_work
-            m.world.hosts m.past.attempts (object_number (entry_of disk.inode piece) piece.index) unit) (sym same)
-            (served_here unit inside);
-      }
-
-  pub fetches_served : FetchesAreAsked (IsFetchedServed before.world.log (good_id_at end) before.world.hosts before.past.attempts) script
+  pub fetches_served : FetchesAreAsked (IsFetchedServed before.world.log good_id before.world.hosts before.past.attempts) script
       start before
   fetches_served = λ stepping so_far is by leads same session req number work attempt status payload bytes piece rest disk ends opened.
       λ good alive whole.

@@ -1,7 +1,7 @@
 -- What writes that create their objects read of other disks' objects stays as it was served there, over events, by the test for good ids of
 -- the moment at which the event ends; so it does in every run in range, of disks of whole copies that were available. For those objects are
 -- snapshots', and nothing begins on them.
-use Rattle.std.proofs.Common.{◌≡◌, ⊎_elim, arith, ℕ, ◌<◌, ◌*◌, Bool, true, false, List, [], ◌∷◌, ◌++◌, length, Some, slice_get}
+use Rattle.std.proofs.Common.{◌≡◌, ⊎_elim, arith, ℕ, ◌*◌, Bool, true, List, [], ◌∷◌, ◌++◌, length, Some, slice_get}
 use Rattle.std.proofs.Common.{sym, ap, ◌∙◌}
 use Rattle.std.proofs.lemmas.Option.{slice_get_within}
 use Rattle.object_id.specs.declared.entry.Entry.{Entry}
@@ -20,8 +20,9 @@ use Rattle.sheep_world.specs.NodeCauses.{host_with_node}
 use Rattle.overlap_law.specs.Attempts.{AttemptRecord, object_of}
 use Rattle.overlap_law.specs.CreatedPieces.{CreatesAreOf}
 use Rattle.overlap_law.specs.Grants.{writer_of}
+use Rattle.overlap_law.specs.HistoryStands.{CallsAvailable}
 use Rattle.overlap_law.specs.LastReads.{was_snapped}
-use Rattle.overlap_law.specs.MomentChanges.{MomentTrail, MomentChange, TrailLeft, RunsAreInRange, Still, Then, AtEnd, Next}
+use Rattle.overlap_law.specs.MomentChanges.{MomentTrail, MomentChange, TrailLeft, RunsAreInRange, Then}
 use Rattle.overlap_law.specs.Overlap.{CallsFewer}
 use Rattle.overlap_law.specs.Past.{MomentWithPast, first_moment, next_moment, run_with_past}
 use Rattle.overlap_law.specs.ServedLast.{makes_unit, no_work, IsReadOfSnapshot, IsFetchedServed}
@@ -29,13 +30,11 @@ use Rattle.overlap_law.proofs.CarriedTables.{good_id_at}
 use Rattle.overlap_law.proofs.ClosedSnapshots.{snapped-later, snapped-no_writer}
 use Rattle.overlap_law.proofs.CreatedFetches.{fetches_served}
 use Rattle.overlap_law.proofs.AttemptLists.{got_last}
-use Rattle.overlap_law.proofs.EndTests.{was_good_id}
 use Rattle.overlap_law.proofs.GrantedAttempts.{only_writer-in_run}
-use Rattle.overlap_law.proofs.KeptInRuns.{kept_at_events}
+use Rattle.overlap_law.proofs.HistoryTests.{test_before, test_at_start, IsKeptByTests, by_tests-on_the_way}
 use Rattle.overlap_law.proofs.KnownDisks.{vid-of_object}
 use Rattle.overlap_law.proofs.LogsInMoments.{LogGrows, log_grows}
 use Rattle.overlap_law.proofs.LogsOfMoments.{log_of_change}
-use Rattle.overlap_law.proofs.MomentTrails.{event_trail}
 use Rattle.overlap_law.proofs.NamedEntries.{opened_there, opened_up}
 use Rattle.overlap_law.proofs.NewAttempts.{IsOpened, WasAttempt, come_from}
 use Rattle.overlap_law.proofs.NoRecoveredDue.{began-with_past}
@@ -65,7 +64,7 @@ module _ (script : List Statement) (range : RunsAreInRange script) (events : Lis
   grows : LogGrows before.world.log after.world.log
   grows = log_grows script change
 
-  snapped_still : (home : ℕ) → was_snapped before.world.log home ≡ true → was_snapped after.world.log home ≡ true
+  pub snapped_still : (home : ℕ) → was_snapped before.world.log home ≡ true → was_snapped after.world.log home ≡ true
   snapped_still home snapped =
       ap (λ (log : List Entry). was_snapped log home) grows.is ∙ (snapped-later before.world.log home snapped grows.rest).0
 
@@ -113,46 +112,23 @@ module _ (script : List Statement) (range : RunsAreInRange script) (events : Lis
       (served good (lived before.world.log after.world.log (log_of_change script change) vid alive) whole)) after
 
 module _ (script : List Statement) (range : RunsAreInRange script) where
-  -- ---- over an event
-
-  module _ (events : List Event) (event : Event) (start end : MomentWithPast) (run : run_with_past script events ≡ Some start)
-      (happens : next_moment script event start ≡ Some end) where
-    -- by the test of the end
-    begins : HasServed (good_id_at start) start → HasServed (good_id_at end) start
-    begins served = fewer_served (good_id_at end) (good_id_at start) start (was_good_id script event start end happens) served
-
-    goes_on : (before after : MomentWithPast) → MomentTrail script start before → MomentChange script start before after
-        → TrailLeft script start after end → HasServed (good_id_at end) before → HasServed (good_id_at end) after
-    goes_on before after trail change left served =
-        served_still script range events start before after run trail change (good_id_at end)
-        (pieces_stay (IsFetchedServed before.world.log (good_id_at end) before.world.hosts before.past.attempts) script range events start
-        before after run trail change
-        (fetches_served script range events event start end run happens before trail (Next change left)) served)
-
-    along : {moment : MomentWithPast} → MomentTrail script start moment → TrailLeft script start moment end
-        → HasServed (good_id_at end) start → HasServed (good_id_at end) moment
-    along Still left served = served
-    along (Then {moment} {next} trail change) left served =
-        goes_on moment next trail change left (along trail (Next change left) served)
-
-    event_keeps : HasServed (good_id_at start) start → HasServed (good_id_at end) end
-    event_keeps served = along (event_trail script event start end happens) AtEnd (begins served)
-
-  -- ---- in every run
-
-  served-in_run : (events : List Event) (moment : MomentWithPast) → run_with_past script events ≡ Some moment
-      → HasServed (good_id_at moment) moment
-  served-in_run =
-      kept_at_events script (λ (moment : MomentWithPast). HasServed (good_id_at moment) moment)
-      (pieces_open (IsFetchedServed (first_moment script).world.log (good_id_at (first_moment script)) (first_moment script).world.hosts
-      (first_moment script).past.attempts) script)
-      (λ events event start end run then happens served. event_keeps events event start end run happens served)
+  served_kept : IsKeptByTests script HasServed
+  served_kept = record {
+    fewer = fewer_served;
+    opens = pieces_open (IsFetchedServed (first_moment script).world.log (good_id_at (first_moment script)) (first_moment script).world.hosts
+        (first_moment script).past.attempts) script;
+    keeps = λ events event start end before after way good_id test served.
+        served_still script range events start before after way.run way.behind way.change good_id
+        (pieces_stay (IsFetchedServed before.world.log good_id before.world.hosts before.past.attempts) script range events start before
+        after way.run way.behind way.change
+        (fetches_served script range events start way.run good_id test.fewer
+        (test_at_start script way.change good_id (test_before script way.change good_id test)) before way.behind) served);
+  }
 
   pub creates_served : (events : List Event) (event : Event) (start end : MomentWithPast) → run_with_past script events ≡ Some start
-      → next_moment script event start ≡ Some end → {moment : MomentWithPast} → MomentTrail script start moment
-      → TrailLeft script start moment end
-      → CreatesAreOf (IsFetchedServed moment.world.log (good_id_at end) moment.world.hosts moment.past.attempts) moment.world.hosts
-  creates_served events event start end run happens {moment} trail left =
-      creates_so (IsFetchedServed moment.world.log (good_id_at end) moment.world.hosts moment.past.attempts) moment
-      (along events event start end run happens trail left
-      (begins events event start end run happens (served-in_run events start run)))
+      → next_moment script event start ≡ Some end → (good_id : ℕ → Bool) → {moment : MomentWithPast} → MomentTrail script start moment
+      → TrailLeft script start moment end → CallsAvailable start moment good_id
+      → CreatesAreOf (IsFetchedServed moment.world.log good_id moment.world.hosts moment.past.attempts) moment.world.hosts
+  creates_served events event start end run happens good_id {moment} trail left test =
+      creates_so (IsFetchedServed moment.world.log good_id moment.world.hosts moment.past.attempts) moment
+      (by_tests-on_the_way script HasServed served_kept events event start end run happens good_id trail left test)

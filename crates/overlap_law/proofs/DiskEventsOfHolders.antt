@@ -1,8 +1,9 @@
 -- What an event adds to the history makes no disk that a session holds by the log, and begins writes of it for requests of that session
 -- alone.
-use Rattle.std.proofs.Common.{◌≡◌, ℕ, ◌+◌, ◌==◌, Bool, true, false, not, ◌&&◌, ◌||◌, cond, List, [], ◌∷◌, ◌++◌, map, filter, length, Contains, Option, Some, None, refl, sym, ap, subst, ◌∙◌}
-use Rattle.std.specs.Prelude.{◌/◌, flat_map}
-use Rattle.std.specs.List.{list_any, range_with_len}
+use Rattle.std.proofs.Common.{◌≡◌, ℕ, ◌+◌, ◌==◌, Bool, true, false, not, ◌&&◌, ◌||◌, List, [], ◌∷◌, ◌++◌, map, filter, Contains, Option}
+use Rattle.std.proofs.Common.{Some, None, refl, sym, ap, subst, ◌∙◌}
+use Rattle.std.specs.Prelude.{flat_map}
+use Rattle.std.specs.List.{list_any}
 use Rattle.std.specs.Option.{option_map, option_map_or, option_and_then}
 use Rattle.std.specs.FinMap as tree
 use Rattle.std.proofs.lemmas.Bool.{eqb-true, eq-eqb, ne_eqb}
@@ -11,12 +12,9 @@ use Rattle.std.proofs.lemmas.Option.{same_Some}
 use Rattle.proof_tools.proofs.Lists.{Contains-head, Contains-cons}
 use Rattle.object_id.specs.declared.entry.Entry.{Entry}
 use Rattle.object_id.specs.declared.entry.Entry.TheVariants as entries
-use Rattle.object_id.specs.declared.limits.TheConstants.{BLOCK_BYTES}
-use Rattle.object_id.specs.declared.oid.Kind.TheVariants.{Block}
 use Rattle.object_id.specs.declared.oid.Vid.{Vid}
-use Rattle.gf256.specs.Part.{is_in_strips}
 use Rattle.disk_history.specs.declared.event.HistEvent.{HistEvent}
-use Rattle.disk_history.specs.declared.event.HistEvent.TheVariants.{Copy, Read, WriteStart, WriterLost}
+use Rattle.disk_history.specs.declared.event.HistEvent.TheVariants.{Copy, WriteStart, WriterLost}
 use Rattle.disk_lock.specs.declared.holder.Holder.{Holder}
 use Rattle.vdi_directory.specs.declared.decision.Decision.{Decision}
 use Rattle.vdi_directory.specs.declared.decision.Decision.TheVariants as decisions
@@ -25,14 +23,11 @@ use Rattle.vdi_directory.specs.Decisions.{decision_after, log_effects}
 use Rattle.vdi_directory.specs.Effects.{holder_of}
 use Rattle.vdi_ops.specs.Op.{Op}
 use Rattle.cluster_script.specs.declared.statement.Statement.{Statement}
-use Rattle.cluster_script.specs.declared.statement.Statement.TheVariants as lines
-use Rattle.cluster_script.specs.NumberedRequests.{request_at, payload_of, session_of, numbered_requests}
+use Rattle.cluster_script.specs.NumberedRequests.{request_at, session_of, numbered_requests}
 use Rattle.cluster_script.specs.Sessions.{ScriptSession}
-use Rattle.cluster_script.specs.Statements.{is_check}
 use Rattle.disk_check.specs.Check.{Check, CheckStage, Comparing, WritingBack, Answered, value_at_stage}
 use Rattle.guest_driver.specs.declared.disk.Disk.{Disk}
 use Rattle.peer_proto.specs.declared.guest.GuestRsp.{GuestRsp}
-use Rattle.peer_proto.specs.declared.guest.GuestRsp.TheVariants as answers
 use Rattle.peer_proto.specs.declared.say.PeerRsp.{PeerRsp}
 use Rattle.sheep_node.specs.declared.ask.Ask.{Ask}
 use Rattle.sheep_node.specs.declared.check_write.CheckWrite.{CheckWrite}
@@ -46,16 +41,20 @@ use Rattle.sheep_world.specs.World.{Host, World, is_host_up, node_at}
 use Rattle.sheep_world.specs.Asking.{session_asking}
 use Rattle.sheep_world.specs.Began.{Began}
 use Rattle.sheep_world.specs.Effects.{open_disk_at, request_started}
-use Rattle.sheep_world.specs.EventKinds.{EventKind, NodeStep, UntoldLoss, UnreadDelivery, NodeLoss, NodeLeave, NodeReweight, NodeJoin, NodeReturn, PhaseEnd}
+use Rattle.sheep_world.specs.EventKinds.{EventKind, NodeStep, UntoldLoss, UnreadDelivery, NodeLoss, NodeLeave, NodeReweight, NodeJoin}
+use Rattle.sheep_world.specs.EventKinds.{NodeReturn, PhaseEnd}
 use Rattle.sheep_world.specs.Granted.{granted_header, disk_cloned, disk_made, granted_adds, decided_adds, entry_adds}
-use Rattle.sheep_world.specs.HistoryAdditions.{added_by, begins_on, block_checked, block_in, block_written, blocks_read, check_write_adds, check_write_by, check_write_grown, disk_of, has_begun_check_write, is_lost_write, is_on_disk, replies_grown, reply_adds, reply_grown, request_grown, write_ended}
-use Rattle.sheep_world.specs.NodeCauses.{NodeCause, GuestAsks, RequestComes, ReplyComes, LossIsTold, EntryIsRead, EntryIsPut, RecoveryTicks, WorkIsRetried, IsCause, world_after_cause, history_of_cause}
+use Rattle.sheep_world.specs.HistoryAdditions.{begins_on, check_write_by, check_write_grown, is_lost_write, replies_grown, reply_grown}
+use Rattle.sheep_world.specs.HistoryAdditions.{request_grown}
+use Rattle.sheep_world.specs.NodeCauses.{NodeCause, GuestAsks, RequestComes, ReplyComes, LossIsTold, EntryIsRead, EntryIsPut, RecoveryTicks}
+use Rattle.sheep_world.specs.NodeCauses.{WorkIsRetried, IsCause, world_after_cause, history_of_cause}
 use Rattle.sheep_world.specs.Step.{EventOutcome, step}
 use Rattle.sheep_world.proofs.EventInversion.{happens}
 use Rattle.overlap_law.specs.DiskEvents.{begins_by_others, is_asked_in, is_anothers}
 use Rattle.overlap_law.specs.MomentChanges.{RunsAreInRange}
 use Rattle.overlap_law.specs.Writers.{session_holder}
 use Rattle.overlap_law.proofs.AnswersInMoments.{not_lost}
+use Rattle.overlap_law.proofs.ClosedAdditions.{none_of, replies_add, end_so, asks_add, check_adds}
 use Rattle.overlap_law.proofs.ComingWrites.{IsComing, coming}
 use Rattle.overlap_law.proofs.CoursesOfAsks.{IsPlacedIn}
 use Rattle.overlap_law.proofs.CoursesOfScript.{asked_by, BeganOn, requests_placed}
@@ -102,41 +101,12 @@ module _ (script : List Statement) (vid : ℕ) (owns : ℕ → Bool) where
 
   -- ---- replies
 
-  ended_none : (req : ℕ) (rsp : GuestRsp) → HasNone test (write_ended req rsp ∷ [])
-  ended_none req answers.Done = refl
-  ended_none req (answers.Piece bytes) = refl
-  ended_none req (answers.Refused cause) = refl
-  ended_none req (answers.Granted id) = refl
-  ended_none req (answers.Checked found) = refl
-
-  read_none : (disk offset : ℕ) (rsp : GuestRsp) → HasNone test (blocks_read disk offset rsp)
-  read_none disk offset answers.Done = refl
-  read_none disk offset (answers.Piece bytes) =
-      map_none test (λ (place : ℕ). Read disk (offset / BLOCK_BYTES + place) (block_in bytes place)) (λ place. refl)
-      (range_with_len 0 (length bytes / BLOCK_BYTES))
-  read_none disk offset (answers.Refused cause) = refl
-  read_none disk offset (answers.Granted id) = refl
-  read_none disk offset (answers.Checked found) = refl
-
-  adds_none : (written : Bool) (req : ℕ) (rsp : GuestRsp) (disk : ℕ) (s : Statement) → HasNone test (reply_adds written req rsp disk s)
-  adds_none written req rsp disk (lines.Read number offset size) = read_none disk offset rsp
-  adds_none written req rsp disk (lines.Write number offset size pattern) = ended_none req rsp
-  adds_none true req rsp disk (lines.Check number) = ended_none req rsp
-  adds_none false req rsp disk (lines.Check number) = refl
-  adds_none written req rsp disk s = refl
-
-  added_none : (written : Bool) (req : ℕ) (rsp : GuestRsp) (disk : Option ℕ) (s : Option Statement)
-      → HasNone test (added_by written req rsp disk s)
-  added_none written req rsp None s = refl
-  added_none written req rsp (Some disk) None = refl
-  added_none written req rsp (Some disk) (Some s) = adds_none written req rsp disk s
-
   pub replies_none : (before : World) (write : Option CheckWrite) (replies : List (ℕ × GuestRsp))
       → HasNone test (flat_map (reply_grown script before write) replies)
   replies_none before write replies =
-      flat_none test (reply_grown script before write)
-      (λ reply. added_none (has_begun_check_write script reply.0 before write) reply.0 reply.1 (disk_of script reply.0 before)
-      (request_at script reply.0)) replies
+      none_of test (flat_map (reply_grown script before write) replies)
+      (replies_add (λ (event : HistEvent). test event ≡ false) (λ disk block bytes. refl) script before write replies
+      (λ reply among. end_so (λ (event : HistEvent). test event ≡ false) reply.0 reply.1 (λ done. refl) refl))
 
   -- ---- writes on another disk, or of one of the requests
 
@@ -148,39 +118,20 @@ module _ (script : List Statement) (vid : ℕ) (owns : ℕ → Bool) where
       by_test true same = ap not (own (eqb-true disk vid same))
       by_test false apart = refl
 
-  writes_none : (req : ℕ) (disk : Option Disk) (s : Statement)
-      → ((opened : Disk) → disk ≡ Some opened → opened.inode.vid ≡ vid → owns req ≡ true)
-      → HasNone test (begins_on req disk s)
-  writes_none req None (lines.Write number offset size pattern) own = refl
-  writes_none req (Some opened) (lines.Write number offset size pattern) own =
-      map_none test
-      (λ (place : ℕ).
-      WriteStart req opened.inode.vid (offset / BLOCK_BYTES + place) (is_in_strips opened.inode.spec.policy Block)
-      (block_in (payload_of pattern size) place))
-      (λ place.
-      start_none req opened.inode.vid (offset / BLOCK_BYTES + place) (is_in_strips opened.inode.spec.policy Block)
-      (block_in (payload_of pattern size) place) (own opened refl)) (range_with_len 0 (length (payload_of pattern size) / BLOCK_BYTES))
-  writes_none req disk s own = refl
-
   pub asks_none : (req : ℕ) (disk : Option Disk) (s : Option Statement)
       → ((opened : Disk) → disk ≡ Some opened → opened.inode.vid ≡ vid → owns req ≡ true)
       → HasNone test (option_map_or (begins_on req disk) s [])
-  asks_none req disk None own = refl
-  asks_none req disk (Some s) own = writes_none req disk s own
+  asks_none req disk s own =
+      none_of test (option_map_or (begins_on req disk) s [])
+      (asks_add (λ (event : HistEvent). test event ≡ false) req disk s
+      (λ opened block coded bytes is. start_none req opened.inode.vid block coded bytes (own opened is)))
 
   pub check_none : (write : CheckWrite) → (write.vid.0 ≡ vid → owns write.req ≡ true)
       → HasNone test (check_write_grown script write)
-  check_none write own = by_check (option_map_or is_check (request_at script write.req) false)
-    where
-      by_check : (b : Bool) → HasNone test (cond b (check_write_adds write) [])
-      by_check false = refl
-      by_check true =
-          flat_none test (block_checked write)
-          (λ place.
-          let start = start_none write.req write.vid.0 (block_written write place) (is_in_strips write.spec.policy Block)
-          (block_in write.value place) own in
-          λ i. start i || false)
-          (filter (is_on_disk write) (range_with_len 0 (length write.value / BLOCK_BYTES)))
+  check_none write own =
+      none_of test (check_write_grown script write)
+      (check_adds (λ (event : HistEvent). test event ≡ false) (λ disk block bytes. refl) script write
+      (λ block coded bytes is. start_none write.req write.vid.0 block coded bytes own))
 
   pub lost_none : (requests : List (ℕ × Statement)) → HasNone test (map (λ (request : ℕ × Statement). WriterLost request.0) requests)
   lost_none requests = map_none test (λ (request : ℕ × Statement). WriterLost request.0) (λ request. refl) requests

@@ -113,7 +113,7 @@ shapes_so history = along history empty_ledger (λ (v : ℕ). None) (λ v. refl)
 
 -- ---- events that make no disk, and delete none
 
-abbrev is_plain : HistEvent → Bool
+abbrev pub is_plain : HistEvent → Bool
 is_plain (Create disk blocks) = false
 is_plain (Copy old new) = false
 is_plain (Delete disk) = false
@@ -123,7 +123,7 @@ is_plain (WriteRefused req) = true
 is_plain (WriterLost req) = true
 is_plain (Read disk block bytes) = true
 
-abbrev ArePlain : List HistEvent → Type 0
+abbrev pub ArePlain : List HistEvent → Type 0
 ArePlain events = list_all is_plain events ≡ true
 
 plain_shape : (f : Shapes) (event : HistEvent) → is_plain event ≡ true → shapes_after f event ≡ f
@@ -159,13 +159,13 @@ map_plain : {X : Type 0} (make : X → HistEvent) → ((x : X) → is_plain (mak
 map_plain make each [] = refl
 map_plain make each (x ∷ xs) = and_from (is_plain (make x)) (list_all is_plain (map make xs)) (each x) (map_plain make each xs)
 
-joined_plain : (front back : List HistEvent) → ArePlain front → ArePlain back → ArePlain (front ++ back)
+pub joined_plain : (front back : List HistEvent) → ArePlain front → ArePlain back → ArePlain (front ++ back)
 joined_plain [] back are rest = rest
 joined_plain (event ∷ front) back are rest =
     let parts = and_parts (is_plain event) (list_all is_plain front) are in
     and_from (is_plain event) (list_all is_plain (front ++ back)) parts.0 (joined_plain front back parts.1 rest)
 
-flat_plain : {X : Type 0} (make : X → List HistEvent) → ((x : X) → ArePlain (make x)) → (xs : List X) → ArePlain (flat_map make xs)
+pub flat_plain : {X : Type 0} (make : X → List HistEvent) → ((x : X) → ArePlain (make x)) → (xs : List X) → ArePlain (flat_map make xs)
 flat_plain make each [] = refl
 flat_plain make each (x ∷ xs) = joined_plain (make x) (flat_map make xs) (each x) (flat_plain make each xs)
 

@@ -1,17 +1,15 @@
 -- What holds of what each session has open, and of what each command has come to, stays so over every change of a step, if it does over
 -- what drivers and commands do.
-use Rattle.std.proofs.Common.{◌≡◌, ◌≢◌, ℕ, Bool, true, List, [], ◌∷◌, ◌++◌, Option, Some, None, IfSome, unwrap_or, option_map, refl, sym, ap, subst, ◌∙◌, ⊎_elim}
+use Rattle.std.proofs.Common.{◌≡◌, ◌≢◌, ℕ, Bool, true, List, [], ◌∷◌, ◌++◌, Option, Some, None, IfSome, unwrap_or, refl, sym, ap, subst}
+use Rattle.std.proofs.Common.{◌∙◌, ⊎_elim}
 use Rattle.std.specs.Ordering.{nat_cmp}
 use Rattle.std.specs.FinMap as tree
 use Rattle.std.proofs.lemmas.Bool.{cases_eq}
-use Rattle.std.proofs.lemmas.Option.{same_Some}
 use Rattle.proof_tools.proofs.FiniteMaps.{get-insert_same, get-insert_other, get-remove_other, get-remove_same}
 use Rattle.object_id.specs.declared.entry.Entry.{Entry}
-use Rattle.object_id.specs.declared.node.NodeId.{NodeId}
 use Rattle.inode.specs.Layout.{Content}
 use Rattle.peer_proto.specs.declared.guest.DiskAsk.{DiskAsk}
 use Rattle.peer_proto.specs.declared.guest.GuestRsp.{GuestRsp}
-use Rattle.peer_proto.specs.declared.guest.VdiAsk.{VdiAsk}
 use Rattle.peer_service.specs.State.{effects_of}
 use Rattle.peer_service.specs.LogReading.{decision_on}
 use Rattle.gateway.specs.declared.message.Status.{Status}
@@ -20,9 +18,8 @@ use Rattle.gateway_queue.specs.Queue.{queue_without}
 use Rattle.guest_driver.specs.declared.disk.Disk.{Disk}
 use Rattle.guest_driver.specs.Driver.{Driver, DriverStep, begin_driver, driver_on_done}
 use Rattle.disk_check.specs.Check.{begin_check}
-use Rattle.vdi_ops.specs.Entries.{first_entry}
 use Rattle.vdi_ops.specs.Op.{Stays, Opens, Closes, OpStage, Asked, Working, Publishing, Answered, Op, OpStep, disk_change, disk_change_at}
-use Rattle.vdi_ops.specs.Steps.{first_step, begin_command, on_decision, op_on_done}
+use Rattle.vdi_ops.specs.Steps.{on_decision, op_on_done}
 use Rattle.sheep_node.specs.declared.input.Input.{Input}
 use Rattle.sheep_node.specs.declared.input.Input.TheVariants as inputs
 use Rattle.sheep_node.specs.declared.course.Course.{Course}
@@ -36,10 +33,13 @@ use Rattle.sheep_node.specs.StepState.{StepState, at_first, session_in, request_
 use Rattle.sheep_node.specs.Courses.{after_driver_step, disk_after, inode_open, after_command_step}
 use Rattle.sheep_node.specs.Guests.{queued_as}
 use Rattle.sheep_node.specs.SessionQueues.{session_among}
-use Rattle.sheep_node.specs.Changes.{Outcome, without_ended_work, RequestSteps, DiskBegins, DiskGoesOn, CommandBegins, CommandGoesOn, CommandDecided, CheckBegins, CheckGoesOn, ObjectBegins, ObjectIsDone, EntryBegins, EntryDecided, input_received, Change, Leads}
+use Rattle.sheep_node.specs.Changes.{Outcome, without_ended_work, RequestSteps, DiskBegins, DiskGoesOn, CommandBegins, CommandGoesOn}
+use Rattle.sheep_node.specs.Changes.{CommandDecided, CheckBegins, CheckGoesOn, ObjectBegins, ObjectIsDone, EntryBegins, EntryDecided}
+use Rattle.sheep_node.specs.Changes.{input_received, Change, Leads}
 use Rattle.sheep_node.proofs.OneWorkParts.{Requests, Sessions}
 use Rattle.sheep_node.proofs.StepChain.{kept_by_chain}
 use Rattle.sheep_node.proofs.ReceivedInputs.{received_keeps}
+use Rattle.overlap_law.proofs.ClosedFirstStages.{begins_so}
 use Rattle.overlap_law.proofs.ChangeWalk.{freed_holds, kept_by_steps, change_holds}
 use Rattle.guest_driver.specs.InodeQueue.{InodeQueue}
 
@@ -189,17 +189,6 @@ module _ (P : Disk → Type 0) (S : OpStage → Type 0) where
         }) so_far is
         (left_open step.op.stage (session_in number so_far).disk is (all.disks number)) all
 
-    begun_asked : (by : NodeId) (session : ℕ) (ask : VdiAsk) (disk : Option Content) (step : OpStep)
-        → begin_command by session ask disk ≡ Some step
-        → S step.op.stage
-    unfolding begin_command
-    begun_asked by session ask disk step is = by_entry (first_entry by session disk ask) is
-      where
-        by_entry : (entry : Option Entry) → option_map (first_step by session) entry ≡ Some step → S step.op.stage
-        by_entry None is = absurd (cc (is))
-        by_entry (Some entry) is =
-            subst (λ (s : OpStep). S s.op.stage) (same_Some (first_step by session entry) step is) (parts.asked entry)
-
     steps_kept : (so_far : StepState) (session req : ℕ) (next : Outcome) (moved : StepState)
         → RequestSteps input node so_far session req next moved
         → AreSoFar so_far → AreSoFar moved
@@ -211,7 +200,7 @@ module _ (P : Disk → Type 0) (S : OpStage → Type 0) where
         driven_kept session req disk step freed (parts.goes_on disk bytes driver step is (disk_so session disk freed on now)) now
     steps_kept so_far session req next moved (CommandBegins ask step arrival is) all =
         command_kept session req step so_far
-        (begun_asked so_far.node.me session ask (inode_open (session_in session so_far).disk) step is) all
+        (begins_so S parts.asked so_far.node.me session ask (inode_open (session_in session so_far).disk) step is) all
     steps_kept so_far session req next moved (CommandGoesOn number work attempt status bytes op step ends is) all =
         command_kept session req step (without_ended_work session req work status so_far)
         (parts.done bytes op step is (stage_so session req op so_far ends.ends.request all)) (freed_kept session req work status so_far all)

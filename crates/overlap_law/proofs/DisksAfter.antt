@@ -1,18 +1,14 @@
 -- Which disk a session has open after a change of its node: the one that it had, or that one after a step of a read or write, or one that
 -- its command opens now. A snapshot's inode was read, a disk's was written back, or a disk was decided that takes the place of another.
-use Rattle.std.specs.Option.{option_and_then, option_map_or}
+use Rattle.std.specs.Option.{option_map_or}
 use Rattle.std.specs.FinMap as tree
 use Rattle.std.proofs.lemmas.Bool.{cases_eq}
 use Rattle.std.proofs.lemmas.Option.{same_Some}
 use Rattle.proof_tools.proofs.FiniteMaps.{get-insert_same, get-insert_other}
 use Rattle.object_id.specs.declared.entry.Entry.{Entry}
-use Rattle.object_id.specs.declared.entry.Entry.TheVariants as entries
-use Rattle.object_id.specs.declared.entry.Origin.TheVariants.{Fresh, SnapshotOf, CloneOf}
-use Rattle.object_id.specs.declared.node.NodeId.{NodeId}
 use Rattle.object_id.specs.declared.oid.Vid.{Vid}
 use Rattle.inode.specs.Layout.{Content}
 use Rattle.peer_proto.specs.declared.guest.GuestRsp.{GuestRsp}
-use Rattle.peer_proto.specs.declared.guest.VdiAsk.{VdiAsk}
 use Rattle.peer_service.specs.State.{effects_of}
 use Rattle.peer_service.specs.LogReading.{decision_on}
 use Rattle.gateway.specs.declared.message.Status.{Status}
@@ -21,14 +17,8 @@ use Rattle.guest_driver.specs.declared.disk.Disk.{Disk}
 use Rattle.guest_driver.specs.InodeQueue as lines
 use Rattle.peer_proto.specs.declared.guest.DiskAsk.{DiskAsk}
 use Rattle.vdi_directory.specs.declared.decision.Decision.{Decision}
-use Rattle.vdi_directory.specs.declared.decision.Decision.TheVariants as decisions
 use Rattle.vdi_directory.specs.declared.effect.Effect.{Effect}
-use Rattle.vdi_directory.specs.declared.header.Header.{Header}
-use Rattle.vdi_directory.specs.Chains.{chain_of}
-use Rattle.vdi_directory.specs.Effects.{header_of}
-use Rattle.vdi_ops.specs.Entries.{first_entry}
-use Rattle.vdi_ops.specs.Steps.{first_step, begin_command, tag_step, copy_step, change_without_grant, step_after_grant}
-use Rattle.vdi_ops.specs.Steps.{step_after_decision, done_at, task_done, decided_at, op_on_done, on_decision}
+use Rattle.vdi_ops.specs.Steps.{done_at, task_done, decided_at, op_on_done, on_decision}
 use Rattle.sheep_node.specs.declared.course.Course.TheVariants.{Commanding}
 use Rattle.sheep_node.specs.declared.input.Input.{Input}
 use Rattle.sheep_node.specs.declared.session.Session.{Session}
@@ -41,17 +31,19 @@ use Rattle.sheep_node.specs.Changes.{CheckGoesOn, ObjectBegins, ObjectIsDone, En
 use Rattle.sheep_node.specs.Changes.{Change}
 use Rattle.sheep_node.proofs.QueueChanges.{same_view}
 use Rattle.sheep_node.proofs.OneWorkParts.{Sessions}
-use Rattle.std.proofs.Common.{◌≡◌, ◌≢◌, ◌⊎◌, inl, inr, ⊎_elim, ℕ, true, false, List, Option, Some, None, option_map}
+use Rattle.std.proofs.Common.{◌≡◌, ◌≢◌, ◌⊎◌, inl, inr, ⊎_elim, ℕ, true, false, List, Option, Some, None}
 use Rattle.std.proofs.Common.{IfSome, unwrap_or, refl, sym, ap, subst, ◌∙◌}
 use Rattle.gateway.specs.Attempt.{Attempt}
 use Rattle.guest_driver.specs.Driver as drivers
 use Rattle.guest_driver.specs.Driver.{Driver}
-use Rattle.vdi_ops.specs.Op.{DiskChange, Stays, Opens, Closes, Op, OpStep, OpStage, Asked, Working, Publishing, Answered, disk_change}
+use Rattle.vdi_ops.specs.Op.{DiskChange, Stays, Opens, Closes, Op, OpStep, OpStage, Asked, Working, Publishing, Answered}
+use Rattle.vdi_ops.specs.Op.{disk_change, disk_change_at}
 use Rattle.vdi_ops.specs.Op.{Task, Opening, WritingBack, Tagging, Copying, Making}
 use Rattle.sheep_node.specs.declared.course.Course.TheVariants.{Driving}
 use Rattle.sheep_node.specs.Changes.{EndsWork}
 use Rattle.sheep_node.specs.SessionQueues.{session_among}
 use Rattle.overlap_law.specs.OpenedTables.{OpensNow, ReadsIt, WroteIt, ByWork, ByEntry}
+use Rattle.overlap_law.proofs.ClosedFirstStages.{HoldsAtFirst, begins_so, first_decided}
 use Rattle.overlap_law.proofs.DriverNames.{driver_begins-stays}
 use Rattle.overlap_law.proofs.ChangeWalk.{kept_by_steps, change_holds}
 use Rattle.guest_driver.specs.InodeQueue.{InodeQueue}
@@ -80,71 +72,21 @@ opened_by disk (Opens snapshot inode) o is = inr (sym (same_Some (record { inode
 opened_by disk Closes o is = absurd (cc (is))
 
 module _ (opened : Disk) where
-  abbrev OpensNone : OpStep → Type 0
-  OpensNone step = OpensAs opened (disk_change step) → ⊥
+  abbrev OpensNone : OpStage → Type 0
+  OpensNone stage = OpensAs opened (disk_change_at stage) → ⊥
 
-  begins_none : (by : NodeId) (session : ℕ) (ask : VdiAsk) (disk : Option Content) (step : OpStep)
-      → begin_command by session ask disk ≡ Some step → OpensNone step
-  unfolding begin_command
-  begins_none by session ask disk step is =
-      subst (λ (o : Option OpStep). IfSome o OpensNone) is (by_entry (first_entry by session disk ask))
-    where
-      by_entry : (o : Option Entry) → IfSome (option_map (first_step by session) o) OpensNone
-      by_entry None = tt
-      by_entry (Some entry) = λ never. never
+  -- nothing at first
+  opens_none : HoldsAtFirst (λ (stage : OpStage). OpensAs opened (disk_change_at stage) → ⊥)
+  opens_none = record {
+    stays = λ never. never;
+    closes = λ never. never;
+    opening = λ vid snapshot ids header never. never;
+    tagging = λ vid old inode never. never;
+    copying = λ vid ids header never. never;
+    making = λ vid by never. never;
+  }
 
   module _ (op : Op) where
-    ungranted_none : (entry : Entry) → OpensAs opened (change_without_grant entry) → ⊥
-    ungranted_none (entries.Format members) never = never
-    ungranted_none (entries.Join node zone vnodes) never = never
-    ungranted_none (entries.Leave node) never = never
-    ungranted_none (entries.Reweight node vnodes) never = never
-    ungranted_none (entries.Recovered node epoch) never = never
-    ungranted_none (entries.Reserve by session name origin) never = never
-    ungranted_none (entries.Publish by of) never = never
-    ungranted_none (entries.Clone by of) never = never
-    ungranted_none (entries.Snapshot by old of) never = never
-    ungranted_none (entries.Delete by session name tag) never = never
-    ungranted_none (entries.Lock by session name tag) never = never
-    ungranted_none (entries.Unlock by session of) never = never
-
-    tagged_none : (of : Vid) (tag : List ℕ) (header : Header) (disk : Option Content)
-        → IfSome (option_map (tag_step op of tag header) disk) OpensNone
-    tagged_none of tag header None = tt
-    tagged_none of tag header (Some old) = λ never. never
-
-    copied_none : (of : Vid) (chain : List ℕ) (header : Header) (parent : Option Vid)
-        → IfSome (option_map (copy_step op of chain header) parent) OpensNone
-    copied_none of chain header None = tt
-    copied_none of chain header (Some parent) = λ never. never
-
-    granted_none : (of : Vid) (chain : List ℕ) (disk : Option Content) (entry : Entry) (header : Header)
-        → IfSome (step_after_grant op of chain disk entry header) OpensNone
-    granted_none of chain disk (entries.Format members) header = tt
-    granted_none of chain disk (entries.Join node zone vnodes) header = tt
-    granted_none of chain disk (entries.Leave node) header = tt
-    granted_none of chain disk (entries.Reweight node vnodes) header = tt
-    granted_none of chain disk (entries.Recovered node epoch) header = tt
-    granted_none of chain disk (entries.Reserve by session name (Fresh spec)) header = λ never. never
-    granted_none of chain disk (entries.Reserve by session name (SnapshotOf tag)) header = tagged_none of tag header disk
-    granted_none of chain disk (entries.Reserve by session name (CloneOf base tag)) header = copied_none of chain header header.parent
-    granted_none of chain disk (entries.Publish by id) header = tt
-    granted_none of chain disk (entries.Clone by id) header = tt
-    granted_none of chain disk (entries.Snapshot by old id) header = tt
-    granted_none of chain disk (entries.Delete by session name tag) header = λ never. never
-    granted_none of chain disk (entries.Lock by session name tag) header = λ never. never
-    granted_none of chain disk (entries.Unlock by session id) header = λ never. never
-
-    decided_none : (known : List Effect) (disk : Option Content) (entry : Entry) (decision : Decision)
-        → IfSome (step_after_decision known disk op entry decision) OpensNone
-    decided_none known disk entry decisions.None = ungranted_none entry
-    decided_none known disk entry (decisions.Granted of) = by_header (header_of known of.0)
-      where
-        by_header : (o : Option Header) → IfSome (option_and_then (step_after_grant op of (chain_of known of.0) disk entry) o) OpensNone
-        by_header None = tt
-        by_header (Some header) = granted_none of (chain_of known of.0) disk entry header
-    decided_none known disk entry (decisions.Refused cause) = ungranted_none entry
-
     -- and of it what it was about to
     module _ (input : Input) (node : Node) (so_far : StepState) (q req : ℕ) where
       task_opens : (number : ℕ) (work : Work) (attempt : Attempt) (status : Status) (bytes : List ℕ) (of : Vid) (task : Task)
@@ -188,7 +130,8 @@ module _ (opened : Disk) where
           by_stage : (stage : OpStage) → op.stage ≡ stage → decided_at known disk decision op stage ≡ Some step
               → OpensNow input node so_far q opened
           by_stage (Asked entry) at next =
-              absurd (subst (λ (o : Option OpStep). IfSome o OpensNone) next (decided_none known disk entry decision) is)
+              absurd (subst (λ (o : Option OpStep). IfSome o (λ (s : OpStep). OpensNone s.op.stage)) next
+              (first_decided OpensNone opens_none op known disk entry decision) is)
           by_stage (Working of task) at next = absurd (cc (next))
           by_stage (Publishing entry made) at next =
               published_opens entry made at there
@@ -298,7 +241,9 @@ module _ (q : ℕ) (disk : Disk) (input : Input) (node : Node) where
   steps_from so_far session req next moved (CommandBegins ask step arrival is) =
       command_from so_far session req step so_far
       (λ own opens.
-      absurd (begins_none disk so_far.node.me session ask (inode_open (session_in session so_far).disk) step is opens)) (from_itself so_far)
+      absurd (begins_so (OpensNone disk) (λ entry never. never) so_far.node.me session ask (inode_open (session_in session so_far).disk)
+      step is
+      opens)) (from_itself so_far)
   steps_from so_far session req next moved (CommandGoesOn number work attempt status bytes op step ends is) =
       command_from so_far session req step (without_ended_work session req work status so_far)
       (λ own opens.

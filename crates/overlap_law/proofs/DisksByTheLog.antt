@@ -1,16 +1,15 @@
 -- The disks that the history has, and that aren't deleted, are there by the log: what makes one in the history publishes its id, and what
 -- deletes an id deletes the disk.
-use Rattle.std.proofs.Common.{◌≡◌, ℕ, ◌==◌, ◌&&◌, Bool, true, false, cond, List, [], ◌∷◌, ◌++◌, fold, Option, Some, None, is_some, option_map, refl, sym, ap, ◌∙◌}
+use Rattle.std.proofs.Common.{◌≡◌, ℕ, ◌==◌, ◌&&◌, Bool, true, false, cond, List, [], ◌∷◌, ◌++◌, fold, Option, Some, None, is_some}
+use Rattle.std.proofs.Common.{option_map, refl, sym, ap, ◌∙◌}
 use Rattle.std.specs.Prelude.{Result, Ok, Err}
 use Rattle.std.specs.Option.{option_map_or}
 use Rattle.std.proofs.lemmas.Bool.{both_ways, eqb-true, eq-eqb}
 use Rattle.std.proofs.lemmas.List.Sums.{fold-append}
 use Rattle.object_id.specs.declared.cause.Cause.{Cause}
-use Rattle.object_id.specs.declared.cause.Cause.TheVariants as causes
 use Rattle.object_id.specs.declared.entry.Entry.{Entry}
 use Rattle.object_id.specs.declared.entry.Entry.TheVariants as entries
 use Rattle.object_id.specs.declared.entry.Origin.{Origin}
-use Rattle.object_id.specs.declared.entry.Origin.TheVariants.{Fresh, SnapshotOf, CloneOf}
 use Rattle.object_id.specs.declared.entry.VdiSpec.{VdiSpec}
 use Rattle.object_id.specs.declared.node.NodeId.{NodeId}
 use Rattle.object_id.specs.declared.oid.Vid.{Vid}
@@ -25,29 +24,32 @@ use Rattle.vdi_directory.specs.declared.effect.Effect.{Effect}
 use Rattle.vdi_directory.specs.declared.effect.Effect.TheVariants as effects
 use Rattle.vdi_directory.specs.declared.effect.Reservation.{Reservation}
 use Rattle.vdi_directory.specs.declared.effect.Source.{Source}
-use Rattle.vdi_directory.specs.declared.effect.Source.TheVariants as sources
 use Rattle.vdi_directory.specs.declared.header.Header.{Header}
-use Rattle.vdi_directory.specs.Decisions.{nothing, silent_outcome, grant_outcome, refusal_outcome, outcome, log_effects, is_held_by, is_reserved_by, is_taken, grant_of, or_full, reservation_outcome, with_spec, held_disk, reserved_snapshot, reserved_clone, reserve_outcome, publication, replacement, snapshot_outcome, target, deletion, lock, release}
-use Rattle.vdi_directory.specs.Names.{snapshot_with_tag, is_live_name}
+use Rattle.vdi_directory.specs.Decisions.{nothing, silent_outcome, grant_outcome, outcome, log_effects, is_held_by, is_reserved_by}
+use Rattle.vdi_directory.specs.Decisions.{grant_of, reserve_outcome, publication, replacement, snapshot_outcome, target, deletion, lock}
+use Rattle.vdi_directory.specs.Decisions.{release}
 use Rattle.vdi_directory.specs.declared.decision.Outcome.{Outcome}
-use Rattle.vdi_directory.specs.Vids.{free_id}
 use Rattle.vdi_directory.specs.Sources.{is_for, tag_for}
-use Rattle.vdi_directory.specs.Effects.{is_used, header_of, name_of, reservations_of, reservation_on, holder_of}
+use Rattle.vdi_directory.specs.Effects.{is_used, reservations_of, reservation_on, holder_of}
 use Rattle.vdi_directory.specs.Sound.{IsLawful}
-use Rattle.vdi_directory.specs.States.{VdiState, Unused, Reserved, Working, Snapshot, Deleted, Freed, state_of, is_live_state, freed_state, state_after, state_after_leave}
+use Rattle.vdi_directory.specs.States.{VdiState, Unused, Reserved, Working, Snapshot, Deleted, Freed, state_of, is_live_state, freed_state}
+use Rattle.vdi_directory.specs.States.{state_after, state_after_leave}
 use Rattle.vdi_directory.proofs.DeadLemmas.{live-used}
 use Rattle.vdi_directory.proofs.LawfulEntries.{lawful-outcome, sound-log_effects}
 use Rattle.vdi_directory.proofs.StateLemmas.{log_effects-push}
 use Rattle.vdi_directory.proofs.SoundEffects.{state_of-push}
 use Rattle.overlap_law.specs.Headline.{ledger_of}
-use Rattle.overlap_law.specs.HistoryGrowth.{added_at_cause, added_by_reply, HistoryGrows, NothingIsAdded, WritesBegin, RequestIsReplied, EntryAdds, WritersAreLost}
+use Rattle.overlap_law.specs.HistoryGrowth.{added_at_cause, added_by_reply, HistoryGrows, NothingIsAdded, WritesBegin, RequestIsReplied}
+use Rattle.overlap_law.specs.HistoryGrowth.{EntryAdds, WritersAreLost}
 use Rattle.overlap_law.specs.MomentChanges as moments
 use Rattle.overlap_law.specs.MomentChanges.{MomentChange, RunsAreInRange, KeptByChanges}
 use Rattle.overlap_law.specs.Past.{MomentWithPast}
 use Rattle.overlap_law.specs.StayingBlocks.{DisksAreLive}
+use Rattle.overlap_law.proofs.ClosedReservations.{reserves_so}
 use Rattle.overlap_law.proofs.HistoryInMoments.{history_grows}
 use Rattle.overlap_law.proofs.LogsInMoments.{log_by_changes}
-use Rattle.overlap_law.proofs.DiskShapes.{Shapes, shape, shapes_after, shapes, shapes_so, among_shapes, behind_shapes, cause_plain, reply_plain, lost_plain}
+use Rattle.overlap_law.proofs.DiskShapes.{Shapes, shape, shapes_after, shapes, shapes_so, among_shapes, behind_shapes, cause_plain}
+use Rattle.overlap_law.proofs.DiskShapes.{reply_plain, lost_plain}
 
 -- ---- what an entry makes of an id
 
@@ -100,48 +102,8 @@ module _ (log : List Entry) (f : Shapes) (are : (v : ℕ) → f v ≡ Some false
             absurd (both_ways (is_used before v) none used)
         by_test false apart = are v is
 
-    full_fits : (source : Source) (parent : Option Vid) (spec : VdiSpec) (o : Option ℕ)
-        → FitsReserve (or_full o (grant_of before by session name source parent spec))
-    full_fits source parent spec None lawful = are
-    full_fits source parent spec (Some vid) lawful = granted_fits source parent spec vid lawful
-
-    spec_fits : (source : Source) (parent : Option Vid) (header : Option Header)
-        → FitsReserve (with_spec header (reservation_outcome before by session name source parent))
-    spec_fits source parent None lawful = are
-    spec_fits source parent (Some header) lawful = full_fits source parent header.spec (free_id name (is_used before)) lawful
-
     reserves : (origin : Origin) → FitsReserve (reserve_outcome before by session name origin)
-    reserves (Fresh spec) = by_test (is_taken before name)
-      where
-        by_test : (b : Bool)
-            → FitsReserve (cond b (refusal_outcome causes.VdiExist) (reservation_outcome before by session name sources.Fresh None spec))
-        by_test true lawful = are
-        by_test false lawful = full_fits sources.Fresh None spec (free_id name (is_used before)) lawful
-    reserves (SnapshotOf tag) = by_disk (held_disk before by session (name_of before name).working)
-      where
-        by_test : (old : Vid) (b : Bool) → FitsReserve (cond b (refusal_outcome causes.VdiExist)
-            (with_spec (header_of before old.0) (reservation_outcome before by session name (sources.Snapshot old tag) (Some old))))
-        by_test old true lawful = are
-        by_test old false lawful = spec_fits (sources.Snapshot old tag) (Some old) (header_of before old.0) lawful
-
-        by_disk : (o : Option Vid) → FitsReserve (reserved_snapshot before by session name tag o)
-        by_disk None lawful = are
-        by_disk (Some old) lawful = by_test old (is_some (snapshot_with_tag tag (name_of before name))) lawful
-    reserves (CloneOf base tag) = by_name (is_live_name (name_of before base))
-      where
-        by_taken : (of : Vid) (b : Bool) → FitsReserve (cond b (refusal_outcome causes.VdiExist)
-            (with_spec (header_of before of.0) (reservation_outcome before by session name sources.Clone (Some of))))
-        by_taken of true lawful = are
-        by_taken of false lawful = spec_fits sources.Clone (Some of) (header_of before of.0) lawful
-
-        by_base : (o : Option Vid) → FitsReserve (reserved_clone before by session name o)
-        by_base None lawful = are
-        by_base (Some of) lawful = by_taken of (is_taken before name) lawful
-
-        by_name : (b : Bool) → FitsReserve (cond b (reserved_clone before by session name (snapshot_with_tag tag (name_of before base)))
-            (refusal_outcome causes.NoBaseVdi))
-        by_name true lawful = by_base (snapshot_with_tag tag (name_of before base)) lawful
-        by_name false lawful = are
+    reserves = reserves_so before by session name FitsReserve (λ cause is lawful. are) (λ lawful. are) granted_fits
 
   -- ---- a publication
 

@@ -66,7 +66,7 @@ task_none (Tagging old inode) is = is
 task_none (Copying ids header) is = is
 task_none (Making entry opened) is = is
 
-stage_none : (by : NodeId) (session : ℕ) (stage : OpStage) → IsStageOfAsk by session disk_commands.Check stage → ⊥
+pub stage_none : (by : NodeId) (session : ℕ) (stage : OpStage) → IsStageOfAsk by session disk_commands.Check stage → ⊥
 stage_none by session (Asked entry) (disk, is) = absurd (cc (is))
 stage_none by session (Working vid task) is = task_none task is
 stage_none by session (Publishing entry opened) is = is

@@ -7,8 +7,6 @@ use Rattle.cluster_script.specs.declared.statement.Statement.{Statement}
 use Rattle.guest_driver.specs.declared.disk.Disk.{Disk}
 use Rattle.vdi_directory.specs.Decisions.{log_effects}
 use Rattle.peer_service.specs.State.{effects_of}
-use Rattle.sheep_node.specs.declared.event.Event.{Event}
-use Rattle.sheep_node.specs.Changes as changes
 use Rattle.sheep_node.specs.StepFacts.{read_after}
 use Rattle.sheep_node.specs.SessionQueues.{session_among}
 use Rattle.sheep_node.specs.StepState.{StepState}
@@ -17,13 +15,12 @@ use Rattle.sheep_world.specs.Began.{Began}
 use Rattle.sheep_world.specs.EventKinds.{outcome_of_step}
 use Rattle.sheep_world.specs.HostChanges.{host_after_step}
 use Rattle.sheep_world.specs.NodeCauses.{input_of_cause, event_of_cause, host_with_node, world_after_cause}
-use Rattle.sheep_world.specs.Step.{EventOutcome, step}
 use Rattle.sheep_world.specs.World.{Host, World}
 use Rattle.sheep_world.proofs.BegunWorlds.{goes_on}
 use Rattle.sheep_world.proofs.LogFrontLaws.{all_read}
 use Rattle.overlap_law.specs.MomentChanges as moments
 use Rattle.overlap_law.specs.MomentChanges.{MomentChange, RunsAreInRange}
-use Rattle.overlap_law.specs.Past.{MomentWithPast, moment_after}
+use Rattle.overlap_law.specs.Past.{MomentWithPast}
 use Rattle.overlap_law.specs.StepMoments.{SteppingNode, IsStepping, StepsByChanges, LeadsInStep, first_in_step, moment_in_step}
 use Rattle.overlap_law.specs.Words.{Hosts}
 use Rattle.overlap_law.proofs.CausedWorks.{known_then}
@@ -33,6 +30,7 @@ use Rattle.overlap_law.proofs.KnownDiskSteps.{AreOnKnown, all_grow, effects_afte
 use Rattle.overlap_law.proofs.KnownDisksInRuns.{nodes_know}
 use Rattle.overlap_law.proofs.LogsInMoments.{log_by_changes}
 use Rattle.overlap_law.proofs.WriteObjects.{known_open}
+use Rattle.overlap_law.proofs.ClosedWorlds.{world_after, world_along}
 
 -- each disk that a session has open was made so by a log
 abbrev pub OpenDisksAreMade : List Entry → Hosts → Type 0
@@ -93,27 +91,11 @@ module _ (script : List Statement) (range : RunsAreInRange script) where
             spec_stays (read_after (input_of_cause stepping.cause) stepping.host.node.peer.entries) front.rest vid spec made) so_far.node
             (known_then script range start.world began stepping.n stepping.host is.there is.up stepping.cause is.caused ended so_far leads))
 
-    known_at_end : (event : Event) (made : EventOutcome) → step script event start.world ≡ Some made
-        → AreAllKnown (moment_after script event start made).world.log (moment_after script event start made).world.hosts
-    known_at_end event made happened = known_in_world made.world (goes_on script event start.world made began happened)
-
     -- behind each change
     pub known_after : {before after : MomentWithPast} → MomentChange script start before after
         → AreAllKnown after.world.log after.world.hosts
-    known_after (moments.StepBegins stepping is by) = known_in_step stepping is by (first_in_step stepping) changes.Still
-    known_after (moments.StepGoesOn stepping so_far next is by within) =
-        known_in_step stepping is by next (changes.Then within.leads within.change)
-    known_after (moments.StepIsMade stepping is by) =
-        known_at_end (event_of_cause stepping.n stepping.cause)
-        (outcome_of_step script stepping.n stepping.host stepping.cause start.world) is.made
-    known_after (moments.LossIsUntold event made happened h) = known_at_end event made happened
-    known_after (moments.DeliveryIsUnread event made happened h) = known_at_end event made happened
-    known_after (moments.NodeIsLost event made happened h) = known_at_end event made happened
-    known_after (moments.NodeLeaves event made happened h) = known_at_end event made happened
-    known_after (moments.NodeIsReweighted event made happened h) = known_at_end event made happened
-    known_after (moments.NodeJoins event made happened h) = known_at_end event made happened
-    known_after (moments.NodeComesBack event made happened h) = known_at_end event made happened
-    known_after (moments.PhaseEnds event made happened h) = known_at_end event made happened
+    known_after change =
+        world_after script (λ (world : World). AreAllKnown world.log world.hosts) known_in_world start began known_in_step change
 
     pub disks_after : {before after : MomentWithPast} → MomentChange script start before after
         → OpenDisksAreMade after.world.log after.world.hosts
@@ -121,5 +103,5 @@ module _ (script : List Statement) (range : RunsAreInRange script) where
 
     pub known_along : {moment : MomentWithPast} → moments.MomentTrail script start moment
         → AreAllKnown moment.world.log moment.world.hosts
-    known_along moments.Still = known_in_world start.world began
-    known_along (moments.Then trail change) = known_after change
+    known_along trail =
+        world_along script (λ (world : World). AreAllKnown world.log world.hosts) known_in_world start began known_in_step trail

@@ -19,7 +19,17 @@ use Rattle.gateway.specs.declared.message.Message.{Message}
 use Rattle.gateway.specs.declared.message.Status.{Status}
 use Rattle.gateway.specs.declared.message.Status.TheVariants as statuses
 use Rattle.gateway.specs.Attempt.{is_awaited_message, is_unanswered, successes, status_by, bytes_in, bytes_through}
-use Rattle.gateway.specs.Attempt.{messages_with_status}
+use Rattle.gateway.specs.Attempt.{messages_with_status, is_done, bytes_given}
+use Rattle.gateway.specs.Attempt as gateways
+use Rattle.gateway.specs.State.{Work, WorkStage, open_messages}
+use Rattle.object_id.specs.Oid.{kind_of}
+use Rattle.peer_proto.specs.declared.work.ObjWork.TheVariants as works
+use Rattle.sheep_node.specs.declared.course.Course.{Course}
+use Rattle.sheep_node.specs.declared.input.Input.{Input}
+use Rattle.sheep_node.specs.Changes.{EndsWork}
+use Rattle.sheep_node.specs.State.{Node}
+use Rattle.sheep_node.specs.StepState.{StepState}
+use Rattle.overlap_law.specs.ToldPieces.{IsUnansweredOf}
 
 -- ---- a read of an inode that is done
 
@@ -54,7 +64,8 @@ awaited_at number (first ∷ messages) awaits = by_first (first.number == number
     by_first false tie there others = later (others there)
 
 -- the only one
-pub only_one : (messages : List Message) (place : ℕ) (m : Message) → length messages ≤ 1 → slice_get messages place ≡ Some m → messages ≡ m ∷ []
+pub only_one : (messages : List Message) (place : ℕ) (m : Message) → length messages ≤ 1 → slice_get messages place ≡ Some m
+    → messages ≡ m ∷ []
 only_one [] place m few got = absurd (cc (got))
 only_one (first ∷ []) zero m few got = ap (λ (one : Message). one ∷ []) (same_Some first m got)
 only_one (first ∷ []) (suc place) m few got = absurd (cc (got))
@@ -65,21 +76,50 @@ pub marked_one : (number : ℕ) (status : Status) (m : Message) → m.number ≡
 marked_one number status m same =
     ap (λ (b : Bool). cond b (record m { status = status }) m ∷ []) (eq-eqb m.number number same)
 
--- a read of an inode gives what its message did
-pub inode_gives : (policy : Policy) (kind : Kind) → kind ≡ Inode → (m : Message) (status : Status) (bytes : List ℕ)
+-- a read of whole copies gives what its message did
+copy_gives : (policy : Policy) (kind : Kind) → is_in_strips policy kind ≡ false → (m : Message) (status : Status) (bytes : List ℕ)
     → nat_le (need_of policy kind) (length (successes (record m { status = status } ∷ []))) ≡ true
     → bytes_through policy kind (take (need_of policy kind) (successes (record m { status = status } ∷ []))) ≡ bytes
     → status ≡ statuses.Succeeded bytes
 unfolding bytes_of_parts
-inode_gives policy Block is m status bytes done given = absurd (cc (is))
-inode_gives (Copies copies) Inode is m statuses.Unanswered bytes done given = absurd (cc (done))
-inode_gives (Copies copies) Inode is m (statuses.Succeeded piece) bytes done given = ap statuses.Succeeded given
-inode_gives (Copies copies) Inode is m (statuses.Refused refusal) bytes done given = absurd (cc (done))
-inode_gives (Copies copies) Inode is m statuses.Lost bytes done given = absurd (cc (done))
-inode_gives (Coded d p) Inode is m statuses.Unanswered bytes done given = absurd (cc (done))
-inode_gives (Coded d p) Inode is m (statuses.Succeeded piece) bytes done given = ap statuses.Succeeded given
-inode_gives (Coded d p) Inode is m (statuses.Refused refusal) bytes done given = absurd (cc (done))
-inode_gives (Coded d p) Inode is m statuses.Lost bytes done given = absurd (cc (done))
+copy_gives (Copies copies) kind whole m statuses.Unanswered bytes done given = absurd (cc (done))
+copy_gives (Copies copies) kind whole m (statuses.Succeeded piece) bytes done given = ap statuses.Succeeded given
+copy_gives (Copies copies) kind whole m (statuses.Refused refusal) bytes done given = absurd (cc (done))
+copy_gives (Copies copies) kind whole m statuses.Lost bytes done given = absurd (cc (done))
+copy_gives (Coded d p) Block whole m status bytes done given = absurd (cc (whole))
+copy_gives (Coded d p) Inode whole m statuses.Unanswered bytes done given = absurd (cc (done))
+copy_gives (Coded d p) Inode whole m (statuses.Succeeded piece) bytes done given = ap statuses.Succeeded given
+copy_gives (Coded d p) Inode whole m (statuses.Refused refusal) bytes done given = absurd (cc (done))
+copy_gives (Coded d p) Inode whole m statuses.Lost bytes done given = absurd (cc (done))
+
+-- of a work that ends as its node is told of a message, that was awaited
+module _ {input : Input} {node : Node} {so_far : StepState} {session req number : ℕ} {work : Work} {attempt : gateways.Attempt}
+    {status : Status} {course : Course} {bytes : List ℕ}
+    (ends : EndsWork input node so_far session req number work attempt status course bytes) where
+  pub awaited_by : AwaitedAt number attempt.messages
+  awaited_by =
+      awaited_at number attempt.messages
+      (sym (ap (λ (stage : WorkStage). list_any (is_awaited_message number) (open_messages stage)) ends.ends.learns.open_so)
+      ∙ ends.ends.learns.awaited)
+
+  pub unanswered_by : IsUnansweredOf so_far.node.gateway.works req work attempt awaited_by.0 awaited_by.1
+  unanswered_by = record {
+    there = ends.ends.learns.there;
+    stage = ends.ends.learns.open_so;
+    at = awaited_by.2;
+    unanswered = awaited_by.4;
+  }
+
+  -- and gave the bytes of a read of whole copies, if it was the only one
+  pub gave_by : (oid : ℕ) (policy : Policy) (offset size : ℕ) → work.work ≡ works.Read oid policy offset size
+      → is_in_strips policy (kind_of oid) ≡ false → length attempt.messages ≤ 1 → status ≡ statuses.Succeeded bytes
+  gave_by oid policy offset size is_read whole few =
+      let m : Message = awaited_by.1 in
+      let only : messages_with_status number status attempt.messages ≡ record m { status = status } ∷ []
+      = ap (messages_with_status number status) (only_one attempt.messages awaited_by.0 m few awaited_by.2)
+      ∙ marked_one number status m awaited_by.3 in
+      copy_gives policy (kind_of oid) whole m status bytes
+      (sym (λ i. is_done (is_read i) (only i)) ∙ ends.done) (sym (λ i. bytes_given (is_read i) (only i)) ∙ ends.given)
 
 -- an inode is kept in copies
 pub inode_whole : (policy : Policy) (kind : Kind) → kind ≡ Inode → is_in_strips policy kind ≡ false

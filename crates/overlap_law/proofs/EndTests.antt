@@ -113,7 +113,8 @@ module _ (script : List Statement) (event : Event) (before after : MomentWithPas
       and_from (is_object_among oid (born_objects before.past.attempts)) (not (is_dead_by_log before.world.log oid)) born
       (ap not (alive_then oid (not_dead after.world.log after.past.attempts oid is)))
 
-  was_available : (oid : ℕ) → not (is_object_among oid after.past.unavailable) ≡ true → not (is_object_among oid before.past.unavailable) ≡ true
+  pub was_available : (oid : ℕ) → not (is_object_among oid after.past.unavailable) ≡ true
+      → not (is_object_among oid before.past.unavailable) ≡ true
   was_available oid is =
       still_not (is_object_among oid before.past.unavailable) (is_object_among oid after.past.unavailable)
       (λ among. ap (is_object_among oid) goes_on.lacking_so

@@ -82,7 +82,7 @@ module _ (effects : List Effect) (good_id : ℕ → Bool) (hosts : Hosts) (attem
     LostKeep first list ledger =
         AllKeep ledger (map (λ (request : ℕ × Statement). WriterLost request.0) (filter chosen (enumerate_from first list)))
 
-    lost_keep : (first : ℕ) (list : List Statement) (ledger : Ledger)
+    pub lost_keep : (first : ℕ) (list : List Statement) (ledger : Ledger)
         → ((request : ℕ × Statement) → Contains (enumerate_from first list) request → chosen request ≡ true
         → (ledger.requests request.0).ended ≡ false)
         → LostKeep first list ledger
@@ -156,11 +156,11 @@ module _ (effects : List Effect) (good_id : ℕ → Bool) (hosts : Hosts) (attem
 
 module _ (script : List Statement) (range : RunsAreInRange script) (events : List Event) (start : MomentWithPast)
     (is_run : run_with_past script events ≡ Some start) where
-  began : Began script start.world
+  pub began : Began script start.world
   began = began-with_past script events start is_run
 
   -- who loses its reply as a node is lost hadn't ended
-  lost_unended : (n : ℕ) (host : Host) → tree.get start.world.hosts n ≡ Some host → is_host_up host ≡ true → (request : ℕ × Statement)
+  pub lost_unended : (n : ℕ) (host : Host) → tree.get start.world.hosts n ≡ Some host → is_host_up host ≡ true → (request : ℕ × Statement)
       → Contains (numbered_requests script) request → is_lost_write script start.world n host request ≡ true
       → ((ledger_of start.past.history).requests request.0).ended ≡ false
   lost_unended n host there up request listed passes =
@@ -199,11 +199,11 @@ module _ (script : List Statement) (range : RunsAreInRange script) (events : Lis
           let new = step_ends_none reply.0 script start.world (world_in_step script stepping start.world so_far) told.free stepping.cause in
           list_any-append (ends_write_of reply.0) start.past.history _ ∙ (λ i. old i || new i)
 
-      replied_ended : ((ledger_of before.past.history).requests reply.0).ended ≡ false
+      pub replied_ended : ((ledger_of before.past.history).requests reply.0).ended ≡ false
       replied_ended = ended_told reply.0 before.past.history ∙ replied_unended
 
       -- what it refuses is refused
-      refused_then : is_refusal reply.1 ≡ true → is_object_among reply.0 after.past.refused ≡ true
+      pub refused_then : is_refusal reply.1 ≡ true → is_object_among reply.0 after.past.refused ≡ true
       refused_then refuses =
           let (session, disk, (unanswered, asked, here)) = replied_open in
           let of_script : is_some (session_asking script reply.0) ≡ true = ap is_some asked.asking in

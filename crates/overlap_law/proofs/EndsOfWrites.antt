@@ -1,38 +1,31 @@
 -- No event ends the writes of a request that still has no reply behind it: a step replies to others, and a lost node's writers are its own.
-use Rattle.std.proofs.Common.{◌≡◌, ◌≢◌, ℕ, suc, ◌+◌, ◌==◌, Bool, true, false, ◌&&◌, ◌||◌, cond, List, [], ◌∷◌, map, filter, length, Contains, Option, Some, None, is_some, refl, sym, ap, ◌∙◌, arith, ⊎_elim}
-use Rattle.std.specs.Prelude.{◌/◌, flat_map, slice_get}
-use Rattle.std.specs.List.{enumerate_from, range_with_len}
+use Rattle.std.proofs.Common.{◌≡◌, ◌≢◌, ℕ, suc, ◌+◌, ◌==◌, Bool, true, false, ◌&&◌, List, [], ◌∷◌, map, filter, Contains, Option, Some}
+use Rattle.std.proofs.Common.{None, is_some, refl, sym, ap, ◌∙◌, arith, ⊎_elim}
+use Rattle.std.specs.Prelude.{flat_map, slice_get}
+use Rattle.std.specs.List.{enumerate_from}
 use Rattle.std.specs.Option.{option_map_or, option_and_then}
 use Rattle.std.proofs.lemmas.Bool.{and_parts, eqb-true, ne_eqb}
 use Rattle.proof_tools.proofs.Lists.{Contains-nil, Contains-cons_cases, filter-contains}
 use Rattle.object_id.specs.declared.entry.Entry.{Entry}
-use Rattle.object_id.specs.declared.entry.Entry.TheVariants as entries
-use Rattle.object_id.specs.declared.limits.TheConstants.{BLOCK_BYTES}
-use Rattle.object_id.specs.declared.oid.Kind.TheVariants.{Block}
-use Rattle.object_id.specs.declared.oid.Vid.{Vid}
-use Rattle.gf256.specs.Part.{is_in_strips}
 use Rattle.disk_history.specs.declared.event.HistEvent.{HistEvent}
-use Rattle.disk_history.specs.declared.event.HistEvent.TheVariants.{Copy, Read, WriteStart, WriterLost}
-use Rattle.vdi_directory.specs.declared.decision.Decision.{Decision}
-use Rattle.vdi_directory.specs.declared.decision.Decision.TheVariants as decisions
-use Rattle.vdi_directory.specs.declared.header.Header.{Header}
-use Rattle.vdi_directory.specs.Decisions.{decision_after}
+use Rattle.disk_history.specs.declared.event.HistEvent.TheVariants.{WriterLost}
 use Rattle.cluster_script.specs.declared.statement.Statement.{Statement}
-use Rattle.cluster_script.specs.declared.statement.Statement.TheVariants as lines
-use Rattle.cluster_script.specs.NumberedRequests.{request_at, payload_of, session_of, numbered_requests}
+use Rattle.cluster_script.specs.NumberedRequests.{request_at, session_of, numbered_requests}
 use Rattle.cluster_script.specs.Sessions.{ScriptSession}
-use Rattle.cluster_script.specs.Statements.{is_check, requests_of}
+use Rattle.cluster_script.specs.Statements.{requests_of}
 use Rattle.guest_driver.specs.declared.disk.Disk.{Disk}
 use Rattle.peer_proto.specs.declared.guest.GuestRsp.{GuestRsp}
-use Rattle.peer_proto.specs.declared.guest.GuestRsp.TheVariants as answers
 use Rattle.sheep_node.specs.declared.check_write.CheckWrite.{CheckWrite}
 use Rattle.sheep_world.specs.World.{Host, World}
 use Rattle.sheep_world.specs.Effects.{open_disk_at, request_started}
-use Rattle.sheep_world.specs.Granted.{granted_header, disk_cloned, disk_made, granted_adds, decided_adds, entry_adds}
-use Rattle.sheep_world.specs.HistoryAdditions.{added_by, begins_on, block_checked, block_in, blocks_read, check_write_adds, check_write_by, check_write_grown, disk_of, has_begun_check_write, is_lost_write, is_of_incarnation, is_on_disk, is_writing_request, replies_grown, reply_adds, reply_grown, request_grown, write_ended}
-use Rattle.sheep_world.specs.NodeCauses.{NodeCause, GuestAsks, RequestComes, ReplyComes, LossIsTold, EntryIsRead, EntryIsPut, RecoveryTicks, WorkIsRetried, history_of_cause}
+use Rattle.sheep_world.specs.Granted.{entry_adds}
+use Rattle.sheep_world.specs.HistoryAdditions.{added_by, begins_on, blocks_read, check_write_by, check_write_grown, disk_of, is_lost_write}
+use Rattle.sheep_world.specs.HistoryAdditions.{is_of_incarnation, is_writing_request, replies_grown, reply_grown, request_grown}
+use Rattle.sheep_world.specs.NodeCauses.{NodeCause, GuestAsks, RequestComes, ReplyComes, LossIsTold, EntryIsRead, EntryIsPut, RecoveryTicks}
+use Rattle.sheep_world.specs.NodeCauses.{WorkIsRetried, history_of_cause}
 use Rattle.overlap_law.specs.DiskEvents.{ends_write_of}
-use Rattle.overlap_law.proofs.DiskEventsOfHolders.{HasNone, append_none, flat_none, flat_none_in, map_none, map_none_in}
+use Rattle.overlap_law.proofs.ClosedAdditions.{none_of, reads_add, reply_add, end_so, asks_add, entry_add, checks_add, replies_add}
+use Rattle.overlap_law.proofs.DiskEventsOfHolders.{HasNone, append_none, map_none_in}
 use Rattle.overlap_law.proofs.SessionsOfRequests.{IsAskedIn}
 
 -- ---- what ends nothing
@@ -41,95 +34,41 @@ module _ (req : ℕ) where
   abbrev test : HistEvent → Bool
   test = ends_write_of req
 
-  ended_none : (other : ℕ) (rsp : GuestRsp) → (other == req) ≡ false → HasNone test (write_ended other rsp ∷ [])
-  ended_none other answers.Done apart = λ i. apart i || false
-  ended_none other (answers.Piece bytes) apart = λ i. apart i || false
-  ended_none other (answers.Refused cause) apart = λ i. apart i || false
-  ended_none other (answers.Granted id) apart = λ i. apart i || false
-  ended_none other (answers.Checked found) apart = λ i. apart i || false
+  abbrev IsOther : HistEvent → Type 0
+  IsOther event = ends_write_of req event ≡ false
 
   pub read_none : (disk offset : ℕ) (rsp : GuestRsp) → HasNone test (blocks_read disk offset rsp)
-  read_none disk offset answers.Done = refl
-  read_none disk offset (answers.Piece bytes) =
-      map_none test (λ (place : ℕ). Read disk (offset / BLOCK_BYTES + place) (block_in bytes place)) (λ place. refl)
-      (range_with_len 0 (length bytes / BLOCK_BYTES))
-  read_none disk offset (answers.Refused cause) = refl
-  read_none disk offset (answers.Granted id) = refl
-  read_none disk offset (answers.Checked found) = refl
-
-  adds_none : (written : Bool) (other : ℕ) (rsp : GuestRsp) (disk : ℕ) (s : Statement) → (other == req) ≡ false
-      → HasNone test (reply_adds written other rsp disk s)
-  adds_none written other rsp disk (lines.Read number offset size) apart = read_none disk offset rsp
-  adds_none written other rsp disk (lines.Write number offset size pattern) apart = ended_none other rsp apart
-  adds_none true other rsp disk (lines.Check number) apart = ended_none other rsp apart
-  adds_none false other rsp disk (lines.Check number) apart = refl
-  adds_none written other rsp disk s apart = refl
+  read_none disk offset rsp = none_of test (blocks_read disk offset rsp) (reads_add IsOther (λ disk block bytes. refl) disk offset rsp)
 
   pub added_none : (written : Bool) (other : ℕ) (rsp : GuestRsp) (disk : Option ℕ) (s : Option Statement) → (other == req) ≡ false
       → HasNone test (added_by written other rsp disk s)
-  added_none written other rsp None s apart = refl
-  added_none written other rsp (Some disk) None apart = refl
-  added_none written other rsp (Some disk) (Some s) apart = adds_none written other rsp disk s apart
-
-  writes_none : (other : ℕ) (disk : Option Disk) (s : Statement) → HasNone test (begins_on other disk s)
-  writes_none other None (lines.Write number offset size pattern) = refl
-  writes_none other (Some opened) (lines.Write number offset size pattern) =
-      map_none test
-      (λ (place : ℕ).
-      WriteStart other opened.inode.vid (offset / BLOCK_BYTES + place) (is_in_strips opened.inode.spec.policy Block)
-      (block_in (payload_of pattern size) place))
-      (λ place. refl) (range_with_len 0 (length (payload_of pattern size) / BLOCK_BYTES))
-  writes_none other disk s = refl
+  added_none written other rsp disk s apart =
+      none_of test (added_by written other rsp disk s)
+      (reply_add IsOther (λ disk block bytes. refl) written other rsp (end_so IsOther other rsp (λ done. apart) apart) disk s)
 
   pub asks_none : (other : ℕ) (disk : Option Disk) (s : Option Statement) → HasNone test (option_map_or (begins_on other disk) s [])
-  asks_none other disk None = refl
-  asks_none other disk (Some s) = writes_none other disk s
-
-  granted_none : (log : List Entry) (id : Vid) (entry : Entry) → HasNone test (granted_adds log id entry)
-  granted_none log id (entries.Publish by of) = by_header (granted_header log id)
-    where
-      by_header : (header : Option Header) → HasNone test (option_map_or (disk_made id) header [])
-      by_header None = refl
-      by_header (Some header) = refl
-  granted_none log id (entries.Clone by of) = by_header (granted_header log id)
-    where
-      by_parent : (parent : Option Vid) → HasNone test (option_map_or (λ (parent : Vid). Copy parent.0 id.0 ∷ []) parent [])
-      by_parent None = refl
-      by_parent (Some parent) = refl
-
-      by_header : (header : Option Header) → HasNone test (option_map_or (disk_cloned id) header [])
-      by_header None = refl
-      by_header (Some header) = by_parent header.parent
-  granted_none log id entry = refl
+  asks_none other disk s =
+      none_of test (option_map_or (begins_on other disk) s []) (asks_add IsOther other disk s (λ opened block coded bytes is. refl))
 
   pub entry_none : (log : List Entry) (entry : Entry) → HasNone test (entry_adds log entry)
-  unfolding entry_adds
-  entry_none log entry = by_decision (decision_after log entry)
-    where
-      by_decision : (decision : Decision) → HasNone test (decided_adds log entry decision)
-      by_decision decisions.None = refl
-      by_decision (decisions.Granted id) = granted_none log id entry
-      by_decision (decisions.Refused cause) = refl
+  entry_none log entry =
+      none_of test (entry_adds log entry)
+      (entry_add IsOther (λ disk blocks. refl) (λ old new. refl) (λ disk. refl) log entry)
 
   module _ (script : List Statement) where
     pub checks_none : (write : Option CheckWrite) → HasNone test (option_map_or (check_write_grown script) write [])
-    checks_none None = refl
-    checks_none (Some write) = by_check (option_map_or is_check (request_at script write.req) false)
-      where
-        by_check : (b : Bool) → HasNone test (cond b (check_write_adds write) [])
-        by_check false = refl
-        by_check true =
-            flat_none test (block_checked write) (λ place. refl)
-            (filter (is_on_disk write) (range_with_len 0 (length write.value / BLOCK_BYTES)))
+    checks_none write =
+        none_of test (option_map_or (check_write_grown script) write [])
+        (checks_add IsOther (λ disk block bytes. refl) script write (λ other disk block coded bytes. refl))
 
-    replies_none : (before : World) (write : Option CheckWrite) (replies : List (ℕ × GuestRsp))
+    pub replies_none : (before : World) (write : Option CheckWrite) (replies : List (ℕ × GuestRsp))
         → ((reply : ℕ × GuestRsp) → Contains replies reply → reply.0 ≢ req)
         → HasNone test (flat_map (reply_grown script before write) replies)
     replies_none before write replies apart =
-        flat_none_in test (reply_grown script before write) replies
+        none_of test (flat_map (reply_grown script before write) replies)
+        (replies_add IsOther (λ disk block bytes. refl) script before write replies
         (λ reply among.
-        added_none (has_begun_check_write script reply.0 before write) reply.0 reply.1 (disk_of script reply.0 before)
-        (request_at script reply.0) (ne_eqb reply.0 req (apart reply among)))
+        let other = ne_eqb reply.0 req (apart reply among) in end_so IsOther reply.0 reply.1 (λ done. other) other))
 
     -- ---- a step ends no write of a request to which it doesn't reply
 

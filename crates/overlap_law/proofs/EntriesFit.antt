@@ -1,21 +1,21 @@
 -- What an entry makes, copies or deletes may come next in a history that has the disks that the log has made, deleted where they are so by
 -- the log; and then the history has them again.
-use Rattle.std.proofs.Common.{◌≡◌, inl, inr, ℕ, ◌==◌, ◌&&◌, Bool, true, false, not, cond, List, [], ◌∷◌, ◌++◌, fold, Option, Some, None, is_some, option_map, Result, Ok, Err, refl, sym, ap, subst, ◌∙◌}
+use Rattle.std.proofs.Common.{◌≡◌, inl, inr, ℕ, ◌==◌, ◌&&◌, Bool, true, false, not, cond, List, [], ◌∷◌, ◌++◌, fold, Option, Some, None}
+use Rattle.std.proofs.Common.{is_some, option_map, Result, Ok, Err, refl, sym, ap, subst, ◌∙◌}
 use Rattle.std.specs.Prelude.{is_none}
 use Rattle.std.specs.Option.{option_map_or}
 use Rattle.std.proofs.lemmas.Bool.{both_ways, eqb-true, eq-eqb, and_parts, and_from}
 use Rattle.proof_tools.proofs.Booleans.{cond_either}
 use Rattle.object_id.specs.declared.cause.Cause.{Cause}
-use Rattle.object_id.specs.declared.cause.Cause.TheVariants as causes
 use Rattle.object_id.specs.declared.entry.Entry.{Entry}
 use Rattle.object_id.specs.declared.entry.Entry.TheVariants as entries
 use Rattle.object_id.specs.declared.entry.Origin.{Origin}
-use Rattle.object_id.specs.declared.entry.Origin.TheVariants.{Fresh, SnapshotOf, CloneOf}
 use Rattle.object_id.specs.declared.entry.VdiSpec.{VdiSpec}
 use Rattle.object_id.specs.declared.node.NodeId.{NodeId}
 use Rattle.object_id.specs.declared.oid.Vid.{Vid}
 use Rattle.disk_history.specs.declared.event.HistEvent.{HistEvent}
-use Rattle.disk_history.specs.declared.event.HistEvent.TheVariants.{Create, Copy, Delete, WriteStart, WriteDone, WriteRefused, WriterLost, Read}
+use Rattle.disk_history.specs.declared.event.HistEvent.TheVariants.{Create, Copy, Delete, WriteStart, WriteDone, WriteRefused, WriterLost}
+use Rattle.disk_history.specs.declared.event.HistEvent.TheVariants.{Read}
 use Rattle.disk_history.specs.Ledger.{Disk, Ledger, changed_at, ledger_after}
 use Rattle.disk_lock.specs.declared.holder.Holder.{Holder}
 use Rattle.sheep_world.specs.Granted.{granted_header, disk_made, disk_cloned, decided_adds, entry_adds}
@@ -26,17 +26,17 @@ use Rattle.vdi_directory.specs.declared.effect.Reservation.{Reservation}
 use Rattle.vdi_directory.specs.declared.effect.Source.{Source}
 use Rattle.vdi_directory.specs.declared.effect.Source.TheVariants as sources
 use Rattle.vdi_directory.specs.declared.header.Header.{Header}
-use Rattle.vdi_directory.specs.Decisions.{nothing, silent_outcome, grant_outcome, refusal_outcome, is_held_by, is_reserved_by, is_taken, grant_of, or_full, reservation_outcome, with_spec, held_disk, reserved_snapshot, reserved_clone, reserve_outcome, publication, replacement, snapshot_outcome, target, deletion, lock, release, outcome, log_effects}
-use Rattle.vdi_directory.specs.Effects.{is_used, header_of, name_of, reservations_of, reservation_on, holder_of}
-use Rattle.vdi_directory.specs.Names.{snapshot_with_tag, is_live_name}
+use Rattle.vdi_directory.specs.Decisions.{nothing, silent_outcome, grant_outcome, is_held_by, is_reserved_by, grant_of, reserve_outcome}
+use Rattle.vdi_directory.specs.Decisions.{publication, replacement, snapshot_outcome, target, deletion, lock, release, outcome, log_effects}
+use Rattle.vdi_directory.specs.Effects.{header_of, reservations_of, reservation_on, holder_of}
 use Rattle.vdi_directory.specs.Sources.{is_for, tag_for}
 use Rattle.vdi_directory.specs.Sound.{In, IsSound, IsLawful}
 use Rattle.vdi_directory.specs.States.{VdiState, Reserved, Working, Snapshot, Deleted, state_of, is_live_state, freed_state, state_after}
-use Rattle.vdi_directory.specs.Vids.{free_id}
 use Rattle.vdi_directory.proofs.LawfulEntries.{in-find, lawful-outcome, sound-log_effects}
 use Rattle.vdi_directory.proofs.StateLemmas.{log_effects-push}
 use Rattle.vdi_directory.proofs.SoundEffects.{state_of-push}
 use Rattle.overlap_law.specs.ToldReads.{MayFollowUnlessRead, AllElseMayFollow}
+use Rattle.overlap_law.proofs.ClosedReservations.{reserves_so}
 use Rattle.overlap_law.proofs.DiskShapes.{Shapes, shape, shapes_after, event_shapes}
 use Rattle.overlap_law.proofs.DrawnClones.{shown, parent_by, IsDrawn, IsOfSource, freed_shown, left_shown, live_shown, clones_so}
 
@@ -145,43 +145,9 @@ module _ (log : List Entry) (f : Shapes) (are : (v : ℕ) → f v ≡ shown (sta
             ap shown (ap (state_of before) (sym (eqb-true vid v same)) ∙ sound.unused vid lawful.1)
         by_test v false apart = refl
 
-    refused_fits : (cause : Cause) → FitsReserve (refusal_outcome cause)
-    refused_fits cause lawful = nothing_fits
-
-    full_fits : (source : Source) (parent : Option Vid) (spec : VdiSpec) (o : Option ℕ)
-        → FitsReserve (or_full o (grant_of before by session name source parent spec))
-    full_fits source parent spec None = refused_fits causes.FullVdi
-    full_fits source parent spec (Some vid) = granted_fits source parent spec vid
-
-    spec_fits : (source : Source) (parent : Option Vid) (header : Option Header)
-        → FitsReserve (with_spec header (reservation_outcome before by session name source parent))
-    spec_fits source parent None lawful = nothing_fits
-    spec_fits source parent (Some header) lawful = full_fits source parent header.spec (free_id name (is_used before)) lawful
-
     reserves : (origin : Origin) → FitsReserve (reserve_outcome before by session name origin)
-    reserves (Fresh spec) =
-        cond_either FitsReserve (is_taken before name) (refusal_outcome causes.VdiExist)
-        (reservation_outcome before by session name sources.Fresh None spec) (refused_fits causes.VdiExist)
-        (full_fits sources.Fresh None spec (free_id name (is_used before)))
-    reserves (SnapshotOf tag) = by_disk (held_disk before by session (name_of before name).working)
-      where
-        by_disk : (o : Option Vid) → FitsReserve (reserved_snapshot before by session name tag o)
-        by_disk None = refused_fits causes.VdiNotLocked
-        by_disk (Some old) =
-            cond_either FitsReserve (is_some (snapshot_with_tag tag (name_of before name))) (refusal_outcome causes.VdiExist)
-            (with_spec (header_of before old.0) (reservation_outcome before by session name (sources.Snapshot old tag) (Some old)))
-            (refused_fits causes.VdiExist) (spec_fits (sources.Snapshot old tag) (Some old) (header_of before old.0))
-    reserves (CloneOf base tag) =
-        cond_either FitsReserve (is_live_name (name_of before base))
-        (reserved_clone before by session name (snapshot_with_tag tag (name_of before base))) (refusal_outcome causes.NoBaseVdi)
-        (by_base (snapshot_with_tag tag (name_of before base))) (refused_fits causes.NoBaseVdi)
-      where
-        by_base : (o : Option Vid) → FitsReserve (reserved_clone before by session name o)
-        by_base None = refused_fits causes.NoTag
-        by_base (Some of) =
-            cond_either FitsReserve (is_taken before name) (refusal_outcome causes.VdiExist)
-            (with_spec (header_of before of.0) (reservation_outcome before by session name sources.Clone (Some of)))
-            (refused_fits causes.VdiExist) (spec_fits sources.Clone (Some of) (header_of before of.0))
+    reserves =
+        reserves_so before by session name FitsReserve (λ cause is lawful. nothing_fits) (λ lawful. nothing_fits) granted_fits
 
   -- ---- a publication
 

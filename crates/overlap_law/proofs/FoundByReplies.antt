@@ -44,7 +44,7 @@ right_none : (a b : Bool) → b ≡ false → (a && b) ≡ false
 right_none true b none = none
 right_none false b none = refl
 
-lost_fails : (number : ℕ) (messages : List Message) → list_any (is_awaited_message number) messages ≡ true
+pub lost_fails : (number : ℕ) (messages : List Message) → list_any (is_awaited_message number) messages ≡ true
     → list_all (λ (message : Message). is_success message.status) (messages_with_status number Lost messages) ≡ false
 lost_fails number [] waits = absurd (cc (waits))
 lost_fails number (message ∷ later) waits = by_test (message.number == number) refl (lost_fails number later)

@@ -78,7 +78,7 @@ begun_none inode = by_list (own_indexes inode)
     by_list [] = refl
     by_list (index ∷ later) = refl
 
-begins_without : (req : ℕ) (B : Type 0) → BeginsSo req (HoldsIfFound req B)
+pub begins_without : (req : ℕ) (B : Type 0) → BeginsSo req (HoldsIfFound req B)
 begins_without req B = record {
   waits = λ ask is. absurd (cc (is));
   commands = λ op is. absurd (cc (is));
@@ -89,7 +89,7 @@ begins_without req B = record {
 
 -- ---- a check's write begins a block
 
-check_line : (o : Option Statement) → option_and_then ask_of_statement o ≡ Some (asks.Vdi disk_commands.Check)
+pub check_line : (o : Option Statement) → option_and_then ask_of_statement o ≡ Some (asks.Vdi disk_commands.Check)
     → option_map_or is_check o false ≡ true
 check_line None asks = absurd (cc (asks))
 check_line (Some (lines.Check session)) asks = refl

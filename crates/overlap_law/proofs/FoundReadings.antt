@@ -59,7 +59,7 @@ long_written Block offset unit piece is covers =
     let cut = length-piece piece (512 * unit - offset) 512 in
     omega (arith, low, high, cut)
 
-long_block : (unit : ℕ) (work : ObjWork) → IsWork work → covers_by unit work ≡ true → kind_of (oid_of work) ≡ Block
+pub long_block : (unit : ℕ) (work : ObjWork) → IsWork work → covers_by unit work ≡ true → kind_of (oid_of work) ≡ Block
     → length (bytes_by unit work) ≡ 512
 long_block unit (works.Create oid policy size offset piece) is covers block =
     long_created (kind_of oid) size offset unit piece block is.1 covers

@@ -1,6 +1,6 @@
--- What a snapshot's inode may come to have stays one entry at each index, over each change of a moment: nothing begins on a snapshot, and
--- as a disk becomes one its inode may come to have what the session's table has.
-use Rattle.std.proofs.Common.{◌≡◌, ◌⊎◌, inl, inr, ⊎_elim, ℕ, ◌<◌, ◌&&◌, not, Bool, true, false, All, List, [], ◌∷◌, ◌++◌, Option, Some}
+-- Nothing begins on a snapshot, so over each change of a moment what its inode may come to have it might before; and as a disk becomes one
+-- its inode may come to have what the session's table has.
+use Rattle.std.proofs.Common.{◌≡◌, ◌⊎◌, inl, inr, ⊎_elim, ℕ, ◌<◌, ◌&&◌, not, Bool, true, false, All, List, ◌∷◌, ◌++◌, Option, Some}
 use Rattle.std.proofs.Common.{None, IfSome, option_map, is_some, slice_index, refl, sym, ap, subst, ◌∙◌}
 use Rattle.std.specs.FinMap as tree
 use Rattle.std.specs.List.{list_any}
@@ -22,15 +22,13 @@ use Rattle.vdi_directory.specs.declared.effect.Effect.{Effect}
 use Rattle.vdi_directory.specs.declared.header.Header.{Header}
 use Rattle.vdi_directory.specs.Dead.{is_gone, is_heir, granted_ids, is_dead}
 use Rattle.vdi_directory.specs.Decisions.{outcome, log_effects}
-use Rattle.vdi_directory.specs.Effects.{header_of}
+use Rattle.vdi_directory.specs.Effects.{header_of, is_used}
 use Rattle.vdi_directory.specs.Sound.{IsLiveSnapshot}
-use Rattle.vdi_directory.specs.States.{VdiState, state_of, state_after, is_live_state}
+use Rattle.vdi_directory.specs.States.{VdiState, state_of, is_live_state}
 use Rattle.vdi_directory.specs.States as states
 use Rattle.vdi_directory.proofs.DeadLemmas.{live-used}
 use Rattle.vdi_directory.proofs.LawfulEntries.{lawful-outcome, sound-log_effects}
 use Rattle.vdi_directory.proofs.LineLemmas.{line-log_effects}
-use Rattle.vdi_directory.proofs.SoundEffects.{state_of-push}
-use Rattle.vdi_directory.proofs.StateLemmas.{log_effects-push}
 use Rattle.sheep_node.specs.Changes.{attempt_in}
 use Rattle.sheep_node.specs.declared.event.Event.{Event}
 use Rattle.sheep_world.specs.Began.{Began}
@@ -40,7 +38,7 @@ use Rattle.overlap_law.specs.Attempts.{AttemptRecord, object_of}
 use Rattle.overlap_law.specs.Drafts.{published_by}
 use Rattle.overlap_law.specs.Each.{spec_in}
 use Rattle.overlap_law.specs.Grants.{writer_of}
-use Rattle.overlap_law.specs.LastReads.{snaps}
+use Rattle.overlap_law.specs.LastReads.{snaps, was_snapped}
 use Rattle.overlap_law.specs.MomentChanges.{MomentChange, MomentTrail, RunsAreInRange}
 use Rattle.overlap_law.specs.MomentChanges as moments
 use Rattle.overlap_law.specs.Past.{MomentWithPast, run_with_past}
@@ -50,7 +48,6 @@ use Rattle.overlap_law.specs.TiedAttempts.{IsTied}
 use Rattle.overlap_law.specs.ToCome.{IsEntryToCome, IsBeingEntered, SnapshotsStayFrozen, TablesStayTheInodes}
 use Rattle.overlap_law.specs.Writers.{session_holder}
 use Rattle.overlap_law.proofs.ClosedSnapshots.{snaps-working, snapped-no_writer}
-use Rattle.overlap_law.proofs.CreatedInodes.{header_is}
 use Rattle.overlap_law.proofs.FinishedInMoments.{TermsHold, kept_terms}
 use Rattle.overlap_law.proofs.GrantedAttempts.{only_writer-in_run}
 use Rattle.overlap_law.proofs.GrantedEpochs.{spec_stays}
@@ -61,10 +58,9 @@ use Rattle.overlap_law.proofs.NamedEntries.{opened_there, opened_up}
 use Rattle.overlap_law.proofs.NewAttempts.{IsOpened, WasAttempt, come_from}
 use Rattle.overlap_law.proofs.NoRecoveredDue.{began-with_past}
 use Rattle.overlap_law.proofs.PublishedIds.{snapshot_entry}
-use Rattle.overlap_law.proofs.PublishedInodes.{IsOfMembers, members_publish, IsPutNow, log_gets}
+use Rattle.overlap_law.proofs.PublishedInodes.{IsOfMembers, members_publish, IsPutNow}
 use Rattle.overlap_law.proofs.RunsByChanges.{on_the_way}
 use Rattle.overlap_law.proofs.ShapedAttempts.{kept_shaped}
-use Rattle.overlap_law.proofs.SnapshotChains.{snapshot-from, snapshot_was}
 use Rattle.overlap_law.proofs.SnapshotsTaken.{IsTaking, taking, none_entered}
 use Rattle.overlap_law.proofs.TiedInRuns.{kept_tied}
 use Rattle.overlap_law.proofs.ToComeStays.{to_come_before}
@@ -87,14 +83,13 @@ unfolding is_dead
 working_lives effects vid is =
     ap (λ (state : VdiState). is_gone state && not (list_any (is_heir effects vid) (granted_ids effects))) is
 
--- what a live disk is made with was so before
-pub spec_before : (log later : List Entry) (vid : ℕ) (spec : VdiSpec) → is_live_state (state_of (log_effects log) vid) ≡ true
+-- what an id that is used is made with was so before
+pub used_spec : (log later : List Entry) (vid : ℕ) (spec : VdiSpec) → is_used (log_effects log) vid ≡ true
     → spec_in (log_effects (log ++ later)) vid ≡ Some spec → spec_in (log_effects log) vid ≡ Some spec
-spec_before log later vid spec live now = by_header (header_of (log_effects log) vid) refl
+used_spec log later vid spec used now = by_header (header_of (log_effects log) vid) refl
   where
     by_header : (o : Option Header) → header_of (log_effects log) vid ≡ o → spec_in (log_effects log) vid ≡ Some spec
     by_header None none =
-        let used = live-used (log_effects log) (sound-log_effects log) vid live in
         let known : is_some (header_of (log_effects log) vid) ≡ true = sym ((line-log_effects log).known vid) ∙ used in
         let not : is_some (header_of (log_effects log) vid) ≡ false = ap is_some none in
         absurd (cc (known, not))
@@ -102,8 +97,11 @@ spec_before log later vid spec live now = by_header (header_of (log_effects log)
         let was : spec_in (log_effects log) vid ≡ Some header.spec = ap (option_map (λ (h : Header). h.spec)) there in
         was ∙ sym (spec_stays log later vid header.spec was) ∙ now
 
-live_snapshot : (state : VdiState) → is_snapshot_effect state ≡ true → is_live_state state ≡ true
-live_snapshot state is = let (tag, same) = snapshot_so state is in ap is_live_state same
+-- and of a live disk
+pub spec_before : (log later : List Entry) (vid : ℕ) (spec : VdiSpec) → is_live_state (state_of (log_effects log) vid) ≡ true
+    → spec_in (log_effects (log ++ later)) vid ≡ Some spec → spec_in (log_effects log) vid ≡ Some spec
+spec_before log later vid spec live =
+    used_spec log later vid spec (live-used (log_effects log) (sound-log_effects log) vid live)
 
 -- ---- as a disk becomes a snapshot
 
@@ -160,24 +158,23 @@ module _ (script : List Statement) (range : RunsAreInRange script) (events : Lis
   reservable : All IsReservable after.world.log
   reservable = (on_the_way script LogIsReservable (kept_reservable script range) events start after is (moments.Then trail change)).all
 
-  -- nothing begins on a snapshot
-  none_opens : (vid index j : ℕ) (now : AttemptRecord) → IsVid vid → is_snapshot_effect (state_of (log_effects after.world.log) vid) ≡ true
+  -- nothing begins on what was a snapshot once
+  none_opens : (vid index j : ℕ) (now : AttemptRecord) → IsVid vid → was_snapped after.world.log vid ≡ true
       → IsEntryToCome after.world.hosts after.past.attempts vid index j now → IsOpened script start after now → ⊥
-  none_opens vid index j now is_vid snapshot comes o =
+  none_opens vid index j now is_vid snapped comes o =
       let writes = (only_writer-in_run script range events start after is (moments.Then trail change)).each o.stepping.n _
       (opened_there script start after now o) (opened_up script start after now o) o.req
       (record o.asked { stage = Open (attempt_in o.asked o.lined.node) }) o.at_gateway o.making in
       let id : vid_of (oid_of o.asked.work) ≡ vid
       = ap vid_of (ap (λ (a : AttemptRecord). object_of a) o.opened ∙ comes.object) ∙ vid-of_inode vid is_vid in
-      snapped-no_writer after.world.log vid (session_holder o.stepping.n writes.request.session)
-      (snapshot_was vid after.world.log (snapshot_so (state_of (log_effects after.world.log) vid) snapshot))
+      snapped-no_writer after.world.log vid (session_holder o.stepping.n writes.request.session) snapped
       (ap (writer_of (log_effects after.world.log)) (sym id) ∙ writes.may.writer)
 
   -- what may come then might come before
-  was_come : (vid index j : ℕ) (now : AttemptRecord) → IsVid vid → is_snapshot_effect (state_of (log_effects after.world.log) vid) ≡ true
+  pub was_come : (vid index j : ℕ) (now : AttemptRecord) → IsVid vid → was_snapped after.world.log vid ≡ true
       → IsEntryToCome after.world.hosts after.past.attempts vid index j now
       → (w : WasAttempt before j now) × IsEntryToCome before.world.hosts before.past.attempts vid index j w.was
-  was_come vid index j now is_vid snapshot comes = ⊎_elim
+  was_come vid index j now is_vid snapped comes = ⊎_elim
       (λ (w : WasAttempt before j now). (
         w,
         to_come_before script range start before after began change
@@ -186,7 +183,7 @@ module _ (script : List Statement) (range : RunsAreInRange script) (events : Lis
             (on_the_way script IsTied (kept_tied script range) events start before is trail) (inode_number vid) (entry_unit index) j now
             comes w,
       ))
-      (λ (o : IsOpened script start after now). absurd (none_opens vid index j now is_vid snapshot comes o))
+      (λ (o : IsOpened script start after now). absurd (none_opens vid index j now is_vid snapped comes o))
       (come_from script range start began change j now comes.there)
 
   module _ (tables : TablesStayTheInodes (log_effects before.world.log) good_id before.world.hosts before.past.attempts)
@@ -230,50 +227,3 @@ module _ (script : List Statement) (range : RunsAreInRange script) (events : Lis
           by_whose (by, old, of, says, own) (inr (same, put)) =
               subst Agree (sym same)
               (at_start by old of says own same (subst (λ (m : MomentWithPast). IsPutNow m.world.hosts entry) same put))
-
-      agree_before : is_snapshot_effect (state_of (log_effects after.world.log) vid) ≡ true
-          → spec_in (log_effects after.world.log) vid ≡ Some spec
-          → Agree before
-      agree_before snapshot made_with = ⊎_elim
-          (λ (same : after.world.log ≡ before.world.log).
-          were_frozen (ap (λ (log : List Entry). is_snapshot_effect (state_of (log_effects log) vid)) (sym same) ∙ snapshot)
-          (ap (λ (log : List Entry). spec_in (log_effects log) vid) (sym same) ∙ made_with))
-          (λ (more : (entry : Entry) × (after.world.log ≡ before.world.log ++ entry ∷ [])
-          × (IsOfMembers entry ⊎ ((before ≡ start) × IsPutNow before.world.hosts entry))).
-          by_entry more.0 more.1 more.2)
-          (log_gets script change)
-        where
-          by_entry : (entry : Entry) → after.world.log ≡ before.world.log ++ entry ∷ []
-              → IsOfMembers entry ⊎ ((before ≡ start) × IsPutNow before.world.hosts entry) → Agree before
-          by_entry entry longer whose =
-              let log = before.world.log in
-              let effect = (outcome (log_effects log) entry).effect in
-              let known : spec_in (log_effects (log ++ entry ∷ [])) vid ≡ Some spec
-              = ap (λ (all : List Entry). spec_in (log_effects all) vid) (sym longer) ∙ made_with in
-              let state_so : state_of (log_effects after.world.log) vid ≡ state_after vid (state_of (log_effects log) vid) effect
-              = ap (λ (all : List Entry). state_of (log_effects all) vid) longer
-              ∙ ap (λ (all : List Effect). state_of all vid) (log_effects-push log entry) ∙ state_of-push (log_effects log) effect vid in
-              ⊎_elim
-              (λ (now : snaps vid effect ≡ true).
-              taken_now entry now
-              (spec_before log (entry ∷ []) vid spec
-              (ap is_live_state (snaps-working (log_effects log) effect vid
-              (lawful-outcome (log_effects log) (sound-log_effects log) entry) now))
-              known) whose)
-              (λ (was : IsLiveSnapshot (state_of (log_effects log) vid)).
-              were_frozen (so_snapshot (state_of (log_effects log) vid) was)
-              (spec_before log (entry ∷ []) vid spec
-              (live_snapshot (state_of (log_effects log) vid) (so_snapshot (state_of (log_effects log) vid) was)) known))
-              (snapshot-from vid (state_of (log_effects log) vid) effect
-              (subst IsLiveSnapshot state_so (snapshot_so (state_of (log_effects after.world.log) vid) snapshot)))
-
-    pub frozen_after : SnapshotsStayFrozen (log_effects after.world.log) good_id after.world.hosts after.past.attempts
-    frozen_after = record {
-      each = λ vid index spec snapshot good made_with within i j one other comes comes_too.
-          let is_vid = (header_is after.world.log reservable vid spec made_with).0 in
-          let (w, was) = was_come vid index i one is_vid snapshot comes in
-          let (w_too, was_too) = was_come vid index j other is_vid snapshot comes_too in
-          ap (λ (a : AttemptRecord). entry_by index a) (sym w.same)
-          ∙ agree_before vid index spec is_vid good within snapshot made_with i j w.was w_too.was was was_too
-          ∙ ap (λ (a : AttemptRecord). entry_by index a) w_too.same;
-    }

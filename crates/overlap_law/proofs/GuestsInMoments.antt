@@ -1,27 +1,23 @@
 -- Over a change of a moment a node keeps its gateway and its sessions, or has none; or it goes on in its step. And the attempts are as
 -- they were then, but for their fates.
-use Rattle.std.proofs.Common.{◌≡◌, ◌≢◌, ◌⊎◌, inl, inr, ⊎_elim, ℕ, false, List, [], ◌∷◌, Some, slice_get, refl, sym, ap, subst, ◌∙◌}
+use Rattle.std.proofs.Common.{◌≡◌, ◌≢◌, ◌⊎◌, inl, inr, ⊎_elim, ℕ, false, List, Some, slice_get, refl, sym, ap, subst, ◌∙◌}
 use Rattle.std.specs.FinMap as tree
-use Rattle.proof_tools.proofs.Booleans.{cond_either}
 use Rattle.proof_tools.proofs.FiniteMaps.{get-insert_cases}
 use Rattle.object_id.specs.declared.entry.Entry.{Entry}
 use Rattle.cluster_script.specs.declared.statement.Statement.{Statement}
-use Rattle.gateway.specs.State as gateway_states
-use Rattle.recovery.specs.Steps as recovery_steps
 use Rattle.sheep_node.specs.declared.event.Event.{Event}
 use Rattle.sheep_node.specs.declared.input.Input.TheVariants as inputs
 use Rattle.sheep_node.specs.State.{Node}
-use Rattle.sheep_node.specs.RecoveryView.{recovery_state_of}
 use Rattle.sheep_node.specs.StepState.{StepState, at_first, with_node}
-use Rattle.sheep_node.specs.LogReading.{entry_read, on_back}
-use Rattle.sheep_node.specs.Step.{on_request, recovery_stepped, on_put, on_recover_tick, on_input, is_due, with_recovered, recovered_put}
+use Rattle.sheep_node.specs.LogReading.{on_back}
+use Rattle.sheep_node.specs.Step.{on_input}
 use Rattle.sheep_node.specs.Step.{node_step}
 use Rattle.sheep_node.specs.Changes.{input_received}
 use Rattle.sheep_world.specs.World.{Host}
 use Rattle.sheep_world.specs.Step.{EventOutcome}
 use Rattle.sheep_world.specs.MembershipChanges.{lost_host}
-use Rattle.sheep_world.specs.NodeCauses.{NodeCause, GuestAsks, RequestComes, ReplyComes, LossIsTold, EntryIsRead, EntryIsPut, RecoveryTicks}
-use Rattle.sheep_world.specs.NodeCauses.{WorkIsRetried, input_of_cause, host_with_node}
+use Rattle.sheep_world.specs.NodeCauses.{NodeCause}
+use Rattle.sheep_world.specs.NodeCauses.{input_of_cause, host_with_node}
 use Rattle.sheep_world.specs.EventKinds.{log_after_return}
 use Rattle.sheep_world.specs.HostChanges.{host_after_return, joined_host}
 use Rattle.overlap_law.specs.Attempts.{AttemptRecord}
@@ -32,6 +28,7 @@ use Rattle.overlap_law.specs.StepMoments.{SteppingNode, IsStepping, StepsByChang
 use Rattle.overlap_law.specs.StepMoments.{moment_in_step, attempts_with_loss, attempts_at_cause}
 use Rattle.overlap_law.specs.MomentChanges as moments
 use Rattle.overlap_law.specs.MomentChanges.{MomentChange}
+use Rattle.overlap_law.proofs.ClosedToAsks.{received_alike, due_alike, made_alike}
 use Rattle.overlap_law.proofs.AttemptsInSteps.{attempts-at_first, attempts-at_end}
 use Rattle.overlap_law.proofs.AttemptsOfEvents.{attempts-of_untold_loss, attempts-of_unread_delivery, attempts-of_loss, attempts-of_leave}
 use Rattle.overlap_law.proofs.AttemptsOfEvents.{attempts-of_reweight, attempts-of_join, attempts-of_return, attempts-of_phase_end}
@@ -50,38 +47,10 @@ LeavesGuests node so_far = HaveGuestsOf node so_far.node
 
 pub received_guests : (cause : NodeCause) (node : Node) → StepsByChanges cause
     → LeavesGuests node (input_received (input_of_cause cause) (at_first node))
-unfolding entry_read
-received_guests (GuestAsks session req ask) node by = (refl, refl)
-received_guests (RequestComes name to request) node by = absurd by
-received_guests (ReplyComes name from rsp) node by =
-    cond_either (LeavesGuests node) (gateway_states.gateway_awaits rsp.number node.gateway) (at_first node)
-    (recovery_stepped (recovery_steps.recovery_on_reply rsp (recovery_state_of node)) (at_first node)) (refl, refl) (refl, refl)
-received_guests (LossIsTold name packet) node by =
-    cond_either (LeavesGuests node) (gateway_states.gateway_awaits name.number node.gateway) (at_first node)
-    (recovery_stepped (recovery_steps.recovery_on_loss name.number (recovery_state_of node)) (at_first node)) (refl, refl) (refl, refl)
-received_guests (EntryIsRead entry) node by = (refl, refl)
-received_guests (EntryIsPut entry) node by = absurd by
-received_guests RecoveryTicks node by = absurd by
-received_guests WorkIsRetried node by = (refl, refl)
-
-due_guests : (node : Node) (so_far : StepState) → LeavesGuests node so_far → LeavesGuests node (recovered_put so_far)
-unfolding recovered_put
-due_guests node so_far is = cond_either (LeavesGuests node) (is_due so_far.node) (with_recovered so_far) so_far is is
-
-put_guests : (outbox : List Entry) (node : Node) → LeavesGuests node (on_put outbox (at_first node))
-put_guests [] node = (refl, refl)
-put_guests (entry ∷ later) node = (refl, refl)
+received_guests cause node by = let alike = received_alike cause node by in (alike.2, alike.1)
 
 pub made_guests : (cause : NodeCause) (node : Node) → StepsAtOnce cause → LeavesGuests node (node_step (input_of_cause cause) node)
-unfolding node_step on_input on_request on_recover_tick
-made_guests (GuestAsks session req ask) node by = absurd by
-made_guests (RequestComes name to request) node by = due_guests node (on_request request (at_first node)) (refl, refl)
-made_guests (ReplyComes name from rsp) node by = absurd by
-made_guests (LossIsTold name packet) node by = absurd by
-made_guests (EntryIsRead entry) node by = absurd by
-made_guests (EntryIsPut entry) node by = due_guests node (on_put node.outbox (at_first node)) (put_guests node.outbox node)
-made_guests RecoveryTicks node by = due_guests node (on_recover_tick (at_first node)) (refl, refl)
-made_guests WorkIsRetried node by = absurd by
+made_guests cause node by = let alike = made_alike cause node by in (alike.2, alike.1)
 
 -- a node that comes back has none
 back_none : (entries : List Entry) (node : Node)
@@ -89,14 +58,14 @@ back_none : (entries : List Entry) (node : Node)
 unfolding on_back
 back_none entries node = (refl, refl)
 
-returned_none : (entries : List Entry) (node : Node) → ((node_step (inputs.Back entries) node).node.sessions ≡ tree.empty)
+pub returned_none : (entries : List Entry) (node : Node) → ((node_step (inputs.Back entries) node).node.sessions ≡ tree.empty)
     × ((node_step (inputs.Back entries) node).node.requests ≡ tree.empty)
 unfolding node_step on_input
 returned_none entries node =
     let back : StepState = with_node (on_back entries node) (at_first node) in
     let none = back_none entries node in
-    let same = due_guests back.node back (refl, refl) in
-    (same.0 ∙ none.0, same.1 ∙ none.1)
+    let same = due_alike back.node back (refl, refl, refl) in
+    (same.2 ∙ none.0, same.1 ∙ none.1)
 
 -- ---- the sessions of a host after a change
 
@@ -126,7 +95,7 @@ pub record IsGoingOn (script : List Statement) (start before after : MomentWithP
   pub after_so : after ≡ moment_in_step script stepping start next
 
 -- one host is another
-one_guests : (before after : MomentWithPast) (k : ℕ) (new : Host) → after.world.hosts ≡ tree.insert before.world.hosts k new
+pub one_guests : (before after : MomentWithPast) (k : ℕ) (new : Host) → after.world.hosts ≡ tree.insert before.world.hosts k new
     → GuestsChange before k new → AllGuestsChange before after
 one_guests before after k new is change n host there = ⊎_elim
     (λ (own : (n ≡ k) × (new ≡ host)).
@@ -134,7 +103,7 @@ one_guests before after k new is change n host there = ⊎_elim
     (λ (other : (n ≢ k) × (tree.get before.world.hosts n ≡ Some host)). GuestsStay host other.1 (λ up. up) refl refl refl)
     (get-insert_cases before.world.hosts k new n host (ap (λ (held : Hosts). tree.get held n) (sym is) ∙ there))
 
-same_guests : (before after : MomentWithPast) → after.world.hosts ≡ before.world.hosts → AllGuestsChange before after
+pub same_guests : (before after : MomentWithPast) → after.world.hosts ≡ before.world.hosts → AllGuestsChange before after
 same_guests before after same n host there =
     GuestsStay host (ap (λ (held : Hosts). tree.get held n) (sym same) ∙ there) (λ up. up) refl refl refl
 

@@ -62,7 +62,7 @@ pub tick_silent : (node : Node) → (node_step inputs.RecoverTick node).outputs.
 unfolding node_step on_input
 tick_silent node = recovered_silent (input_received inputs.RecoverTick (at_first node)) ∙ received_replies inputs.RecoverTick node
 
-no_write : (request : PeerReq) (o : Option Node) → option_and_then (check_write_on (inputs.Request request)) o ≡ None
+pub no_write : (request : PeerReq) (o : Option Node) → option_and_then (check_write_on (inputs.Request request)) o ≡ None
 unfolding check_write_on
 no_write request None = refl
 no_write request (Some node) = refl
@@ -135,7 +135,7 @@ module _ (script : List Statement) (range : RunsAreInRange script) (start : Mome
     told replies = flat_map (added_by_reply script start.world stepping.cause) replies
 
     -- the history so far
-    by_cause : (cause : NodeCause) → StepsByChanges cause → (so_far : StepState)
+    pub by_cause : (cause : NodeCause) → StepsByChanges cause → (so_far : StepState)
         → history_of_cause script cause start.world
         (world_in_step script (record { n = stepping.n; host = stepping.host; cause = cause }) start.world so_far)
         ≡ added_at_cause script start.world cause ++ flat_map (added_by_reply script start.world cause) so_far.outputs.replies
@@ -165,7 +165,7 @@ module _ (script : List Statement) (range : RunsAreInRange script) (start : Mome
       pub apart : list_all (λ (one : HistEvent). list_all (are_apart one) back) (added_by_reply script start.world stepping.cause reply)
           ≡ true
 
-    is_told : StepsByChanges stepping.cause → (so_far next : StepState) (reply : ℕ × GuestRsp) → IsFree reply.0 so_far.outputs.replies
+    pub is_told : StepsByChanges stepping.cause → (so_far next : StepState) (reply : ℕ × GuestRsp) → IsFree reply.0 so_far.outputs.replies
         → next.outputs.replies ≡ replies_in_order reply so_far.outputs.replies → IsTold so_far next reply
     is_told by so_far next reply free grown =
         let put = put_among reply so_far.outputs.replies in

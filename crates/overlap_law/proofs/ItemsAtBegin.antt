@@ -1,21 +1,17 @@
 -- What begins the writes of a request in the history: the request, where it is a write on an open disk, or a write to which its check
 -- comes.
-use Rattle.std.proofs.Common.{◌≡◌, ℕ, ◌==◌, Bool, true, false, ◌||◌, cond, List, [], ◌∷◌, map, filter, length, Option, Some, None, is_some, refl, sym, ap, ◌∙◌}
+use Rattle.std.proofs.Common.{◌≡◌, ℕ, ◌==◌, Bool, true, false, ◌||◌, cond, List, [], map, filter, length, Option, Some, None, is_some, refl}
+use Rattle.std.proofs.Common.{sym, ap, ◌∙◌}
 use Rattle.std.specs.Prelude.{◌/◌}
 use Rattle.std.specs.List.{list_any, range_with_len}
 use Rattle.std.specs.Option.{option_map, option_map_or, option_and_then}
 use Rattle.std.proofs.lemmas.Bool.{eqb-true}
 use Rattle.object_id.specs.declared.entry.Entry.{Entry}
-use Rattle.object_id.specs.declared.entry.Entry.TheVariants as entries
 use Rattle.object_id.specs.declared.limits.TheConstants.{BLOCK_BYTES}
 use Rattle.object_id.specs.declared.oid.Kind.TheVariants.{Block}
-use Rattle.object_id.specs.declared.oid.Vid.{Vid}
 use Rattle.gf256.specs.Part.{is_in_strips}
-use Rattle.vdi_directory.specs.declared.decision.Decision.{Decision}
-use Rattle.vdi_directory.specs.declared.decision.Decision.TheVariants as decisions
-use Rattle.vdi_directory.specs.declared.header.Header.{Header}
-use Rattle.vdi_directory.specs.Decisions.{decision_after}
-use Rattle.disk_history.specs.declared.event.HistEvent.TheVariants.{Copy, WriteStart, WriterLost}
+use Rattle.disk_history.specs.declared.event.HistEvent.{HistEvent}
+use Rattle.disk_history.specs.declared.event.HistEvent.TheVariants.{WriteStart, WriterLost}
 use Rattle.cluster_script.specs.declared.statement.Statement.{Statement}
 use Rattle.cluster_script.specs.declared.statement.Statement.TheVariants as lines
 use Rattle.cluster_script.specs.NumberedRequests.{payload_of}
@@ -25,37 +21,17 @@ use Rattle.sheep_node.specs.declared.check_write.CheckWrite.{CheckWrite}
 use Rattle.sheep_node.specs.declared.input.Input.TheVariants as inputs
 use Rattle.sheep_node.specs.CheckWrites.{check_write_on}
 use Rattle.sheep_node.specs.State.{Node}
-use Rattle.sheep_world.specs.Granted.{granted_header, disk_cloned, disk_made, granted_adds, decided_adds, entry_adds}
+use Rattle.sheep_world.specs.Granted.{entry_adds}
 use Rattle.sheep_world.specs.HistoryAdditions.{is_write, begins_on, is_on_disk, block_checked, check_write_adds, check_write_grown}
+use Rattle.overlap_law.proofs.ClosedAdditions.{none_of, entry_add}
 use Rattle.overlap_law.proofs.ItemsOfRequests.{begins_write_of, BeginNone, flat_none, map_none}
 use Rattle.overlap_law.proofs.ItemsOfReplies.{each_block-none, is_check_at}
 
 -- an entry doesn't
-granted_none : (req : ℕ) (log : List Entry) (vid : Vid) (entry : Entry) → BeginNone req (granted_adds log vid entry)
-granted_none req log vid (entries.Publish by of) = by_header (granted_header log vid)
-  where
-    by_header : (header : Option Header) → BeginNone req (option_map_or (disk_made vid) header [])
-    by_header None = refl
-    by_header (Some header) = refl
-granted_none req log vid (entries.Clone by of) = by_header (granted_header log vid)
-  where
-    by_parent : (parent : Option Vid) → BeginNone req (option_map_or (λ (parent : Vid). Copy parent.0 vid.0 ∷ []) parent [])
-    by_parent None = refl
-    by_parent (Some parent) = refl
-
-    by_header : (header : Option Header) → BeginNone req (option_map_or (disk_cloned vid) header [])
-    by_header None = refl
-    by_header (Some header) = by_parent header.parent
-granted_none req log vid entry = refl
-
 pub entry_none : (req : ℕ) (log : List Entry) (entry : Entry) → BeginNone req (entry_adds log entry)
-unfolding entry_adds
-entry_none req log entry = by_decision (decision_after log entry)
-  where
-    by_decision : (decision : Decision) → BeginNone req (decided_adds log entry decision)
-    by_decision decisions.None = refl
-    by_decision (decisions.Granted vid) = granted_none req log vid entry
-    by_decision (decisions.Refused cause) = refl
+entry_none req log entry =
+    none_of (begins_write_of req) (entry_adds log entry)
+    (entry_add (λ (event : HistEvent). begins_write_of req event ≡ false) (λ disk blocks. refl) (λ old new. refl) (λ disk. refl) log entry)
 
 -- a write of the script does, on the disk that its session has open
 abbrev pub BeginsWrite : ℕ → ℕ → Option Disk → Option Statement → Type 0

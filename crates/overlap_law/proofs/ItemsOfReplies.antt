@@ -1,6 +1,7 @@
 -- A write, or a check that has come to one, that may have items, began on a disk and has no reply has none where its reply refuses it: what
 -- the replies of an event leave of a request that may have items.
-use Rattle.std.proofs.Common.{◌≡◌, ⊎_elim, ℕ, ◌+◌, ◌==◌, Bool, true, false, ◌||◌, ◌&&◌, cond, List, [], ◌∷◌, ◌++◌, map, filter, fold, length, Contains, Option, Some, None, is_some, refl, sym, ap, subst, ◌∙◌}
+use Rattle.std.proofs.Common.{◌≡◌, ⊎_elim, ℕ, ◌+◌, ◌==◌, Bool, true, false, ◌||◌, ◌&&◌, cond, List, [], ◌∷◌, ◌++◌, map, filter, fold}
+use Rattle.std.proofs.Common.{length, Contains, Option, Some, None, is_some, refl, sym, ap, subst, ◌∙◌}
 use Rattle.std.specs.Prelude.{◌/◌, flat_map, find}
 use Rattle.std.specs.List.{range_with_len}
 use Rattle.std.specs.Option.{option_map_or, option_and_then}
@@ -8,7 +9,7 @@ use Rattle.std.proofs.lemmas.Bool.{and_parts, eqb-true, eq-eqb, or_cases, or_rig
 use Rattle.std.proofs.lemmas.List.Folds.{list_any-append}
 use Rattle.proof_tools.proofs.Lists.{Contains-nil, Contains-cons, Contains-cons_cases, Contains-head, Contains-flat_map}
 use Rattle.disk_history.specs.declared.event.HistEvent.{HistEvent}
-use Rattle.disk_history.specs.declared.event.HistEvent.TheVariants.{WriteRefused, Read}
+use Rattle.disk_history.specs.declared.event.HistEvent.TheVariants.{WriteRefused}
 use Rattle.object_id.specs.declared.limits.TheConstants.{BLOCK_BYTES}
 use Rattle.cluster_script.specs.declared.statement.Statement.{Statement}
 use Rattle.cluster_script.specs.declared.statement.Statement.TheVariants as lines
@@ -20,12 +21,15 @@ use Rattle.sheep_node.specs.declared.check_write.CheckWrite.{CheckWrite}
 use Rattle.sheep_world.specs.declared.progress.StartedRequest.{StartedRequest}
 use Rattle.sheep_world.specs.World.{World, progress_at}
 use Rattle.sheep_world.specs.Asking.{session_asking}
-use Rattle.sheep_world.specs.HistoryAdditions.{is_write, is_started_request, write_ended, blocks_read, reply_adds, added_by, disk_of, reply_grown, has_begun_check_write, block_in, each_block}
+use Rattle.sheep_world.specs.HistoryAdditions.{is_write, is_started_request, write_ended, added_by, disk_of, reply_grown}
+use Rattle.sheep_world.specs.HistoryAdditions.{has_begun_check_write, block_in, each_block}
 use Rattle.sheep_world.specs.NodeSteps.{progress_after_reply}
 use Rattle.sheep_world.specs.BegunRequests.{WasBegun}
 use Rattle.overlap_law.specs.Holders.{is_object_among}
 use Rattle.overlap_law.specs.PastWords.{is_refusal, refuses_request, refused_in}
-use Rattle.overlap_law.proofs.ItemsOfRequests.{begins_write_of, may_have_after, BeginNone, might_before, none_behind, none_refused, flat_none, map_none}
+use Rattle.overlap_law.proofs.ClosedAdditions.{none_of, reply_add, end_so}
+use Rattle.overlap_law.proofs.ItemsOfRequests.{begins_write_of, may_have_after, BeginNone, might_before, none_behind, none_refused}
+use Rattle.overlap_law.proofs.ItemsOfRequests.{flat_none, map_none}
 use Rattle.overlap_law.proofs.RefusedInRuns.{still_begun, replies_grow, left_by}
 use Rattle.overlap_law.proofs.UnansweredRequests.{Guests, unanswered_in, IsUnanswered}
 
@@ -39,34 +43,12 @@ each_block-none req event none offset bytes =
     map_none req (λ (place : ℕ). event (offset / BLOCK_BYTES + place) (block_in bytes place))
     (λ place. none (offset / BLOCK_BYTES + place) (block_in bytes place)) (range_with_len 0 (length bytes / BLOCK_BYTES))
 
-blocks_none : (req disk offset : ℕ) (rsp : GuestRsp) → BeginNone req (blocks_read disk offset rsp)
-blocks_none req disk offset answers.Done = refl
-blocks_none req disk offset (answers.Piece bytes) =
-    each_block-none req (λ block piece. Read disk block piece) (λ block piece. refl) offset bytes
-blocks_none req disk offset (answers.Refused cause) = refl
-blocks_none req disk offset (answers.Granted vid) = refl
-blocks_none req disk offset (answers.Checked found) = refl
-
-ended_none : (req other : ℕ) (rsp : GuestRsp) → BeginNone req (write_ended other rsp ∷ [])
-ended_none req other answers.Done = refl
-ended_none req other (answers.Piece bytes) = refl
-ended_none req other (answers.Refused cause) = refl
-ended_none req other (answers.Granted vid) = refl
-ended_none req other (answers.Checked found) = refl
-
-adds_none : (req : ℕ) (written : Bool) (other : ℕ) (rsp : GuestRsp) (disk : ℕ) (s : Statement)
-    → BeginNone req (reply_adds written other rsp disk s)
-adds_none req written other rsp disk (lines.Read session offset length) = blocks_none req disk offset rsp
-adds_none req written other rsp disk (lines.Write session offset length pattern) = ended_none req other rsp
-adds_none req true other rsp disk (lines.Check session) = ended_none req other rsp
-adds_none req false other rsp disk (lines.Check session) = refl
-adds_none req written other rsp disk s = refl
-
 pub added_none : (req : ℕ) (written : Bool) (other : ℕ) (rsp : GuestRsp) (disk : Option ℕ) (s : Option Statement)
     → BeginNone req (added_by written other rsp disk s)
-added_none req written other rsp None s = refl
-added_none req written other rsp (Some disk) None = refl
-added_none req written other rsp (Some disk) (Some s) = adds_none req written other rsp disk s
+added_none req written other rsp disk s =
+    none_of (begins_write_of req) (added_by written other rsp disk s)
+    (reply_add (λ (event : HistEvent). begins_write_of req event ≡ false) (λ disk block bytes. refl) written other rsp
+    (end_so (λ (event : HistEvent). begins_write_of req event ≡ false) other rsp (λ done. refl) refl) disk s)
 
 module _ (script : List Statement) where
   -- replies begin no write

@@ -109,7 +109,7 @@ module _ (script : List Statement) (range : RunsAreInRange script) (req : ℕ) w
         record { session = session; unanswered = unanswered; asking = asked.asking }
 
     -- its gateway is this node, in a world that has the same host for it
-    gateway_here : (found : World) → tree.get found.hosts n ≡ Some host → (q session : ℕ) → IsAskedIn script n host.incarnation q session
+    pub gateway_here : (found : World) → tree.get found.hosts n ≡ Some host → (q session : ℕ) → IsAskedIn script n host.incarnation q session
         → gateway_of script q found ≡ Some host.node
     gateway_here found has q session asked =
         ap (λ (o : Option ℕ). option_and_then (λ (s : ScriptSession). node_at s.node found)

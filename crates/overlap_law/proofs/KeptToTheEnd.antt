@@ -1,13 +1,15 @@
 -- What each change on the way of an event keeps, by what is good at the moment at which the event ends, holds in every run, and by that
 -- test at each moment on the way of an event.
 use Rattle.std.proofs.Common.{◌≡◌, ℕ, Bool, List, Some}
+use Rattle.object_id.specs.Oid.{inode_number}
 use Rattle.cluster_script.specs.declared.statement.Statement.{Statement}
 use Rattle.sheep_node.specs.declared.event.Event.{Event}
+use Rattle.overlap_law.specs.GoodInodes.{is_available_inode}
 use Rattle.overlap_law.specs.Holders.{is_available_disk}
 use Rattle.overlap_law.specs.MomentChanges.{MomentTrail, TrailLeft, IsOnTheWay, Still, Then, AtEnd, Next}
 use Rattle.overlap_law.specs.Overlap.{CallsFewer}
 use Rattle.overlap_law.specs.Past.{MomentWithPast, first_moment, next_moment, run_with_past}
-use Rattle.overlap_law.proofs.EndTests.{was_good_id}
+use Rattle.overlap_law.proofs.EndTests.{was_available, was_good_id}
 use Rattle.overlap_law.proofs.KeptInRuns.{kept_at_events}
 use Rattle.overlap_law.proofs.MomentTrails.{event_trail}
 
@@ -45,17 +47,34 @@ module _ (script : List Statement) (P : MomentWithPast → MomentWithPast → Ty
   to_the_end-on_the_way events event start end run happens trail left =
       along events event start end run happens trail left (to_the_end-in_run events start run)
 
--- ---- by the test for good ids
+-- ---- by a test of ids
 
+abbrev pub OfIds : (MomentWithPast → ℕ → Bool) → ((ℕ → Bool) → MomentWithPast → Type 0) → MomentWithPast → MomentWithPast → Type 0
+OfIds test P end moment = P (test end) moment
+
+-- what an event's end calls good was called so where the event began
+abbrev pub WasGood : List Statement → (MomentWithPast → ℕ → Bool) → Type 0
+WasGood script test = (event : Event) (start end : MomentWithPast) → next_moment script event start ≡ Some end
+    → CallsFewer (test end) (test start)
+
+-- what is so of more ids is so of fewer, so it is so of those that are good at the end
+pub begins_with_fewer : (script : List Statement) (test : MomentWithPast → ℕ → Bool) → WasGood script test
+    → (P : (ℕ → Bool) → MomentWithPast → Type 0)
+    → ((few many : ℕ → Bool) (moment : MomentWithPast) → CallsFewer few many → P many moment → P few moment)
+    → BeginsToTheEnd script (OfIds test P)
+begins_with_fewer script test was P fewer events event start end run happens holds =
+    fewer (test end) (test start) start (was event start end happens) holds
+
+-- that of disks that were available
 abbrev pub good_id_at : MomentWithPast → ℕ → Bool
 good_id_at moment = is_available_disk moment.world.log moment.past.unavailable
 
-abbrev pub OfGoodIds : ((ℕ → Bool) → MomentWithPast → Type 0) → MomentWithPast → MomentWithPast → Type 0
-OfGoodIds P end moment = P (good_id_at end) moment
+pub disks_were_good : (script : List Statement) → WasGood script good_id_at
+disks_were_good script event start end happens = was_good_id script event start end happens
 
--- what is so of more ids is so of fewer, so it is so of those that are good at the end
-pub begins_with_fewer : (script : List Statement) (P : (ℕ → Bool) → MomentWithPast → Type 0)
-    → ((few many : ℕ → Bool) (moment : MomentWithPast) → CallsFewer few many → P many moment → P few moment)
-    → BeginsToTheEnd script (OfGoodIds P)
-begins_with_fewer script P fewer events event start end run happens holds =
-    fewer (good_id_at end) (good_id_at start) start (was_good_id script event start end happens) holds
+-- and of inodes that were, whatever their disks were cloned from
+abbrev pub good_inode_at : MomentWithPast → ℕ → Bool
+good_inode_at moment = is_available_inode moment.past.unavailable
+
+pub inodes_were_good : (script : List Statement) → WasGood script good_inode_at
+inodes_were_good script event start end happens vid is = was_available script event start end happens (inode_number vid) is

@@ -1,6 +1,6 @@
 -- Over a change of a moment the log is as it was, or the event begins there; so the policy of an object of which a node has a row was known
 -- before the change.
-use Rattle.std.proofs.Common.{◌≡◌, ◌⊎◌, inl, inr, ⊎_elim, ℕ, List, Some, slice_get, refl, sym, ap, subst, ◌∙◌}
+use Rattle.std.proofs.Common.{◌≡◌, ◌⊎◌, ⊎_elim, ℕ, List, Some, slice_get, sym, ap, subst, ◌∙◌}
 use Rattle.std.specs.FinMap as tree
 use Rattle.object_id.specs.declared.entry.Entry.{Entry}
 use Rattle.object_id.specs.declared.policy.Policy.{Policy}
@@ -11,26 +11,11 @@ use Rattle.sheep_world.specs.World.{Host}
 use Rattle.sheep_world.specs.Began.{Began}
 use Rattle.overlap_law.specs.Each.{policy_in}
 use Rattle.overlap_law.specs.Past.{MomentWithPast}
-use Rattle.overlap_law.specs.MomentChanges as moments
 use Rattle.overlap_law.specs.MomentChanges.{MomentChange, RunsAreInRange}
 use Rattle.overlap_law.proofs.CopiesAtSteps.{policy_before}
 use Rattle.overlap_law.proofs.LogsInMoments.{log_grows}
+use Rattle.overlap_law.proofs.LogsOfMoments.{log_or_start}
 use Rattle.overlap_law.proofs.RangeOfFewObjects.{rows_told}
-
--- the log is as it was, or the event begins here
-same_or_start : {script : List Statement} {start before after : MomentWithPast} → MomentChange script start before after
-    → (after.world.log ≡ before.world.log) ⊎ (start ≡ before)
-same_or_start (moments.StepBegins stepping is by) = inr refl
-same_or_start (moments.StepGoesOn stepping so_far next is by within) = inl refl
-same_or_start (moments.StepIsMade stepping is by) = inr refl
-same_or_start (moments.LossIsUntold event made happened h) = inr refl
-same_or_start (moments.DeliveryIsUnread event made happened h) = inr refl
-same_or_start (moments.NodeIsLost event made happened h) = inr refl
-same_or_start (moments.NodeLeaves event made happened h) = inr refl
-same_or_start (moments.NodeIsReweighted event made happened h) = inr refl
-same_or_start (moments.NodeJoins event made happened h) = inr refl
-same_or_start (moments.NodeComesBack event made happened h) = inr refl
-same_or_start (moments.PhaseEnds event made happened h) = inr refl
 
 -- the policy of an object of which there is a row was known
 pub policy_was_known : (script : List Statement) → RunsAreInRange script → (start before after : MomentWithPast)
@@ -40,11 +25,11 @@ pub policy_was_known : (script : List Statement) → RunsAreInRange script → (
     → policy_in (log_effects after.world.log) oid ≡ Some policy → policy_in (log_effects before.world.log) oid ≡ Some policy
 policy_was_known script range start before after began change n host there oid i row got policy known = ⊎_elim
     (λ (same : after.world.log ≡ before.world.log). ap (λ (log : List Entry). policy_in (log_effects log) oid) (sym same) ∙ known)
-    (λ (first : start ≡ before).
+    (λ (first : before ≡ start).
     let longer = log_grows script change in
     let can = rows_told script range.is_script range.room before.world
-    (subst (λ (m : MomentWithPast). Began script m.world) first began) in
+    (subst (λ (m : MomentWithPast). Began script m.world) (sym first) began) in
     let of = can.rows n host there oid i row got in
     policy_before before.world.log longer.rest oid policy of.spec of.made
     (ap (λ (log : List Entry). policy_in (log_effects log) oid) (sym longer.is) ∙ known))
-    (same_or_start change)
+    (log_or_start script change)

@@ -1,12 +1,12 @@
 -- A change of a node refuses a request for want of an object only where an attempt of its work has ended, with a message that was refused
 -- so.
-use Rattle.std.proofs.Common.{◌≡◌, ◌⊎◌, inl, inr, ⊎_elim, ℕ, zero, suc, Bool, true, false, cond, List, length, [], ◌∷◌, Contains, Option, Some, None, slice_get, refl, sym, ap, subst, ◌∙◌}
-use Rattle.std.specs.Option.{option_map, option_map_or}
+use Rattle.std.proofs.Common.{◌≡◌, ◌⊎◌, inl, inr, ⊎_elim, ℕ, zero, suc, Bool, true, false, cond, List, length, [], ◌∷◌, Contains, Option}
+use Rattle.std.proofs.Common.{Some, None, slice_get, refl, sym, ap, subst, ◌∙◌}
+use Rattle.std.specs.Option.{option_map_or}
 use Rattle.std.proofs.lemmas.Option.{same_Some}
 use Rattle.proof_tools.proofs.Lists.{Contains-nil}
 use Rattle.object_id.specs.declared.cause.Cause.{Cause}
 use Rattle.object_id.specs.declared.cause.Cause.TheVariants as causes
-use Rattle.object_id.specs.declared.entry.Entry.{Entry}
 use Rattle.object_id.specs.declared.node.Epoch.{Epoch}
 use Rattle.object_id.specs.declared.node.NodeId.{NodeId}
 use Rattle.peer_proto.specs.declared.guest.DiskAsk.{DiskAsk}
@@ -23,8 +23,7 @@ use Rattle.peer_service.specs.LogReading.{decision_on}
 use Rattle.vdi_directory.specs.declared.decision.Decision.{Decision}
 use Rattle.vdi_directory.specs.declared.decision.Decision.TheVariants as decisions
 use Rattle.vdi_directory.specs.Decisions.{log_effects}
-use Rattle.vdi_ops.specs.Entries.{first_entry}
-use Rattle.vdi_ops.specs.Steps.{first_step, begin_command}
+use Rattle.vdi_ops.specs.Steps.{begin_command}
 use Rattle.gateway.specs.declared.message.Message.{Message}
 use Rattle.gateway.specs.declared.message.Status.{Status}
 use Rattle.gateway.specs.declared.message.Status.TheVariants as statuses
@@ -50,14 +49,20 @@ use Rattle.sheep_node.specs.Guests.{request_refusal}
 use Rattle.sheep_node.specs.RequestWorks.{course_refused, command_refused}
 use Rattle.sheep_node.specs.Courses.{inode_open, work_reply, decision_reply}
 use Rattle.sheep_node.specs.Changes as changes
-use Rattle.sheep_node.specs.Changes.{input_received, IsSoundStep, EndsAttempt, gateway_with_touch, without_ended_work, without_denied_work, zones_of_members, refusal_after_status, Outcome, ToWork, ToEntry, ToReply, outcome_of_driver, outcome_of_command, outcome_of_check, RequestSteps, DiskBegins, DiskGoesOn, CommandBegins, CommandGoesOn, CommandDecided, CheckBegins, CheckGoesOn, ObjectBegins, ObjectIsDone, EntryBegins, EntryDecided, Change, Leads}
+use Rattle.sheep_node.specs.Changes.{input_received, IsSoundStep, EndsAttempt, without_ended_work, without_denied_work, zones_of_members}
+use Rattle.sheep_node.specs.Changes.{Outcome, ToWork, ToEntry, ToReply, outcome_of_driver, outcome_of_command, outcome_of_check}
+use Rattle.sheep_node.specs.Changes.{RequestSteps, DiskBegins, DiskGoesOn, CommandBegins, CommandGoesOn, CommandDecided, CheckBegins}
+use Rattle.sheep_node.specs.Changes.{CheckGoesOn, ObjectBegins, ObjectIsDone, EntryBegins, EntryDecided, Change, Leads}
 use Rattle.sheep_node.proofs.NumberChanges.{both_in_chain}
 use Rattle.sheep_node.proofs.OneWorkChanges.{StepHasOneWork}
 use Rattle.vdi_ops.specs.Op as ops
 use Rattle.vdi_ops.specs.Steps.{on_refusal, refused_at}
-use Rattle.overlap_law.proofs.OtherCauses.{names_lack, tells_lack, no_refusal_lacks, IsOther, disk_other, open_other, command_other, DecidesOther, outcome_other, TellsOther, decided_other}
+use Rattle.overlap_law.proofs.ClosedFirstStages.{begins_first}
+use Rattle.overlap_law.proofs.OtherCauses.{names_lack, tells_lack, no_refusal_lacks, IsOther, disk_other, open_other, command_other}
+use Rattle.overlap_law.proofs.OtherCauses.{DecidesOther, outcome_other, TellsOther, decided_other}
 use Rattle.overlap_law.proofs.RefusedUntouched.{steps_silent, next_silent}
-use Rattle.overlap_law.proofs.RefusingNothing.{RefusesNothing, read_refuses_nothing, write_refuses_nothing, driver_refuses_nothing, command_refuses_nothing, check_refuses_nothing, work_refuses_nothing}
+use Rattle.overlap_law.proofs.RefusingNothing.{RefusesNothing, read_refuses_nothing, write_refuses_nothing, driver_refuses_nothing}
+use Rattle.overlap_law.proofs.RefusingNothing.{command_refuses_nothing, check_refuses_nothing, work_refuses_nothing}
 use Rattle.overlap_law.proofs.RequestsInSteps.{replies-in_order, received_replies}
 
 abbrev pub Replies : Type 0
@@ -188,14 +193,9 @@ module _ (input : Input) (node : Node) (sound : IsSoundStep input node) (so_far 
 
   asked_other : (session : ℕ) (ask : VdiAsk) (disk : Option Content) (step : ops.OpStep)
       → begin_command so_far.node.me session ask disk ≡ Some step → TellsOther (outcome_of_command step.act)
-  unfolding begin_command
-  asked_other session ask disk step is = by_entry (first_entry so_far.node.me session disk ask) is
-    where
-      by_entry : (o : Option Entry) → option_map (first_step so_far.node.me session) o ≡ Some step
-          → TellsOther (outcome_of_command step.act)
-      by_entry None is = absurd (cc (is))
-      by_entry (Some entry) is =
-          subst (λ (s : ops.OpStep). TellsOther (outcome_of_command s.act)) (same_Some (first_step so_far.node.me session entry) step is) tt
+  asked_other session ask disk step is =
+      let (entry, same) = begins_first so_far.node.me session ask disk step is in
+      subst (λ (s : ops.OpStep). TellsOther (outcome_of_command s.act)) same tt
 
   told_other : (decision : Decision) → DecidesOther decision → tells_lack (decision_reply decision) ≡ false
   told_other decisions.None other = refl

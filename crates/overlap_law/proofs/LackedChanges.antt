@@ -1,11 +1,10 @@
 -- Each change of a moment leaves that no message for a disk is refused for want of its object, if the disk was available, and is neither
 -- deleted nor given back.
-use Rattle.std.proofs.Common.{◌≡◌, ◌≢◌, ◌⊎◌, inl, inr, ⊎_elim, ℕ, not, Bool, true, false, List, ◌∷◌, [], fold, Some, Ok, refl, sym, ap, subst, ◌∙◌}
+use Rattle.std.proofs.Common.{◌≡◌, ◌≢◌, ◌⊎◌, inl, inr, ⊎_elim, ℕ, not, Bool, true, false, List, fold, Some, Ok, refl, sym, ap, subst, ◌∙◌}
 use Rattle.std.specs.Ordering.{nat_cmp}
 use Rattle.std.specs.FinMap as tree
 use Rattle.std.proofs.lemmas.Bool.{and_parts, not-true}
 use Rattle.std.proofs.lemmas.Option.{same_Some}
-use Rattle.proof_tools.proofs.Booleans.{cond_either}
 use Rattle.proof_tools.proofs.FiniteMaps.{get-insert_cases}
 use Rattle.object_id.specs.declared.entry.Entry.{Entry}
 use Rattle.object_id.specs.declared.node.NodeId.{NodeId}
@@ -27,8 +26,7 @@ use Rattle.sheep_node.specs.declared.event.Event.{Event}
 use Rattle.sheep_node.specs.declared.input.Input.TheVariants as inputs
 use Rattle.sheep_node.specs.May.{has_numbers}
 use Rattle.sheep_node.specs.State.{Node}
-use Rattle.sheep_node.specs.StepState.{StepState, at_first}
-use Rattle.sheep_node.specs.Step.{on_request, on_put, on_recover_tick, is_due, with_recovered, recovered_put, on_input, node_step}
+use Rattle.sheep_node.specs.Step.{node_step}
 use Rattle.sheep_node.specs.Changes as changes
 use Rattle.sheep_world.specs.Began.{Began}
 use Rattle.sheep_world.specs.EventKinds.{log_after_return}
@@ -36,7 +34,8 @@ use Rattle.sheep_world.specs.HostChanges.{host_after_return, joined_host}
 use Rattle.sheep_world.specs.MembershipChanges.{lost_host}
 use Rattle.sheep_world.specs.Messages.{wire_with_reply}
 use Rattle.sheep_world.specs.NodeSteps.{wire_with_request}
-use Rattle.sheep_world.specs.NodeCauses.{NodeCause, GuestAsks, RequestComes, ReplyComes, LossIsTold, EntryIsRead, EntryIsPut, RecoveryTicks, WorkIsRetried, input_of_cause, host_with_node, is_up_among, log_after_cause}
+use Rattle.sheep_world.specs.NodeCauses.{NodeCause, GuestAsks, RequestComes, ReplyComes, LossIsTold, EntryIsRead, EntryIsPut, RecoveryTicks}
+use Rattle.sheep_world.specs.NodeCauses.{WorkIsRetried, input_of_cause, host_with_node, is_up_among, log_after_cause}
 use Rattle.sheep_world.specs.Step.{EventOutcome}
 use Rattle.sheep_world.specs.World.{Host, host_at}
 use Rattle.sheep_world.proofs.LostReplies.{got_before}
@@ -57,37 +56,13 @@ use Rattle.overlap_law.proofs.EndTests.{was_good_id}
 use Rattle.overlap_law.proofs.GoodDisks.{good_below, stood_before}
 use Rattle.overlap_law.proofs.LackedNowhere.{MessagesCome, IsFine, RepliesCome, lacked_then, same_messages, sent_replies, lacked_in_step}
 use Rattle.overlap_law.proofs.LogsInMoments.{log_grows, log_by_changes}
+use Rattle.overlap_law.proofs.ClosedToAsks.{made_alike}
 use Rattle.overlap_law.proofs.MessagesOfDisks.{same_for}
 use Rattle.overlap_law.proofs.NoRecoveredDue.{began-with_past}
 use Rattle.overlap_law.proofs.ObjectsAtTargets.{not_refused}
 use Rattle.overlap_law.proofs.OpenInMoments.{made_gateway}
 use Rattle.overlap_law.proofs.TouchedInMoments.{made_requests}
 use Rattle.overlap_law.proofs.WireLemmas.{tied_to, gone_at, left_before, put_at, said_else}
-
--- ---- what a step at once leaves of a node
-
-due_sessions : (so_far : StepState) → (recovered_put so_far).node.sessions ≡ so_far.node.sessions
-unfolding recovered_put
-due_sessions so_far =
-    cond_either (λ (now : StepState). now.node.sessions ≡ so_far.node.sessions) (is_due so_far.node)
-    (with_recovered so_far) so_far refl refl
-
-put_sessions : (outbox : List Entry) (node : Node) → (on_put outbox (at_first node)).node.sessions ≡ node.sessions
-put_sessions [] node = refl
-put_sessions (entry ∷ later) node = refl
-
--- its sessions
-made_sessions : (cause : NodeCause) (node : Node) → StepsAtOnce cause
-    → (node_step (input_of_cause cause) node).node.sessions ≡ node.sessions
-unfolding node_step on_input on_request on_recover_tick
-made_sessions (GuestAsks session req ask) node by = absurd by
-made_sessions (RequestComes name to request) node by = due_sessions (on_request request (at_first node))
-made_sessions (ReplyComes name from rsp) node by = absurd by
-made_sessions (LossIsTold name packet) node by = absurd by
-made_sessions (EntryIsRead entry) node by = absurd by
-made_sessions (EntryIsPut entry) node by = due_sessions (on_put node.outbox (at_first node)) ∙ put_sessions node.outbox node
-made_sessions RecoveryTicks node by = due_sessions (on_recover_tick (at_first node))
-made_sessions WorkIsRetried node by = absurd by
 
 -- a node without works has no message
 no_message : (node : Node) (vid : ℕ) (message : Message) → node.gateway.works ≡ tree.empty → IsMessageFor node vid message → ⊥
@@ -207,7 +182,7 @@ module _ (script : List Statement) (range : RunsAreInRange script) (events : Lis
         (awake cause is)
         (same_for host.node last (ap (λ (gateway : Gateway). gateway.works) (made_gateway cause host.node by))
         (made_requests cause host.node by)
-        (made_sessions cause host.node by)))
+        (made_alike cause host.node by).2))
 
     -- a request is answered
     module _ (name : MessageName) (to : NodeId) (request : PeerReq)

@@ -1,33 +1,30 @@
 -- Which entry adds to a node's leaves: its `Leave`, and no other.
-use Rattle.std.proofs.Common.{◌≡◌, ℕ, ◌+◌, ◌==◌, ◌&&◌, Bool, true, false, cond, List, [], ◌∷◌, ◌++◌, Option, Some, None, is_some, Result, Ok, Err, refl, ap, ◌∙◌, append-nil}
+use Rattle.std.proofs.Common.{◌≡◌, ℕ, ◌+◌, ◌==◌, ◌&&◌, Bool, true, false, cond, List, [], ◌∷◌, ◌++◌, Option, Some, None, is_some, Result}
+use Rattle.std.proofs.Common.{Ok, Err, refl, ap, ◌∙◌, append-nil}
 use Rattle.std.specs.List.{filter_map}
 use Rattle.std.proofs.lemmas.Bool.{eq-eqb}
 use Rattle.proof_tools.proofs.Booleans.{cond_either}
 use Rattle.object_id.specs.declared.cause.Cause.{Cause}
-use Rattle.object_id.specs.declared.cause.Cause.TheVariants as causes
 use Rattle.object_id.specs.declared.entry.Entry.{Entry}
-use Rattle.object_id.specs.declared.entry.Entry.TheVariants.{Format, Join, Leave, Reweight, Recovered, Reserve, Publish, Clone, Snapshot, Delete, Lock, Unlock}
+use Rattle.object_id.specs.declared.entry.Entry.TheVariants.{Format, Join, Leave, Reweight, Recovered, Reserve, Publish, Clone, Snapshot}
+use Rattle.object_id.specs.declared.entry.Entry.TheVariants.{Delete, Lock, Unlock}
 use Rattle.object_id.specs.declared.entry.Origin.{Origin}
-use Rattle.object_id.specs.declared.entry.Origin.TheVariants.{Fresh, SnapshotOf, CloneOf}
-use Rattle.object_id.specs.declared.entry.VdiSpec.{VdiSpec}
 use Rattle.object_id.specs.declared.node.NodeId.{NodeId}
 use Rattle.object_id.specs.declared.oid.Vid.{Vid}
 use Rattle.disk_lock.specs.declared.holder.Holder.{Holder}
 use Rattle.epoch_log.specs.Epochs.{begins_epoch, epoch_of}
 use Rattle.epoch_log.proofs.EpochLemmas.{epoch_of-append}
-use Rattle.vdi_directory.specs.declared.header.Header.{Header}
 use Rattle.vdi_directory.specs.declared.effect.Reservation.{Reservation}
 use Rattle.vdi_directory.specs.declared.effect.Source.{Source}
-use Rattle.vdi_directory.specs.declared.effect.Source.TheVariants as sources
 use Rattle.vdi_directory.specs.declared.effect.Effect.{Effect}
 use Rattle.vdi_directory.specs.declared.effect.Effect.TheVariants as effects
 use Rattle.vdi_directory.specs.declared.decision.Outcome.{Outcome}
-use Rattle.vdi_directory.specs.Vids.{free_id}
-use Rattle.vdi_directory.specs.Names.{snapshot_with_tag, is_live_name}
 use Rattle.vdi_directory.specs.Sources.{is_for, tag_for}
-use Rattle.vdi_directory.specs.Effects.{is_used, header_of, name_of, reservations_of, reservation_on, holder_of}
-use Rattle.vdi_directory.specs.Decisions.{nothing, silent_outcome, grant_outcome, refusal_outcome, is_held_by, is_reserved_by, is_taken, grant_of, or_full, reservation_outcome, with_spec, held_disk, reserved_snapshot, reserved_clone, reserve_outcome, publication, replacement, snapshot_outcome, target, deletion, lock, release, outcome, log_effects}
+use Rattle.vdi_directory.specs.Effects.{reservations_of, reservation_on, holder_of}
+use Rattle.vdi_directory.specs.Decisions.{nothing, silent_outcome, grant_outcome, is_held_by, is_reserved_by, reserve_outcome, publication}
+use Rattle.vdi_directory.specs.Decisions.{replacement, snapshot_outcome, target, deletion, lock, release, outcome, log_effects}
 use Rattle.overlap_law.specs.Grants.{leave_epoch_of, leaves_of}
+use Rattle.overlap_law.proofs.ClosedReservations.{reserves_so}
 use Rattle.overlap_law.proofs.GrantedEpochs.{leaves_push}
 
 -- what an outcome does is no leave
@@ -35,49 +32,20 @@ abbrev LeavesNobody : Outcome → Type 0
 LeavesNobody o = (node epoch : ℕ) → leave_epoch_of node epoch o.effect ≡ None
 
 module _ (before : List Effect) where
-  of_reservation : (by : NodeId) (session : ℕ) (name : List ℕ) (source : Source) (parent : Option Vid) (spec : VdiSpec)
-      → LeavesNobody (reservation_outcome before by session name source parent spec)
-  of_reservation by session name source parent spec = by_id (free_id name (is_used before))
-    where
-      by_id : (o : Option ℕ) → LeavesNobody (or_full o (grant_of before by session name source parent spec))
-      by_id None node epoch = refl
-      by_id (Some vid) node epoch = refl
-
-  if_specified : (header : Option Header) (by : NodeId) (session : ℕ) (name : List ℕ) (source : Source) (parent : Option Vid)
-      → LeavesNobody (with_spec header (reservation_outcome before by session name source parent))
-  if_specified None by session name source parent node epoch = refl
-  if_specified (Some header) by session name source parent node epoch = of_reservation by session name source parent header.spec node epoch
-
-  of_snapshot : (by : NodeId) (session : ℕ) (name tag : List ℕ) (disk : Option Vid) → LeavesNobody (reserved_snapshot before by session name tag disk)
-  of_snapshot by session name tag None node epoch = refl
-  of_snapshot by session name tag (Some old) node epoch =
-      cond_either LeavesNobody (is_some (snapshot_with_tag tag (name_of before name))) (refusal_outcome causes.VdiExist)
-      (with_spec (header_of before old.0) (reservation_outcome before by session name (sources.Snapshot old tag) (Some old)))
-      (λ node epoch. refl) (if_specified (header_of before old.0) by session name (sources.Snapshot old tag) (Some old)) node epoch
-
-  of_clone : (by : NodeId) (session : ℕ) (name : List ℕ) (disk : Option Vid) → LeavesNobody (reserved_clone before by session name disk)
-  of_clone by session name None node epoch = refl
-  of_clone by session name (Some base) node epoch =
-      cond_either LeavesNobody (is_taken before name) (refusal_outcome causes.VdiExist)
-      (with_spec (header_of before base.0) (reservation_outcome before by session name sources.Clone (Some base)))
-      (λ node epoch. refl) (if_specified (header_of before base.0) by session name sources.Clone (Some base)) node epoch
-
   of_origin : (by : NodeId) (session : ℕ) (name : List ℕ) (origin : Origin) → LeavesNobody (reserve_outcome before by session name origin)
-  of_origin by session name (Fresh spec) =
-      cond_either LeavesNobody (is_taken before name) (refusal_outcome causes.VdiExist) (reservation_outcome before by session name sources.Fresh None spec)
-      (λ node epoch. refl) (of_reservation by session name sources.Fresh None spec)
-  of_origin by session name (SnapshotOf tag) = of_snapshot by session name tag (held_disk before by session (name_of before name).working)
-  of_origin by session name (CloneOf base tag) =
-      cond_either LeavesNobody (is_live_name (name_of before base)) (reserved_clone before by session name (snapshot_with_tag tag (name_of before base)))
-      (refusal_outcome causes.NoBaseVdi) (of_clone by session name (snapshot_with_tag tag (name_of before base))) (λ node epoch. refl)
+  of_origin by session name =
+      reserves_so before by session name LeavesNobody (λ cause is node epoch. refl) (λ node epoch. refl)
+      (λ source parent spec id node epoch. refl)
 
   of_publication : (by : NodeId) (is_right : Source → Bool) (o : Option Reservation) → LeavesNobody (publication by is_right o)
   of_publication by is_right None node epoch = refl
   of_publication by is_right (Some reservation) node epoch =
       cond_either LeavesNobody (reservation.by.0 == by.0 && is_right reservation.source)
-      (grant_outcome reservation.vid (effects.Published reservation.vid reservation.name)) nothing (λ node epoch. refl) (λ node epoch. refl) node epoch
+      (grant_outcome reservation.vid (effects.Published reservation.vid reservation.name)) nothing (λ node epoch. refl) (λ node epoch. refl)
+      node epoch
 
-  of_replacement : (reservation : Reservation) (old : Vid) (tag : Option (List ℕ)) (holder : Option Holder) → LeavesNobody (replacement reservation old tag holder)
+  of_replacement : (reservation : Reservation) (old : Vid) (tag : Option (List ℕ)) (holder : Option Holder)
+      → LeavesNobody (replacement reservation old tag holder)
   of_replacement reservation old None holder node epoch = refl
   of_replacement reservation old (Some tag) None node epoch = refl
   of_replacement reservation old (Some tag) (Some holder) node epoch = refl
@@ -85,7 +53,8 @@ module _ (before : List Effect) where
   of_taking : (by : NodeId) (old : Vid) (o : Option Reservation) → LeavesNobody (snapshot_outcome before by old o)
   of_taking by old None node epoch = refl
   of_taking by old (Some reservation) node epoch =
-      cond_either LeavesNobody (reservation.by.0 == by.0) (replacement reservation old (tag_for old reservation.source) (holder_of before old.0)) nothing
+      cond_either LeavesNobody (reservation.by.0 == by.0) (replacement reservation old (tag_for old reservation.source)
+      (holder_of before old.0)) nothing
       (of_replacement reservation old (tag_for old reservation.source) (holder_of before old.0)) (λ node epoch. refl) node epoch
 
   of_deletion : (name : List ℕ) (found : Result Vid Cause) → LeavesNobody (deletion name found)
@@ -102,7 +71,8 @@ module _ (before : List Effect) where
       cond_either LeavesNobody (is_held_by by session (holder_of before vid.0)) (silent_outcome (effects.Freed vid))
       (cond (is_reserved_by by session (reservation_on vid (reservations_of before))) (silent_outcome (effects.Withdrawn vid)) nothing)
       (λ node epoch. refl)
-      (cond_either LeavesNobody (is_reserved_by by session (reservation_on vid (reservations_of before))) (silent_outcome (effects.Withdrawn vid)) nothing
+      (cond_either LeavesNobody (is_reserved_by by session (reservation_on vid (reservations_of before)))
+      (silent_outcome (effects.Withdrawn vid)) nothing
       (λ node epoch. refl) (λ node epoch. refl))
 
   -- an entry that begins no epoch is no leave
@@ -117,7 +87,8 @@ module _ (before : List Effect) where
   plain_leaves (Clone by vid) plain node epoch = of_publication by (is_for true) (reservation_on vid (reservations_of before)) node epoch
   plain_leaves (Snapshot by old vid) plain node epoch = of_taking by old (reservation_on vid (reservations_of before)) node epoch
   plain_leaves (Delete by session name tag) plain node epoch = of_deletion name (target before name tag) node epoch
-  plain_leaves (Lock by session name tag) plain node epoch = of_lock (record { node = by; session = session }) (is_some tag) (target before name tag) node epoch
+  plain_leaves (Lock by session name tag) plain node epoch =
+      of_lock (record { node = by; session = session }) (is_some tag) (target before name tag) node epoch
   plain_leaves (Unlock by session vid) plain node epoch = of_release by session vid node epoch
 
 -- ---- the leaves of a node, by one entry more
@@ -141,26 +112,34 @@ pub leaves_so : (log : List Entry) (entry : Entry) (node : ℕ) (o : Option ℕ)
     → leaves_of (log ++ entry ∷ []) node ≡ leaves_of log node ++ one_of o
 leaves_so log entry node o is =
     leaves_push log entry node
-    ∙ ap (λ (more : List ℕ). leaves_of log node ++ more) (told_so node (epoch_of (log ++ entry ∷ [])) (outcome (log_effects log) entry).effect o is)
+    ∙ ap (λ (more : List ℕ). leaves_of log node ++ more) (told_so node (epoch_of (log ++ entry ∷ []))
+    (outcome (log_effects log) entry).effect o is)
 
 leaves_stay : (log : List Entry) (entry : Entry) (node : ℕ)
-    → leave_epoch_of node (epoch_of (log ++ entry ∷ [])) (outcome (log_effects log) entry).effect ≡ None → leaves_of (log ++ entry ∷ []) node ≡ leaves_of log node
+    → leave_epoch_of node (epoch_of (log ++ entry ∷ [])) (outcome (log_effects log) entry).effect ≡ None
+    → leaves_of (log ++ entry ∷ []) node ≡ leaves_of log node
 leaves_stay log entry node none = leaves_so log entry node None none ∙ append-nil (leaves_of log node)
 
-pub leaves_plain : (log : List Entry) (entry : Entry) (node : ℕ) → begins_epoch entry ≡ false → leaves_of (log ++ entry ∷ []) node ≡ leaves_of log node
-leaves_plain log entry node plain = leaves_stay log entry node (plain_leaves (log_effects log) entry plain node (epoch_of (log ++ entry ∷ [])))
+pub leaves_plain : (log : List Entry) (entry : Entry) (node : ℕ) → begins_epoch entry ≡ false
+    → leaves_of (log ++ entry ∷ []) node ≡ leaves_of log node
+leaves_plain log entry node plain =
+    leaves_stay log entry node (plain_leaves (log_effects log) entry plain node (epoch_of (log ++ entry ∷ [])))
 
-pub leaves_joined : (log : List Entry) (other : NodeId) (zone vnodes node : ℕ) → leaves_of (log ++ Join other zone vnodes ∷ []) node ≡ leaves_of log node
+pub leaves_joined : (log : List Entry) (other : NodeId) (zone vnodes node : ℕ)
+    → leaves_of (log ++ Join other zone vnodes ∷ []) node ≡ leaves_of log node
 leaves_joined log other zone vnodes node = leaves_stay log (Join other zone vnodes) node refl
 
-pub leaves_weighed : (log : List Entry) (other : NodeId) (vnodes node : ℕ) → leaves_of (log ++ Reweight other vnodes ∷ []) node ≡ leaves_of log node
+pub leaves_weighed : (log : List Entry) (other : NodeId) (vnodes node : ℕ)
+    → leaves_of (log ++ Reweight other vnodes ∷ []) node ≡ leaves_of log node
 leaves_weighed log other vnodes node = leaves_stay log (Reweight other vnodes) node refl
 
 -- a leave adds the epoch that it begins to its node's, and nothing to others'
-pub leaves_own : (log : List Entry) (n : ℕ) → leaves_of (log ++ Leave (record { 0 = n }) ∷ []) n ≡ leaves_of log n ++ (epoch_of log + 1) ∷ []
+pub leaves_own : (log : List Entry) (n : ℕ)
+    → leaves_of (log ++ Leave (record { 0 = n }) ∷ []) n ≡ leaves_of log n ++ (epoch_of log + 1) ∷ []
 leaves_own log n =
     let entry = Leave (record { 0 = n }) in
-    leaves_so log entry n (Some (epoch_of (log ++ entry ∷ []))) (ap (λ (b : Bool). cond b (Some (epoch_of (log ++ entry ∷ []))) None) (eq-eqb n n refl))
+    leaves_so log entry n (Some (epoch_of (log ++ entry ∷ []))) (ap (λ (b : Bool). cond b (Some (epoch_of (log ++ entry ∷ []))) None)
+    (eq-eqb n n refl))
     ∙ ap (λ (epoch : ℕ). leaves_of log n ++ epoch ∷ []) (epoch_of-append log (entry ∷ []))
 
 pub leaves_other : (log : List Entry) (k n : ℕ) → (k == n) ≡ false → leaves_of (log ++ Leave (record { 0 = k }) ∷ []) n ≡ leaves_of log n

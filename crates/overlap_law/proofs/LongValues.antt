@@ -42,7 +42,7 @@ use Rattle.sheep_node.proofs.AwaitedWorks.{found_got}
 use Rattle.sheep_node.proofs.GoingOn.{bytes_for_check}
 
 -- a reply that fits what a work asks gives a piece as long as that
-piece_by : (work : ObjWork) (say : PeerSay) → fits_work work say ≡ true → IsPieceFor work (status_by say)
+pub piece_by : (work : ObjWork) (say : PeerSay) → fits_work work say ≡ true → IsPieceFor work (status_by say)
 piece_by (Create oid policy size offset bytes) say fit = tt
 piece_by (Write oid policy offset bytes) say fit = tt
 piece_by (Read oid policy offset size) says.Success fit = absurd (cc (fit))

@@ -1,8 +1,7 @@
--- Over a change of a moment a request that hasn't made all that it makes was there before, of the same session, and hadn't made all then; or the
--- event begins with it.
-use Rattle.std.proofs.Common.{◌≡◌, ◌≢◌, ◌⊎◌, inl, inr, ⊎_elim, ℕ, Bool, true, false, List, Option, Some, None, refl, sym, ap, subst, ◌∙◌}
+-- Over a change of a moment a request that hasn't made all that it makes was there before, of the same session, and hadn't made all then;
+-- or the event begins with it.
+use Rattle.std.proofs.Common.{◌≡◌, ◌⊎◌, inl, inr, ⊎_elim, ℕ, Bool, true, false, List, Option, Some, None, refl, sym, ap, subst, ◌∙◌}
 use Rattle.std.specs.FinMap as tree
-use Rattle.proof_tools.proofs.FiniteMaps.{get-insert_same, get-insert_cases, insert-insert}
 use Rattle.object_id.specs.declared.cause.Cause.{Cause}
 use Rattle.inode.specs.Layout.{Content}
 use Rattle.cluster_script.specs.declared.statement.Statement.{Statement}
@@ -27,30 +26,28 @@ use Rattle.sheep_node.specs.State.{Node}
 use Rattle.sheep_node.specs.StepState.{StepState, session_in}
 use Rattle.sheep_node.specs.Courses.{inode_open}
 use Rattle.sheep_node.specs.Changes as changes
-use Rattle.sheep_node.specs.Changes.{HasRequest, Outcome, RequestSteps, DiskBegins, DiskGoesOn, CommandBegins, CommandGoesOn, CommandDecided, CheckBegins, CheckGoesOn, ObjectBegins, ObjectIsDone, EntryBegins, EntryDecided, Change}
+use Rattle.sheep_node.specs.Changes.{HasRequest, Outcome, RequestSteps, DiskBegins, DiskGoesOn, CommandBegins, CommandGoesOn}
+use Rattle.sheep_node.specs.Changes.{CommandDecided, CheckBegins, CheckGoesOn, ObjectBegins, ObjectIsDone, EntryBegins, EntryDecided}
+use Rattle.sheep_node.specs.Changes.{Change}
 use Rattle.sheep_node.proofs.OneWorkParts.{Requests}
 use Rattle.sheep_world.specs.Began.{Began}
-use Rattle.sheep_world.specs.EventKinds.{log_after_return}
-use Rattle.sheep_world.specs.HostChanges.{host_after_return, joined_host}
-use Rattle.sheep_world.specs.MembershipChanges.{lost_host}
 use Rattle.sheep_world.specs.NodeCauses.{input_of_cause, host_with_node}
-use Rattle.sheep_world.specs.Step.{EventOutcome}
 use Rattle.sheep_world.specs.World.{Host}
 use Rattle.overlap_law.specs.GrantedAttempts.{is_past_works, has_made_all}
-use Rattle.overlap_law.specs.MomentChanges as moments
 use Rattle.overlap_law.specs.MomentChanges.{MomentChange, RunsAreInRange}
 use Rattle.overlap_law.specs.Past.{MomentWithPast}
-use Rattle.overlap_law.specs.Reached.{Hosts}
-use Rattle.overlap_law.specs.StepMoments.{first_in_step, last_in_step, moment_in_step}
-use Rattle.overlap_law.proofs.TouchedInMoments.{BeginsWith, begins, received_requests, made_requests}
+use Rattle.overlap_law.specs.StepMoments.{moment_in_step}
+use Rattle.overlap_law.proofs.TouchedInMoments.{BeginsWith, begins}
 use Rattle.overlap_law.proofs.TouchedStay.{Arrives}
-use Rattle.overlap_law.proofs.UnansweredInMoments.{IsNewer, newer_joined, newer_returned}
 use Rattle.overlap_law.proofs.RequestWalk.{IsWhereThere, put_there, change_there}
+use Rattle.overlap_law.proofs.ClosedHosts.{IsNewer, each_host}
+use Rattle.overlap_law.specs.StepMoments.{SteppingNode, IsStepping, StepsByChanges, IsWithinStep}
 
 -- ---- courses
 
 -- a command whose work was done hadn't made all by then
-done_before : (bytes : List ℕ) (op : Op) (stage : OpStage) (step : ops.OpStep) → done_at bytes op stage ≡ Some step → is_past_works stage ≡ false
+done_before : (bytes : List ℕ) (op : Op) (stage : OpStage) (step : ops.OpStep) → done_at bytes op stage ≡ Some step
+    → is_past_works stage ≡ false
 done_before bytes op (Asked entry) step is = absurd (cc (is))
 done_before bytes op (Working vid task) step is = refl
 done_before bytes op (Publishing entry made) step is = absurd (cc (is))
@@ -138,24 +135,29 @@ module _ (q : ℕ) (input : Input) (node : Node) where
         making = before making;
       })) (from_itself so_far)
 
-  steps_from : (so_far : StepState) (session req : ℕ) (next : Outcome) (moved : StepState) → RequestSteps input node so_far session req next moved → From so_far moved
+  steps_from : (so_far : StepState) (session req : ℕ) (next : Outcome) (moved : StepState)
+      → RequestSteps input node so_far session req next moved → From so_far moved
   steps_from so_far session req next moved (DiskBegins ask disk there on may) =
       put_on so_far session req (Waiting ask) (Driving (drivers.begin_driver disk ask).driver) there (λ making. refl)
   steps_from so_far session req next moved (DiskGoesOn number work attempt status bytes driver disk step ends on is) =
       put_on so_far session req (Driving driver) (Driving step.driver) ends.ends.request (λ making. refl)
-  steps_from so_far session req next moved (CommandBegins ask step arrival is) = put_new so_far session req (Commanding step.op) (asks.Vdi ask) None arrival
+  steps_from so_far session req next moved (CommandBegins ask step arrival is) =
+      put_new so_far session req (Commanding step.op) (asks.Vdi ask) None arrival
   steps_from so_far session req next moved (CommandGoesOn number work attempt status bytes op step ends is) =
       put_on so_far session req (Commanding op) (Commanding step.op) ends.ends.request (λ making. went_before bytes op step is)
   steps_from so_far session req next moved (CommandDecided entry op step from read there waits is) =
       put_on so_far session req (Commanding op) (Commanding step.op) there
-      (λ making. went_on_before (effects_of so_far.node.peer) (inode_open (session_in session so_far).disk) (decision_on entry node.peer) op step is making)
+      (λ making. went_on_before (effects_of so_far.node.peer) (inode_open (session_in session so_far).disk) (decision_on entry node.peer) op
+      step is making)
   steps_from so_far session req next moved (CheckBegins inode arrival on) =
       put_new so_far session req (Checking (begin_check inode).check) (asks.Vdi disk_commands.Check) None arrival
   steps_from so_far session req next moved (CheckGoesOn number work attempt status bytes check step ends is) =
       put_on so_far session req (Checking check) (Checking step.check) ends.ends.request (λ making. refl)
-  steps_from so_far session req next moved (ObjectBegins asked arrival) = put_new so_far session req (DoingWork asked) (asks.Object asked) None arrival
+  steps_from so_far session req next moved (ObjectBegins asked arrival) =
+      put_new so_far session req (DoingWork asked) (asks.Object asked) None arrival
   steps_from so_far session req next moved (ObjectIsDone number work attempt status bytes asked ends) = from_itself so_far
-  steps_from so_far session req next moved (EntryBegins entry arrival) = put_new so_far session req (AwaitingDecision entry) (asks.Entry entry) None arrival
+  steps_from so_far session req next moved (EntryBegins entry arrival) =
+      put_new so_far session req (AwaitingDecision entry) (asks.Entry entry) None arrival
   steps_from so_far session req next moved (EntryDecided entry wanted from read there waits) = from_itself so_far
 
   pub making_from : (so_far next : StepState) → Change input node so_far next → From so_far next
@@ -192,60 +194,30 @@ module _ (script : List Statement) (start : MomentWithPast) where
     });
   }
 
-  same_hosts : (before after : MomentWithPast) → after.world.hosts ≡ before.world.hosts → EachHadMaking before after
-  same_hosts before after same n host there up = inl (same_requests before n host host (ap (λ (held : Hosts). tree.get held n) (sym same) ∙ there) up refl)
-
-  one_host : (before after : MomentWithPast) (k : ℕ) (new : Host) → after.world.hosts ≡ tree.insert before.world.hosts k new
-      → (new.is_lost ≡ false → HadMaking script start before k new ⊎ IsNewer before k new) → EachHadMaking before after
-  one_host before after k new hosts own n host there up = ⊎_elim
-      (λ (here : (n ≡ k) × (new ≡ host)).
-      subst (λ (q : ℕ). HadMaking script start before q host ⊎ IsNewer before q host) (sym here.0)
-      (subst (λ (h : Host). HadMaking script start before k h ⊎ IsNewer before k h) here.1 (own (ap (λ (h : Host). h.is_lost) here.1 ∙ up))))
-      (λ (other : (n ≢ k) × (tree.get before.world.hosts n ≡ Some host)). inl (same_requests before n host host other.1 up refl))
-      (get-insert_cases before.world.hosts k new n host (ap (λ (held : Hosts). tree.get held n) (sym hosts) ∙ there))
-
 module _ (script : List Statement) (range : RunsAreInRange script) (start : MomentWithPast) (began : Began script start.world) where
-  pub each_had_making : {before after : MomentWithPast} → MomentChange script start before after → EachHadMaking script start before after
-  each_had_making (moments.StepBegins stepping is by) =
-      let now = host_with_node stepping.host (first_in_step stepping).node in
-      let after = moment_in_step script stepping start (first_in_step stepping) in
-      one_host script start start after stepping.n now refl
-      (λ up. inl (same_requests script start start stepping.n stepping.host now is.there up (received_requests stepping.cause stepping.host.node by)))
-  each_had_making (moments.StepGoesOn stepping so_far next is by within) =
-      let was = host_with_node stepping.host so_far.node in
-      let now = host_with_node stepping.host next.node in
-      let before = moment_in_step script stepping start so_far in
-      one_host script start before (moment_in_step script stepping start next) stepping.n now (sym (insert-insert start.world.hosts stepping.n was now))
-      (λ up. inl (record {
-        old = was;
-        there = get-insert_same start.world.hosts stepping.n was;
+  abbrev HadOrIsNewer : MomentWithPast → MomentWithPast → ℕ → Host → Type 0
+  HadOrIsNewer before after n host = HadMaking script start before n host ⊎ IsNewer before n host
+
+  goes_on_making : (stepping : SteppingNode) (so_far next : StepState) → IsStepping script start.world stepping
+      → StepsByChanges stepping.cause → IsWithinStep stepping so_far next
+      → tree.get (moment_in_step script stepping start so_far).world.hosts stepping.n ≡ Some (host_with_node stepping.host so_far.node)
+      → stepping.host.is_lost ≡ false
+      → HadOrIsNewer (moment_in_step script stepping start so_far) (moment_in_step script stepping start next) stepping.n
+      (host_with_node stepping.host next.node)
+  goes_on_making stepping so_far next is by within there up =
+      inl (record {
+        old = host_with_node stepping.host so_far.node;
+        there = there;
         up = up;
         requests = λ req request got making. ⊎_elim
             (λ (had : WasMaking req request so_far.node.requests). inl had)
             (λ (arrives : Arrives req (input_of_cause stepping.cause) stepping.host.node so_far).
             inr (begins script range start began stepping so_far is by req arrives))
             (making_from req (input_of_cause stepping.cause) stepping.host.node so_far next within.change request got making);
-      }))
-  each_had_making (moments.StepIsMade stepping is by) =
-      let now = host_with_node stepping.host (last_in_step stepping).node in
-      let after = moment_in_step script stepping start (last_in_step stepping) in
-      one_host script start start after stepping.n now refl
-      (λ up. inl (same_requests script start start stepping.n stepping.host now is.there up (made_requests stepping.cause stepping.host.node by)))
-  each_had_making {before} {after} (moments.LossIsUntold event made happened h) =
-      same_hosts script start before after (ap (λ (m : EventOutcome). m.world.hosts) (sym h.made_so))
-  each_had_making {before} {after} (moments.DeliveryIsUnread event made happened h) =
-      same_hosts script start before after (ap (λ (m : EventOutcome). m.world.hosts) (sym h.made_so))
-  each_had_making {before} {after} (moments.NodeIsLost event made happened h) =
-      one_host script start before after h.n (lost_host h.host) (ap (λ (m : EventOutcome). m.world.hosts) (sym h.made_so)) (λ up. absurd (cc (up)))
-  each_had_making {before} {after} (moments.NodeLeaves event made happened h) =
-      same_hosts script start before after (ap (λ (m : EventOutcome). m.world.hosts) (sym h.made_so))
-  each_had_making {before} {after} (moments.NodeIsReweighted event made happened h) =
-      same_hosts script start before after (ap (λ (m : EventOutcome). m.world.hosts) (sym h.made_so))
-  each_had_making {before} {after} (moments.NodeJoins event made happened h) =
-      one_host script start before after h.n (joined_host script h.n) (ap (λ (m : EventOutcome). m.world.hosts) (sym h.made_so))
-      (λ up. inr (newer_joined script range start began h.n h.control))
-  each_had_making {before} {after} (moments.NodeComesBack event made happened h) =
-      one_host script start before after h.n (host_after_return (log_after_return script h.n start.world) h.host) (ap (λ (m : EventOutcome). m.world.hosts) (sym h.made_so))
-      (λ up. inr (newer_returned script range start began h.n h.host h.there))
-  each_had_making {before} {after} (moments.PhaseEnds event made happened h) =
-      same_hosts script start before after (ap (λ (m : EventOutcome). m.world.hosts) (sym h.made_so))
+      })
+
+  pub each_had_making : {before after : MomentWithPast} → MomentChange script start before after → EachHadMaking script start before after
+  each_had_making change =
+      each_host script range start began HadOrIsNewer
+      (λ before after n old host there up me asked. inl (same_requests script start before n old host there up asked.1))
+      goes_on_making (λ before after n host newer none. inr newer) change

@@ -1,29 +1,22 @@
 -- A command comes to the creation of the inode that takes a disk's place only by the tag that it writes to the disk's, and to its
 -- publication only by the creation: by no decision, and not as it begins.
-use Rattle.std.proofs.Common.{◌≡◌, ℕ, Bool, true, false, List, Option, Some, None, option_map}
-use Rattle.std.proofs.Common.{IfSome, refl, sym, ap, subst, ◌∙◌}
-use Rattle.std.specs.Option.{option_and_then, option_map_or}
+use Rattle.std.proofs.Common.{◌≡◌, ℕ, Bool, true, false, List, Option, Some, None}
+use Rattle.std.proofs.Common.{refl, sym, ap, subst, ◌∙◌}
 use Rattle.std.proofs.lemmas.Option.{same_Some}
 use Rattle.object_id.specs.declared.entry.Entry.{Entry}
 use Rattle.object_id.specs.declared.entry.Entry.TheVariants as entries
-use Rattle.object_id.specs.declared.entry.Origin.TheVariants.{Fresh, SnapshotOf, CloneOf}
 use Rattle.object_id.specs.declared.node.NodeId.{NodeId}
 use Rattle.object_id.specs.declared.oid.Vid.{Vid}
 use Rattle.inode.specs.Layout.{Content}
 use Rattle.peer_proto.specs.declared.guest.VdiAsk.{VdiAsk}
 use Rattle.vdi_directory.specs.declared.decision.Decision.{Decision}
-use Rattle.vdi_directory.specs.declared.decision.Decision.TheVariants as decisions
 use Rattle.vdi_directory.specs.declared.effect.Effect.{Effect}
 use Rattle.vdi_directory.specs.declared.header.Header.{Header}
-use Rattle.vdi_directory.specs.Chains.{chain_of}
-use Rattle.vdi_directory.specs.Effects.{header_of}
-use Rattle.vdi_ops.specs.Entries.{first_entry}
 use Rattle.vdi_ops.specs.Op.{DiskChange, Stays, Opens, Closes, Op, OpStep, OpStage, Asked, Working, Publishing, Answered}
 use Rattle.vdi_ops.specs.Op.{Task, Opening, WritingBack, Tagging, Copying, Making}
-use Rattle.vdi_ops.specs.Steps.{first_step, begin_command, tag_step, copy_step, change_without_grant, step_after_grant}
-use Rattle.vdi_ops.specs.Steps.{step_after_decision, done_at, task_done, decided_at, op_on_done, on_decision}
-use Rattle.std.proofs.Common.{is_some, ◌∷◌}
-use Rattle.vdi_ops.specs.Tables.{inode_by}
+use Rattle.vdi_ops.specs.Steps.{begin_command}
+use Rattle.vdi_ops.specs.Steps.{done_at, task_done, op_on_done, on_decision}
+use Rattle.overlap_law.proofs.ClosedFirstStages.{HoldsAtFirst, begins_so, decided_so}
 use Rattle.overlap_law.proofs.StagesFrom.{IsOfWorks}
 
 -- what holds of no command that has just begun, or whose entry was decided
@@ -36,72 +29,26 @@ pub record IsNoneAtFirst (P : OpStage → Type 0) : Type 0 where
   pub making : (vid : Vid) (entry : Entry) → P (Working vid (Making entry None)) → ⊥
 
 module _ (P : OpStage → Type 0) (none : IsNoneAtFirst P) where
-  abbrev Never : OpStep → Type 0
-  Never step = P step.op.stage → ⊥
+  abbrev Never : OpStage → Type 0
+  Never stage = P stage → ⊥
+
+  never_at_first : HoldsAtFirst (λ (stage : OpStage). P stage → ⊥)
+  never_at_first = record {
+    stays = none.answered Stays;
+    closes = none.answered Closes;
+    opening = none.opening;
+    tagging = none.tagging;
+    copying = none.copying;
+    making = λ vid by. none.making vid (entries.Publish by vid);
+  }
 
   pub none_begins : (by : NodeId) (session : ℕ) (ask : VdiAsk) (disk : Option Content) (step : OpStep)
       → begin_command by session ask disk ≡ Some step → P step.op.stage → ⊥
-  unfolding begin_command
-  none_begins by session ask disk step is =
-      subst (λ (o : Option OpStep). IfSome o Never) is (by_entry (first_entry by session disk ask))
-    where
-      by_entry : (o : Option Entry) → IfSome (option_map (first_step by session) o) (λ (step : OpStep). P step.op.stage → ⊥)
-      by_entry None = tt
-      by_entry (Some entry) = none.asked entry
+  none_begins = begins_so Never none.asked
 
-  module _ (op : Op) where
-    tagged_none : (of : Vid) (tag : List ℕ) (header : Header) (disk : Option Content)
-        → IfSome (option_map (tag_step op of tag header) disk) Never
-    tagged_none of tag header None = tt
-    tagged_none of tag header (Some old) = none.tagging of (record { 0 = old.vid }) (inode_by header of.0 old.table)
-
-    copied_none : (of : Vid) (chain : List ℕ) (header : Header) (parent : Option Vid)
-        → IfSome (option_map (copy_step op of chain header) parent) Never
-    copied_none of chain header None = tt
-    copied_none of chain header (Some parent) = none.copying of chain header
-
-    granted_none : (of : Vid) (chain : List ℕ) (disk : Option Content) (entry : Entry) (header : Header)
-        → IfSome (step_after_grant op of chain disk entry header) Never
-    granted_none of chain disk (entries.Format members) header = tt
-    granted_none of chain disk (entries.Join node zone vnodes) header = tt
-    granted_none of chain disk (entries.Leave node) header = tt
-    granted_none of chain disk (entries.Reweight node vnodes) header = tt
-    granted_none of chain disk (entries.Recovered node epoch) header = tt
-    granted_none of chain disk (entries.Reserve by session name (Fresh spec)) header = none.making of (entries.Publish op.by of)
-    granted_none of chain disk (entries.Reserve by session name (SnapshotOf tag)) header = tagged_none of tag header disk
-    granted_none of chain disk (entries.Reserve by session name (CloneOf base tag)) header = copied_none of chain header header.parent
-    granted_none of chain disk (entries.Publish by id) header = tt
-    granted_none of chain disk (entries.Clone by id) header = tt
-    granted_none of chain disk (entries.Snapshot by old id) header = tt
-    granted_none of chain disk (entries.Delete by session name tag) header = none.answered Stays
-    granted_none of chain disk (entries.Lock by session name tag) header =
-        none.opening of (is_some tag) (of.0 ∷ chain) header
-    granted_none of chain disk (entries.Unlock by session id) header = none.answered Closes
-
-    decided_none : (known : List Effect) (disk : Option Content) (entry : Entry) (decision : Decision)
-        → IfSome (step_after_decision known disk op entry decision) Never
-    decided_none known disk entry decisions.None = none.answered (change_without_grant entry)
-    decided_none known disk entry (decisions.Granted of) = by_header (header_of known of.0)
-      where
-        by_header : (o : Option Header) → IfSome (option_and_then (step_after_grant op of (chain_of known of.0) disk entry) o) Never
-        by_header None = tt
-        by_header (Some header) = granted_none of (chain_of known of.0) disk entry header
-    decided_none known disk entry (decisions.Refused cause) = none.answered (change_without_grant entry)
-
-    pub none_decided : (known : List Effect) (disk : Option Content) (decision : Decision) (step : OpStep)
-        → on_decision known disk decision op ≡ Some step → P step.op.stage → ⊥
-    unfolding on_decision
-    none_decided known disk decision step is = subst (λ (o : Option OpStep). IfSome o Never) is (by_stage op.stage)
-      where
-        by_made : (entry : Entry) (made : Option Content)
-            → P (Answered (option_map_or (Opens false) made Stays)) → ⊥
-        by_made entry made = none.answered (option_map_or (Opens false) made Stays)
-
-        by_stage : (stage : OpStage) → IfSome (decided_at known disk decision op stage) (λ (step : OpStep). P step.op.stage → ⊥)
-        by_stage (Asked entry) = decided_none known disk entry decision
-        by_stage (Working of task) = tt
-        by_stage (Publishing entry made) = by_made entry made
-        by_stage (Answered change) = tt
+  pub none_decided : (op : Op) (known : List Effect) (disk : Option Content) (decision : Decision) (step : OpStep)
+      → on_decision known disk decision op ≡ Some step → P step.op.stage → ⊥
+  none_decided op = decided_so Never never_at_first op (λ inode. none.answered (Opens false inode))
 
 -- ---- the creation of this inode, and its publication
 

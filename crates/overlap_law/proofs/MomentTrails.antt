@@ -30,7 +30,7 @@ module _ (script : List Statement) (start : MomentWithPast) where
 
   module _ (stepping : SteppingNode) (is : IsStepping script start.world stepping) where
     -- a trail to each point of a step
-    to_point : StepsByChanges stepping.cause → {so_far : StepState} → LeadsInStep stepping (first_in_step stepping) so_far
+    pub to_point : StepsByChanges stepping.cause → {so_far : StepState} → LeadsInStep stepping (first_in_step stepping) so_far
         → LeadsInStep stepping so_far (last_in_step stepping) → MomentTrail script start (moment_in_step script stepping start so_far)
     to_point by changes.Still rest = Then Still (StepBegins stepping is by)
     to_point by (changes.Then {so_far} {next} leads change) rest =

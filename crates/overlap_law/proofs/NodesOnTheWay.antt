@@ -1,28 +1,26 @@
 -- What holds of each node in every world of a run, and speaks of nothing that a change of its step touches, holds of it at each moment on
 -- the way of an event.
-use Rattle.std.proofs.Common.{◌≡◌, ◌≢◌, ⊎_elim, ℕ, List, [], Some, refl, sym, ap, subst, ◌∙◌}
+use Rattle.std.proofs.Common.{◌≡◌, ℕ, List, [], Some, refl, sym, ◌∙◌}
 use Rattle.std.specs.FinMap as tree
-use Rattle.proof_tools.proofs.FiniteMaps.{get-insert_same, get-insert_cases}
+use Rattle.proof_tools.proofs.FiniteMaps.{get-insert_same}
 use Rattle.cluster_script.specs.declared.statement.Statement.{Statement}
 use Rattle.sheep_node.specs.declared.event.Event.{Event}
-use Rattle.sheep_node.specs.Changes as changes
 use Rattle.sheep_node.specs.State.{Node}
 use Rattle.sheep_node.specs.StepState.{StepState}
 use Rattle.sheep_node.proofs.StepChain.{step_chain}
 use Rattle.sheep_node.proofs.StepEffects.{untouched_in}
 use Rattle.sheep_world.specs.World.{Host, World}
-use Rattle.sheep_world.specs.Step.{EventOutcome, step}
 use Rattle.sheep_world.specs.NodeCauses.{input_of_cause, event_of_cause, host_with_node, world_after_cause}
 use Rattle.sheep_world.specs.EventKinds.{outcome_of_step}
 use Rattle.sheep_world.specs.Began.{Began}
 use Rattle.sheep_world.proofs.BegunWorlds.{goes_on}
 use Rattle.overlap_law.specs.Past.{MomentWithPast, run_on, first_moment, run_with_past}
-use Rattle.overlap_law.specs.StepMoments.{SteppingNode, IsStepping, first_in_step, last_in_step, LeadsInStep, hosts_in_step}
-use Rattle.overlap_law.specs.MomentChanges as moments
-use Rattle.overlap_law.specs.MomentChanges.{MomentChange, MomentTrail, Still, Then, KeptByChanges}
+use Rattle.overlap_law.specs.StepMoments.{SteppingNode, IsStepping, first_in_step, last_in_step, LeadsInStep, StepsByChanges}
+use Rattle.overlap_law.specs.MomentChanges.{MomentChange, MomentTrail, KeptByChanges}
 use Rattle.overlap_law.proofs.NodePartsInMoments.{HasPartsOf, parts_of}
 use Rattle.overlap_law.proofs.NoRecoveredDue.{began-with_past}
 use Rattle.overlap_law.proofs.SendsOfChanges.{in_order_so_far}
+use Rattle.overlap_law.proofs.ClosedWorlds.{hosts_after, hosts_along}
 
 module _ (script : List Statement) (Q : ℕ → Node → Type 0)
     (same : (n : ℕ) (old new : Node) → HasPartsOf old new → Q n old → Q n new)
@@ -31,10 +29,9 @@ module _ (script : List Statement) (Q : ℕ → Node → Type 0)
   HoldsOf moment = (n : ℕ) (host : Host) → tree.get moment.world.hosts n ≡ Some host → Q n host.node
 
   module _ (start : MomentWithPast) (began : Began script start.world) where
-    so_in_step : (stepping : SteppingNode) → IsStepping script start.world stepping → (so_far : StepState)
-        → LeadsInStep stepping (first_in_step stepping) so_far → (n : ℕ) (host : Host)
-        → tree.get (hosts_in_step stepping start.world so_far) n ≡ Some host → Q n host.node
-    so_in_step stepping is so_far leads n host there =
+    so_in_step : (stepping : SteppingNode) → IsStepping script start.world stepping → StepsByChanges stepping.cause
+        → (so_far : StepState) → LeadsInStep stepping (first_in_step stepping) so_far → Q stepping.n so_far.node
+    so_in_step stepping is by so_far leads =
         let last = host_with_node stepping.host (last_in_step stepping).node in
         let end = world_after_cause script stepping.n stepping.host stepping.cause start.world in
         let ended : Began script end = goes_on script (event_of_cause stepping.n stepping.cause) start.world
@@ -42,37 +39,14 @@ module _ (script : List Statement) (Q : ℕ → Node → Type 0)
         let untouched : untouched_in so_far ≡ untouched_in (last_in_step stepping)
         = (in_order_so_far so_far leads).same
         ∙ sym (in_order_so_far (last_in_step stepping) (step_chain (input_of_cause stepping.cause) stepping.host.node)).same in
-        ⊎_elim
-        (λ (own : (n ≡ stepping.n) × (host_with_node stepping.host so_far.node ≡ host)).
-        let at : tree.get end.hosts n ≡ Some last = ap (tree.get end.hosts) own.0 ∙ get-insert_same start.world.hosts stepping.n last in
-        subst (λ (h : Host). Q n h.node) own.1
-        (same n (last_in_step stepping).node so_far.node (parts_of (last_in_step stepping) so_far untouched) (holds end ended n last at)))
-        (λ (other : (n ≢ stepping.n) × (tree.get start.world.hosts n ≡ Some host)). holds start.world began n host other.1)
-        (get-insert_cases start.world.hosts stepping.n (host_with_node stepping.host so_far.node) n host there)
-
-    so_at_end : (event : Event) (made : EventOutcome) → step script event start.world ≡ Some made → (n : ℕ) (host : Host)
-        → tree.get made.world.hosts n ≡ Some host → Q n host.node
-    so_at_end event made happened = holds made.world (goes_on script event start.world made began happened)
+        same stepping.n (last_in_step stepping).node so_far.node (parts_of (last_in_step stepping) so_far untouched)
+        (holds end ended stepping.n last (get-insert_same start.world.hosts stepping.n last))
 
     nodes_then : {before after : MomentWithPast} → MomentChange script start before after → HoldsOf after
-    nodes_then (moments.StepBegins stepping is by) n host there =
-        so_in_step stepping is (first_in_step stepping) changes.Still n host there
-    nodes_then (moments.StepGoesOn stepping so_far next is by within) n host there =
-        so_in_step stepping is next (changes.Then within.leads within.change) n host there
-    nodes_then (moments.StepIsMade stepping is by) n host there =
-        so_in_step stepping is (last_in_step stepping) (step_chain (input_of_cause stepping.cause) stepping.host.node) n host there
-    nodes_then (moments.LossIsUntold event made happened h) n host there = so_at_end event made happened n host there
-    nodes_then (moments.DeliveryIsUnread event made happened h) n host there = so_at_end event made happened n host there
-    nodes_then (moments.NodeIsLost event made happened h) n host there = so_at_end event made happened n host there
-    nodes_then (moments.NodeLeaves event made happened h) n host there = so_at_end event made happened n host there
-    nodes_then (moments.NodeIsReweighted event made happened h) n host there = so_at_end event made happened n host there
-    nodes_then (moments.NodeJoins event made happened h) n host there = so_at_end event made happened n host there
-    nodes_then (moments.NodeComesBack event made happened h) n host there = so_at_end event made happened n host there
-    nodes_then (moments.PhaseEnds event made happened h) n host there = so_at_end event made happened n host there
+    nodes_then change = hosts_after script (λ (n : ℕ) (host : Host). Q n host.node) holds start began so_in_step change
 
     trail_so : {moment : MomentWithPast} → MomentTrail script start moment → HoldsOf moment
-    trail_so Still = holds start.world began
-    trail_so (Then trail change) = nodes_then change
+    trail_so trail = hosts_along script (λ (n : ℕ) (host : Host). Q n host.node) holds start began so_in_step trail
 
   pub nodes-on_the_way : (events : List Event) (start moment : MomentWithPast) → run_with_past script events ≡ Some start
       → MomentTrail script start moment → HoldsOf moment

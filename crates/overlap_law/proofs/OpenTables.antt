@@ -9,7 +9,6 @@ use Rattle.vdi_directory.specs.Decisions.{log_effects}
 use Rattle.guest_driver.specs.declared.disk.Disk.{Disk}
 use Rattle.sheep_node.specs.declared.event.Event.{Event}
 use Rattle.sheep_node.specs.declared.session.Session.{Session}
-use Rattle.sheep_node.specs.Changes as changes
 use Rattle.sheep_node.specs.State.{Node}
 use Rattle.sheep_node.specs.StepFacts.{read_after}
 use Rattle.sheep_node.specs.StepState.{StepState}
@@ -19,11 +18,9 @@ use Rattle.sheep_world.specs.Began.{Began}
 use Rattle.sheep_world.specs.EventKinds.{outcome_of_step}
 use Rattle.sheep_world.specs.HostChanges.{host_after_step}
 use Rattle.sheep_world.specs.NodeCauses.{input_of_cause, event_of_cause, host_with_node, log_after_cause}
-use Rattle.sheep_world.specs.Step.{EventOutcome, step}
 use Rattle.sheep_world.proofs.BegunWorlds.{goes_on}
 use Rattle.sheep_world.proofs.LogFrontLaws.{all_read}
-use Rattle.overlap_law.specs.MomentChanges as moments
-use Rattle.overlap_law.specs.MomentChanges.{MomentChange, MomentTrail, RunsAreInRange}
+use Rattle.overlap_law.specs.MomentChanges.{MomentTrail, RunsAreInRange}
 use Rattle.overlap_law.specs.OpenTables.{EntriesAreOfTheChain}
 use Rattle.overlap_law.specs.Past.{MomentWithPast, run_with_past}
 use Rattle.overlap_law.specs.Reached.{Hosts}
@@ -37,6 +34,7 @@ use Rattle.overlap_law.proofs.NoRecoveredDue.{began-with_past}
 use Rattle.overlap_law.proofs.StepsInRuns.{knows_tables}
 use Rattle.overlap_law.proofs.WholeInRuns.{nodes_whole}
 use Rattle.overlap_law.proofs.WholeNodes.{AreWholeOn, whole_grows}
+use Rattle.overlap_law.proofs.ClosedWorlds.{world_along}
 
 -- the works of each node are whole by the log
 abbrev pub AreWholeBy : List Entry → Hosts → Type 0
@@ -55,9 +53,6 @@ module _ (script : List Statement) (range : RunsAreInRange script) where
       (by_more host.node.peer.entries front.rest host.node (nodes_whole script range world began n host there))
 
   module _ (start : MomentWithPast) (began : Began script start.world) where
-    at_end : (event : Event) (made : EventOutcome) → step script event start.world ≡ Some made → AreWholeBy made.world.log made.world.hosts
-    at_end event made happened = in_world made.world (goes_on script event start.world made began happened)
-
     -- the node that steps, as far as it has come
     module _ (stepping : SteppingNode) (is : IsStepping script start.world stepping) (by : StepsByChanges stepping.cause)
         (so_far : StepState) (leads : LeadsInStep stepping (first_in_step stepping) so_far) where
@@ -92,25 +87,8 @@ module _ (script : List Statement) (range : RunsAreInRange script) where
           (in_world start.world began n host other.1))
           (get-insert_cases start.world.hosts stepping.n (host_with_node stepping.host so_far.node) n host there)
 
-    whole_after : {before after : MomentWithPast} → MomentChange script start before after → AreWholeBy after.world.log after.world.hosts
-    whole_after (moments.StepBegins stepping is by) = in_step stepping is by (first_in_step stepping) changes.Still
-    whole_after (moments.StepGoesOn stepping so_far next is by within) =
-        in_step stepping is by next (changes.Then within.leads within.change)
-    whole_after (moments.StepIsMade stepping is by) =
-        at_end (event_of_cause stepping.n stepping.cause) (outcome_of_step script stepping.n stepping.host stepping.cause start.world)
-        is.made
-    whole_after (moments.LossIsUntold event made happened h) = at_end event made happened
-    whole_after (moments.DeliveryIsUnread event made happened h) = at_end event made happened
-    whole_after (moments.NodeIsLost event made happened h) = at_end event made happened
-    whole_after (moments.NodeLeaves event made happened h) = at_end event made happened
-    whole_after (moments.NodeIsReweighted event made happened h) = at_end event made happened
-    whole_after (moments.NodeJoins event made happened h) = at_end event made happened
-    whole_after (moments.NodeComesBack event made happened h) = at_end event made happened
-    whole_after (moments.PhaseEnds event made happened h) = at_end event made happened
-
     along_trail : {moment : MomentWithPast} → MomentTrail script start moment → AreWholeBy moment.world.log moment.world.hosts
-    along_trail moments.Still = in_world start.world began
-    along_trail (moments.Then trail change) = whole_after change
+    along_trail trail = world_along script (λ (world : World). AreWholeBy world.log world.hosts) in_world start began in_step trail
 
   -- ---- the disks that sessions have open
 

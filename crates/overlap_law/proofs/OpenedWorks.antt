@@ -1,6 +1,6 @@
 -- A disk that a command opens, since its work is done, has its table: what it wrote back is all that is to come, and of a snapshot what it
 -- read.
-use Rattle.std.proofs.Common.{◌≡◌, inl, ℕ, ◌<◌, Bool, true, false, List, Option, Some, slice_index, refl, sym, ap, subst, ◌∙◌}
+use Rattle.std.proofs.Common.{◌≡◌, inl, ℕ, ◌<◌, Bool, true, false, List, Option, Some, slice_index, refl, sym, ap, subst, ◌∙◌, ◌+◌, ◌*◌}
 use Rattle.std.specs.FinMap as tree
 use Rattle.proof_tools.proofs.FiniteMaps.{get-insert_same}
 use Rattle.object_id.specs.Spec.{objects_of}
@@ -14,9 +14,11 @@ use Rattle.gateway.specs.State.{Work}
 use Rattle.gateway.specs.Work.{is_making}
 use Rattle.gateway.specs.declared.message.Status.{Status}
 use Rattle.guest_driver.specs.declared.disk.Disk.{Disk}
+use Rattle.object_id.specs.Fields.{u32_at}
+use Rattle.vdi_directory.specs.declared.header.Header.{Header}
 use Rattle.vdi_directory.specs.Dead.{is_dead}
 use Rattle.vdi_directory.specs.Decisions.{log_effects}
-use Rattle.vdi_ops.specs.Op.{Op, OpStage, Working, WritingBack, IsAwaitedAtOpStage}
+use Rattle.vdi_ops.specs.Op.{Op, OpStage, Working, WritingBack, IsAwaitedAtOpStage, Opening}
 use Rattle.vdi_ops.specs.TaskWorks.{IsWrittenBack}
 use Rattle.vdi_ops.specs.declared.act.OpAct.TheVariants as op_acts
 use Rattle.sheep_node.specs.Changes.{EndsWork}
@@ -31,7 +33,7 @@ use Rattle.overlap_law.specs.Attempts.{AttemptRecord}
 use Rattle.overlap_law.specs.MomentChanges.{MomentChange, MomentTrail, RunsAreInRange}
 use Rattle.overlap_law.specs.OpenedTables.{ReadsIt, WroteIt, OpenedInodesHaveTables, EntriesReadAreKept}
 use Rattle.overlap_law.specs.InodesRead.{ReadsInodeAt, ReadsAreToCome}
-use Rattle.overlap_law.specs.OpenedTables.{SnapshotReadsAreAlone, GivesEntry, WrittenBackHaveTables, InodesStay}
+use Rattle.overlap_law.specs.OpenedTables.{GivesEntry, WrittenBackHaveTables, InodesStay}
 use Rattle.overlap_law.specs.Past.{MomentWithPast, run_with_past}
 use Rattle.overlap_law.specs.StepMoments.{SteppingNode, IsStepping, StepsByChanges, LeadsInStep, first_in_step, moment_in_step}
 use Rattle.overlap_law.specs.Tables.{entry_unit, entry_by}
@@ -48,6 +50,18 @@ use Rattle.overlap_law.proofs.OwnTables as tables
 use Rattle.overlap_law.proofs.SnappedFrozen.{snapped_after}
 use Rattle.overlap_law.proofs.TablesGoOn.{tables_kept}
 use Rattle.overlap_law.proofs.WorksInMoments.{well_along}
+
+-- where a snapshot is opened, each entry that was read is all that may come of it, wherever such a reading ends in the middle of a step
+abbrev SnapshotReadsAreAlone : List Statement → (ℕ → Bool) → MomentWithPast → MomentWithPast → Type 0
+SnapshotReadsAreAlone script good_id start before = (stepping : SteppingNode) (so_far : StepState) → IsStepping script start.world stepping
+    → StepsByChanges stepping.cause → LeadsInStep stepping (first_in_step stepping) so_far
+    → before ≡ moment_in_step script stepping start so_far → (session req number : ℕ) (work : Work) (attempt : Attempt) (status : Status)
+    (op : Op) (bytes : List ℕ) (vid : Vid) (ids : List ℕ) (header : Header) (index : ℕ)
+    → EndsWork (input_of_cause stepping.cause) stepping.host.node so_far session req number work attempt status (Commanding op) bytes
+    → op.stage ≡ Working vid (Opening true ids header) → good_id vid.0 ≡ true
+    → is_dead (log_effects before.world.log) vid.0 ≡ false → index < objects_of header.spec → (j : ℕ) (one : AttemptRecord)
+    → IsEntryToCome before.world.hosts before.past.attempts vid.0 index j one
+    → entry_by index one ≡ u32_at (INODE_HEADER_BYTES + 4 * index) bytes
 
 module _ (script : List Statement) (range : RunsAreInRange script) (events : List Event) (start before : MomentWithPast)
     (ran : run_with_past script events ≡ Some start) (trail : MomentTrail script start before) (good_id : ℕ → Bool)
@@ -104,7 +118,7 @@ module _ (script : List Statement) (range : RunsAreInRange script) (events : Lis
         ap (entry_made index) one ∙ gives.entry
 
   -- each disk that is opened so
-  pub opened_by_works : OpenedInodesHaveTables script good_id start before
+  opened_by_works : OpenedInodesHaveTables script good_id start before
   opened_by_works on so_far is by leads same number disk
       (ReadsIt req k work current status bytes op vid ids header ends at disk_so) index good lives inside yet j attempt comes =
       let inside_so : index < objects_of header.spec = subst (λ (d : Disk). index < objects_of d.inode.spec) disk_so inside in
@@ -130,7 +144,7 @@ module _ (script : List Statement) (range : RunsAreInRange script) (events : Lis
 -- ---- what is read of a snapshot
 
 -- it is all that may come, since a snapshot's inode may come to have one entry alone
-pub reads_alone : (script : List Statement) → RunsAreInRange script → (events : List Event) (start before : MomentWithPast)
+reads_alone : (script : List Statement) → RunsAreInRange script → (events : List Event) (start before : MomentWithPast)
     → run_with_past script events ≡ Some start → MomentTrail script start before → (good_id : ℕ → Bool)
     → ReadsAreToCome script good_id start before
     → SnappedStayFrozen (log_effects before.world.log) good_id before.world.hosts before.past.attempts

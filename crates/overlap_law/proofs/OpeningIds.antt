@@ -27,10 +27,9 @@ use Rattle.vdi_directory.specs.declared.decision.Decision.{Decision}
 use Rattle.vdi_directory.specs.declared.decision.Decision.TheVariants as decisions
 use Rattle.vdi_directory.specs.declared.effect.Effect.{Effect}
 use Rattle.vdi_directory.specs.declared.header.Header.{Header}
-use Rattle.vdi_ops.specs.Entries.{first_entry}
 use Rattle.vdi_ops.specs.Op.{Op, OpStep, OpStage, Asked, Working, Publishing, Answered, Task, Opening, WritingBack, Tagging, Copying}
 use Rattle.vdi_ops.specs.Op.{Making}
-use Rattle.vdi_ops.specs.Steps.{first_step, begin_command, tag_step, copy_step, step_after_grant, step_after_decision, decided_at}
+use Rattle.vdi_ops.specs.Steps.{begin_command, tag_step, copy_step, step_after_grant, step_after_decision, decided_at}
 use Rattle.vdi_ops.specs.Steps.{on_decision}
 use Rattle.vdi_ops.specs.Steps.{done_at, task_done, op_on_done}
 use Rattle.sheep_node.specs.declared.course.Course.TheVariants.{Commanding}
@@ -44,6 +43,7 @@ use Rattle.overlap_law.specs.LastReads.{was_snapped}
 use Rattle.overlap_law.specs.Each.{EachUp}
 use Rattle.overlap_law.specs.MomentChanges.{MomentChange, MomentTrail, RunsAreInRange, KeptByChanges}
 use Rattle.overlap_law.specs.Past.{MomentWithPast, run_with_past}
+use Rattle.overlap_law.proofs.ClosedFirstStages.{begins_first}
 use Rattle.overlap_law.proofs.AnswersInMoments.{not_lost}
 use Rattle.overlap_law.proofs.AwaitedCommands.{waits_at}
 use Rattle.overlap_law.proofs.CountedEntries.{same_entry}
@@ -81,13 +81,9 @@ module _ (vid : Vid) (snapshot : Bool) (ids : List ℕ) (header : Header) where
 
   begun : (by : NodeId) (session : ℕ) (ask : VdiAsk) (disk : Option Content) (step : OpStep)
       → begin_command by session ask disk ≡ Some step → step.op.stage ≡ Working vid (Opening snapshot ids header) → ⊥
-  unfolding begin_command
-  begun by session ask disk step is at = by_entry (first_entry by session disk ask) is
-    where
-      by_entry : (o : Option Entry) → option_map (first_step by session) o ≡ Some step → ⊥
-      by_entry None is = cc (is)
-      by_entry (Some entry) is =
-          let stage = ap (λ (s : OpStep). s.op.stage) (same_Some (first_step by session entry) step is) ∙ at in cc (stage)
+  begun by session ask disk step is at =
+      let (entry, first) = begins_first by session ask disk step is in
+      let stage = ap (λ (s : OpStep). s.op.stage) first ∙ at in cc (stage)
 
   done : (op : Op) (bytes : List ℕ) (step : OpStep) → op_on_done bytes op ≡ Some step
       → step.op.stage ≡ Working vid (Opening snapshot ids header) → ⊥

@@ -1,7 +1,7 @@
 -- In each run in range, where an opening has read an inode in the middle of a step, what it read names as the disk's own objects that were
 -- created: each of its entries is that of an attempt on the inode, of no later epoch than the read's.
 use Rattle.std.proofs.Common.{◌≡◌, ⊎_elim, arith, ℕ, ◌+◌, ◌*◌, ◌-◌, ◌≤◌, ◌<◌, ◌==◌, Bool, true, false}
-use Rattle.std.proofs.Common.{List, [], ◌∷◌, length, slice_get, Option, Some, refl, sym, ap, subst, ◌∙◌}
+use Rattle.std.proofs.Common.{List, length, slice_get, Option, Some, refl, sym, ap, subst, ◌∙◌}
 use Rattle.std.specs.FinMap as tree
 use Rattle.std.specs.List.{list_any}
 use Rattle.std.specs.Option.{option_map_or}
@@ -34,8 +34,7 @@ use Rattle.gateway.specs.declared.message.Message.{Message}
 use Rattle.gateway.specs.declared.message.Status.{Status}
 use Rattle.gateway.specs.declared.message.Status.TheVariants as statuses
 use Rattle.gateway.specs.Attempt as gateways
-use Rattle.gateway.specs.Attempt.{is_awaited_message, is_done, bytes_given}
-use Rattle.gateway.specs.Attempt.{messages_with_status}
+use Rattle.gateway.specs.Attempt.{is_awaited_message}
 use Rattle.gateway.specs.State.{Work, WorkStage, open_messages, is_awaited_in}
 use Rattle.gateway.specs.Work.{asks_all, is_making, bytes_of_work}
 use Rattle.vdi_ops.specs.declared.act.OpAct.{OpAct}
@@ -91,7 +90,8 @@ use Rattle.overlap_law.proofs.WholeNodes.{AreWholeOn}
 use Rattle.overlap_law.proofs.WholeSteps.{IsWellKnown}
 use Rattle.sheep_node.proofs.SoundCommands.{HeadersAreSound}
 use Rattle.sheep_node.specs.LogReading.{entry_read as log_entry_read}
-use Rattle.overlap_law.proofs.DoneReads.{AwaitedAt, awaited_at, only_one, marked_one, inode_gives, inode_whole, piece_told, number_in_piece}
+use Rattle.overlap_law.proofs.DoneReads.{AwaitedAt, awaited_at, awaited_by, unanswered_by, gave_by, inode_whole, piece_told}
+use Rattle.overlap_law.proofs.DoneReads.{number_in_piece}
 
 -- an attempt on an inode, of an epoch or before it, gave it this entry
 pub record IsEntryRead (attempts : List AttemptRecord) (epoch vid index value : ℕ) : Type 0 where
@@ -235,38 +235,27 @@ module _ (script : List Statement) (range : RunsAreInRange script) (events : Lis
         ∙ ap bytes_of_work is_read
 
     -- the message of which it is told
-    awaited : AwaitedAt number attempt.messages
-    awaited =
-        awaited_at number attempt.messages
-        (sym (ap (λ (stage : WorkStage). list_any (is_awaited_message number) (open_messages stage)) ends.ends.learns.open_so)
-        ∙ ends.ends.learns.awaited)
+    abbrev awaited : AwaitedAt number attempt.messages
+    awaited = awaited_by ends
 
-    unanswered : IsUnansweredOf so_far.node.gateway.works req work attempt awaited.0 awaited.1
-    unanswered = record {
-      there = ends.ends.learns.there;
-      stage = ends.ends.learns.open_so;
-      at = awaited.2;
-      unanswered = awaited.4;
-    }
+    unanswered : IsUnansweredOf so_far.node.gateway.works req work attempt (awaited_by ends).0 (awaited_by ends).1
+    unanswered = unanswered_by ends
 
     told_here : ReadsAreTold here
     told_here = reads-on_the_way script range events start here ran trail
 
+    in_copies : is_in_strips spec.policy (kind_of (inode_number vid)) ≡ false
+    in_copies = inode_whole spec.policy (kind_of oid) is_inode
+
     whole : is_in_strips (policy_of work.work) (kind_of (oid_of work.work)) ≡ false
-    whole = ap (λ (w : ObjWork). is_in_strips (policy_of w) (kind_of (oid_of w))) is_read ∙ inode_whole spec.policy (kind_of oid) is_inode
+    whole = ap (λ (w : ObjWork). is_in_strips (policy_of w) (kind_of (oid_of w))) is_read ∙ in_copies
 
     -- is the only one, and gave the bytes
     gave : status ≡ statuses.Succeeded bytes
     gave =
-        let m : Message = awaited.1 in
-        let few : length attempt.messages ≤ 1
-        = told_here.few stepping.n was (get-insert_same start.world.hosts stepping.n was) here_up req awaited.0 work attempt m unanswered
-        (ap (λ (w : ObjWork). asks_all w) is_read ∙ inode_whole spec.policy (kind_of oid) is_inode) in
-        let only : messages_with_status number status attempt.messages ≡ record m { status = status } ∷ []
-        = ap (messages_with_status number status) (only_one attempt.messages awaited.0 m few awaited.2)
-        ∙ marked_one number status m awaited.3 in
-        inode_gives spec.policy (kind_of oid) is_inode m status bytes
-        (sym (λ i. is_done (is_read i) (only i)) ∙ ends.done) (sym (λ i. bytes_given (is_read i) (only i)) ∙ ends.given)
+        gave_by ends (inode_number vid) spec.policy 0 (written_bytes spec) is_read in_copies
+        (told_here.few stepping.n was (get-insert_same start.world.hosts stepping.n was) here_up req awaited.0 work attempt awaited.1
+        unanswered (ap (λ (w : ObjWork). asks_all w) is_read ∙ in_copies))
 
     -- so it is of attempts
     told_piece : 1 ≤ length bytes → (index : ℕ) × IsToldPiece here oid index 0 bytes

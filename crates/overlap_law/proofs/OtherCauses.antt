@@ -8,7 +8,6 @@ use Rattle.object_id.specs.declared.entry.Entry.{Entry}
 use Rattle.object_id.specs.declared.entry.Entry.TheVariants as entries
 use Rattle.object_id.specs.declared.entry.Origin.{Origin}
 use Rattle.object_id.specs.declared.entry.Origin.TheVariants.{Fresh, SnapshotOf, CloneOf}
-use Rattle.object_id.specs.declared.entry.VdiSpec.{VdiSpec}
 use Rattle.object_id.specs.declared.node.NodeId.{NodeId}
 use Rattle.object_id.specs.declared.oid.Vid.{Vid}
 use Rattle.inode.specs.Layout.{Content}
@@ -27,12 +26,12 @@ use Rattle.vdi_directory.specs.declared.effect.Source.{Source}
 use Rattle.vdi_directory.specs.declared.header.Header.{Header}
 use Rattle.vdi_directory.specs.Chains.{chain_of}
 use Rattle.vdi_directory.specs.declared.effect.Effect.TheVariants as effects
-use Rattle.vdi_directory.specs.declared.effect.Source.TheVariants as sources
-use Rattle.vdi_directory.specs.Vids.{free_id}
 use Rattle.vdi_directory.specs.Names.{snapshot_with_tag, is_live_name}
 use Rattle.vdi_directory.specs.Sources.{is_for, tag_for}
-use Rattle.vdi_directory.specs.Effects.{is_used, header_of, name_of, reservations_of, reservation_on, holder_of}
-use Rattle.vdi_directory.specs.Decisions.{nothing, refusal_outcome, grant_of, or_full, reservation_outcome, with_spec, reserved_snapshot, reserved_clone, reserve_outcome, publication, replacement, snapshot_outcome, unheld, free_disk, or_no_tag, target, deletion, lock, release, silent_outcome, grant_outcome, is_held_by, is_reserved_by, is_taken, held_disk, outcome}
+use Rattle.vdi_directory.specs.Effects.{header_of, name_of, reservations_of, reservation_on, holder_of}
+use Rattle.vdi_directory.specs.Decisions.{nothing, reserve_outcome, publication, replacement, snapshot_outcome, unheld, free_disk}
+use Rattle.vdi_directory.specs.Decisions.{or_no_tag, target, deletion, lock, release, silent_outcome, grant_outcome, is_held_by}
+use Rattle.vdi_directory.specs.Decisions.{is_reserved_by, outcome}
 use Rattle.disk_lock.specs.declared.holder.Holder.{Holder}
 use Rattle.guest_driver.specs.declared.disk.Disk.{Disk}
 use Rattle.guest_driver.specs.Refusals.{past_end, refusal_on, disk_refusal}
@@ -41,6 +40,7 @@ use Rattle.vdi_ops.specs.Op.{OpStage, Asked, Working, Publishing, Answered, Op, 
 use Rattle.vdi_ops.specs.Steps.{tag_step, copy_step, step_after_grant, step_after_decision, decided_at, on_decision}
 use Rattle.sheep_node.specs.Changes as outcomes
 use Rattle.overlap_law.specs.PastWords.{is_refusal}
+use Rattle.overlap_law.proofs.ClosedReservations.{refuses_reservation, reserves_so}
 
 -- whether a cause names an object that a node lacks
 abbrev pub names_lack : Cause → Bool
@@ -106,46 +106,12 @@ module _ (before : List Effect) where
   abbrev Other : Outcome → Type 0
   Other o = DecidesOther o.decision
 
-  full_other : (free : Option ℕ) (make : ℕ → Outcome) → ((vid : ℕ) → Other (make vid)) → Other (or_full free make)
-  full_other None make each = refl
-  full_other (Some vid) make each = each vid
-
-  reserved_other : (by : NodeId) (session : ℕ) (name : List ℕ) (source : Source) (parent : Option Vid) (spec : VdiSpec)
-      → Other (reservation_outcome before by session name source parent spec)
-  reserved_other by session name source parent spec =
-      full_other (free_id name (is_used before)) (grant_of before by session name source parent spec) (λ vid. tt)
-
-  spec_other : (header : Option Header) (make : VdiSpec → Outcome) → ((spec : VdiSpec) → Other (make spec)) → Other (with_spec header make)
-  spec_other None make each = tt
-  spec_other (Some header) make each = each header.spec
-
-  snapshot_other : (by : NodeId) (session : ℕ) (name tag : List ℕ) (held : Option Vid)
-      → Other (reserved_snapshot before by session name tag held)
-  snapshot_other by session name tag None = refl
-  snapshot_other by session name tag (Some old) =
-      let reserved = reservation_outcome before by session name (sources.Snapshot old tag) (Some old) in
-      cond_either Other (is_some (snapshot_with_tag tag (name_of before name))) (refusal_outcome causes.VdiExist)
-      (with_spec (header_of before old.0) reserved) refl
-      (spec_other (header_of before old.0) reserved (λ spec. reserved_other by session name (sources.Snapshot old tag) (Some old) spec))
-
-  clone_other : (by : NodeId) (session : ℕ) (name : List ℕ) (base : Option Vid) → Other (reserved_clone before by session name base)
-  clone_other by session name None = refl
-  clone_other by session name (Some base) =
-      let reserved = reservation_outcome before by session name sources.Clone (Some base) in
-      cond_either Other (is_taken before name) (refusal_outcome causes.VdiExist) (with_spec (header_of before base.0) reserved) refl
-      (spec_other (header_of before base.0) reserved (λ spec. reserved_other by session name sources.Clone (Some base) spec))
+  no_lack : (cause : Cause) → refuses_reservation cause ≡ true → names_lack cause ≡ false
+  no_lack (causes.NoObj node oid) is = absurd (cc (is))
+  no_lack cause is = refl
 
   origin_other : (by : NodeId) (session : ℕ) (name : List ℕ) (origin : Origin) → Other (reserve_outcome before by session name origin)
-  origin_other by session name (Fresh spec) =
-      cond_either Other (is_taken before name) (refusal_outcome causes.VdiExist)
-      (reservation_outcome before by session name sources.Fresh None spec) refl (reserved_other by session name sources.Fresh None spec)
-  origin_other by session name (SnapshotOf tag) =
-      snapshot_other by session name tag (held_disk before by session (name_of before name).working)
-  origin_other by session name (CloneOf base tag) =
-      let found = snapshot_with_tag tag (name_of before base) in
-      cond_either Other (is_live_name (name_of before base)) (reserved_clone before by session name found)
-      (refusal_outcome causes.NoBaseVdi)
-      (clone_other by session name found) refl
+  origin_other by session name = reserves_so before by session name Other no_lack tt (λ source parent spec id. tt)
 
   published_other : (by : NodeId) (right : Source → Bool) (reserved : Option Reservation) → Other (publication by right reserved)
   published_other by right None = tt

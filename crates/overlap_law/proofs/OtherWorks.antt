@@ -29,11 +29,10 @@ use Rattle.peer_proto.specs.declared.work.ObjWork.{ObjWork}
 use Rattle.peer_proto.specs.Work.{oid_of}
 use Rattle.vdi_ops.specs.declared.act.OpAct.{OpAct}
 use Rattle.vdi_ops.specs.declared.act.OpAct.TheVariants as op_acts
-use Rattle.vdi_ops.specs.Entries.{first_entry}
 use Rattle.vdi_ops.specs.InodeWorks.{read_inode, create_inode, write_back, write_tag}
 use Rattle.vdi_ops.specs.Op.{Task, Opening, WritingBack, Tagging, Copying, Making, OpStage, Asked, Working, Publishing, Answered, Op}
 use Rattle.vdi_ops.specs.Op.{OpStep}
-use Rattle.vdi_ops.specs.Steps.{first_step, begin_command, tag_step, copy_step, step_after_grant, step_after_decision, decided_at}
+use Rattle.vdi_ops.specs.Steps.{begin_command, tag_step, copy_step, step_after_grant, step_after_decision, decided_at}
 use Rattle.vdi_ops.specs.Steps.{on_decision}
 use Rattle.vdi_ops.specs.Steps.{task_done, done_at, op_on_done}
 use Rattle.vdi_ops.specs.Tables.{holes, table_in, inode_by}
@@ -47,6 +46,7 @@ use Rattle.disk_check.specs.declared.act.CheckAct.TheVariants as check_acts
 use Rattle.overlap_law.specs.NamedWorks.{HasEntry}
 use Rattle.overlap_law.specs.Tables.{entry_unit}
 use Rattle.overlap_law.specs.Units.{unit_start, unit_end}
+use Rattle.overlap_law.proofs.ClosedFirstStages.{begins_first}
 use Rattle.overlap_law.proofs.DriverEntries.{no_inode}
 use Rattle.overlap_law.proofs.EntryWrites.{entry_start, entry_size}
 use Rattle.overlap_law.proofs.KnownDisks.{Few, kind-of_inode}
@@ -81,13 +81,9 @@ command_work none (op_acts.Reply reply) = none
 -- it begins with an entry
 pub begins_with_entry : (by : NodeId) (session : ℕ) (ask : VdiAsk) (disk : Option Content) (step : OpStep)
     → begin_command by session ask disk ≡ Some step → (work : ObjWork) → step.act ≢ op_acts.Work work
-unfolding begin_command
-begins_with_entry by session ask disk step next work = by_entry (first_entry by session disk ask) next
-  where
-    by_entry : (o : Option Entry) → option_map (first_step by session) o ≡ Some step → step.act ≢ op_acts.Work work
-    by_entry None is act = cc (is)
-    by_entry (Some entry) is act =
-        let same = ap (λ (s : OpStep). s.act) (same_Some (first_step by session entry) step is) in cc (same, act)
+begins_with_entry by session ask disk step next work act =
+    let (entry, first) = begins_first by session ask disk step next in
+    let same = ap (λ (s : OpStep). s.act) first in cc (same, act)
 
 -- it creates a disk as it is granted its id
 pub record CreatesDisk (known : List Effect) (decision : Decision) (op : Op) (work : ObjWork) : Type 0 where

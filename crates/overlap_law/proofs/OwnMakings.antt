@@ -1,6 +1,7 @@
--- The inode that a command creates is that of the id which it was granted, and what a check writes is the disk's: every change keeps that of the
--- works that are open, and of those that wait in a line.
-use Rattle.std.proofs.Common.{◌≡◌, ℕ, true, false, List, [], ◌∷◌, All, Option, Some, None, IfSome, option_map, option_and_then, refl, sym, subst}
+-- The inode that a command creates is that of the id which it was granted, and what a check writes is the disk's: every change keeps that
+-- of the works that are open, and of those that wait in a line.
+use Rattle.std.proofs.Common.{◌≡◌, ℕ, true, false, List, [], ◌∷◌, All, Option, Some, None, IfSome, option_map, option_and_then, refl, sym}
+use Rattle.std.proofs.Common.{subst}
 use Rattle.std.specs.FinMap as tree
 use Rattle.std.proofs.lemmas.List.Elements.{All-head}
 use Rattle.std.proofs.lemmas.Option.{same_Some}
@@ -23,7 +24,8 @@ use Rattle.guest_driver.specs.Driver.{DriverStep, begin_driver}
 use Rattle.disk_check.specs.declared.act.CheckAct.{CheckAct}
 use Rattle.disk_check.specs.declared.act.CheckAct.TheVariants as check_acts
 use Rattle.disk_check.specs.Check as checks
-use Rattle.disk_check.specs.Check.{Check, CheckStage, CheckStep, Comparing, WritingBack as Rewriting, check_on, begun_check, begin_check, check_done_at, check_on_done, left_of}
+use Rattle.disk_check.specs.Check.{Check, CheckStage, CheckStep, Comparing, WritingBack as Rewriting, check_on, begun_check, begin_check}
+use Rattle.disk_check.specs.Check.{check_done_at, check_on_done, left_of}
 use Rattle.disk_check.specs.Table.{own_indexes}
 use Rattle.disk_check.specs.Value.{pieces_in}
 use Rattle.vdi_directory.specs.declared.decision.Decision.{Decision}
@@ -34,9 +36,10 @@ use Rattle.vdi_directory.specs.Chains.{chain_of}
 use Rattle.vdi_directory.specs.Effects.{header_of}
 use Rattle.vdi_ops.specs.declared.act.OpAct.{OpAct}
 use Rattle.vdi_ops.specs.declared.act.OpAct.TheVariants as op_acts
-use Rattle.vdi_ops.specs.Entries.{first_entry}
-use Rattle.vdi_ops.specs.Op.{Task, Opening, WritingBack, Tagging, Copying, Making, OpStage, Asked, Working, Publishing, Answered, Op, OpStep, disk_change}
-use Rattle.vdi_ops.specs.Steps.{first_step, begin_command, tag_step, copy_step, step_after_grant, step_after_decision, decided_at, on_decision, task_done, done_at, op_on_done}
+use Rattle.vdi_ops.specs.Op.{Task, Opening, WritingBack, Tagging, Copying, Making, OpStage, Asked, Working, Publishing, Answered, Op}
+use Rattle.vdi_ops.specs.Op.{OpStep, disk_change}
+use Rattle.vdi_ops.specs.Steps.{begin_command, tag_step, copy_step, step_after_grant, step_after_decision, decided_at, on_decision}
+use Rattle.vdi_ops.specs.Steps.{task_done, done_at, op_on_done}
 use Rattle.sheep_node.specs.declared.course.Course.{Course}
 use Rattle.sheep_node.specs.declared.course.Request.{Request}
 use Rattle.sheep_node.specs.declared.input.Input.{Input}
@@ -46,10 +49,13 @@ use Rattle.sheep_node.specs.State.{Node}
 use Rattle.sheep_node.specs.StepState.{StepState, at_first, session_in, with_sole_request}
 use Rattle.sheep_node.specs.Courses.{after_driver_step, disk_after, after_command_step}
 use Rattle.sheep_node.specs.OneWork.{waiting_in, HasNoWork}
-use Rattle.sheep_node.specs.Changes.{outcome_of_driver, outcome_of_command, outcome_of_check, without_ended_work, IsSoundStep, input_received, Leads, DiskBegins, DiskGoesOn, CommandBegins, CommandGoesOn, CommandDecided, CheckBegins, CheckGoesOn, ObjectBegins, ObjectIsDone, EntryBegins, EntryDecided}
+use Rattle.sheep_node.specs.Changes.{outcome_of_driver, outcome_of_command, outcome_of_check, without_ended_work, IsSoundStep}
+use Rattle.sheep_node.specs.Changes.{input_received, Leads, DiskBegins, DiskGoesOn, CommandBegins, CommandGoesOn, CommandDecided}
+use Rattle.sheep_node.specs.Changes.{CheckBegins, CheckGoesOn, ObjectBegins, ObjectIsDone, EntryBegins, EntryDecided}
 use Rattle.sheep_node.proofs.AwaitedWorks.{Works}
 use Rattle.sheep_node.proofs.OneWorkParts.{Requests, Sessions}
 use Rattle.sheep_node.proofs.OneWorkChanges.{StepHasOneWork, HasNoWorkIn, steps_free}
+use Rattle.overlap_law.proofs.ClosedFirstStages.{begins_first}
 use Rattle.overlap_law.proofs.KnownDisks.{Few, vid-of_object}
 use Rattle.overlap_law.proofs.WorksAtCourses.{IsAt, HaveAt, AtSoFar, moved_at, freed_at, IsOutcomeAt, StepsKeepAt}
 
@@ -106,14 +112,10 @@ IsOwnStep step = IsOwnAct step.act step.op.stage
 given_own : (step next : OpStep) → Some step ≡ Some next → IsOwnStep step → IsOwnStep next
 given_own step next same is = subst IsOwnStep (same_Some step next same) is
 
-begins_own : (by : NodeId) (session : ℕ) (ask : VdiAsk) (disk : Option Content) (step : OpStep) → begin_command by session ask disk ≡ Some step
+begins_own : (by : NodeId) (session : ℕ) (ask : VdiAsk) (disk : Option Content) (step : OpStep)
+    → begin_command by session ask disk ≡ Some step
     → IsOwnStep step
-unfolding begin_command
-begins_own by session ask disk step is = by_entry (first_entry by session disk ask) is
-  where
-    by_entry : (entry : Option Entry) → option_map (first_step by session) entry ≡ Some step → IsOwnStep step
-    by_entry None is = absurd (cc (is))
-    by_entry (Some entry) is = given_own (first_step by session entry) step is tt
+begins_own by session ask disk step is = let (entry, same) = begins_first by session ask disk step is in subst IsOwnStep same tt
 
 task_own : (op : Op) (vid : Vid) (bytes : List ℕ) (task : Task) → IsOwnStep (task_done op vid bytes task)
 task_own op vid bytes (Opening true ids header) = tt
@@ -134,7 +136,8 @@ goes_on_own bytes op step next = by_stage op.stage next
     by_stage (Answered change) next = absurd (cc (next))
 
 module _ (known : List Effect) (disk : Option Content) (op : Op) (step : OpStep) where
-  granted_own : (vid : Vid) (header : Header) (entry : Entry) → step_after_grant op vid (chain_of known vid.0) disk entry header ≡ Some step → IsOwnStep step
+  granted_own : (vid : Vid) (header : Header) (entry : Entry) → step_after_grant op vid (chain_of known vid.0) disk entry header ≡ Some step
+      → IsOwnStep step
   granted_own vid header (entries.Format members) next = absurd (cc (next))
   granted_own vid header (entries.Join node zone vnodes) next = absurd (cc (next))
   granted_own vid header (entries.Leave node) next = absurd (cc (next))
@@ -162,7 +165,8 @@ module _ (known : List Effect) (disk : Option Content) (op : Op) (step : OpStep)
   after_own entry decisions.None next = subst IsOwnStep (same_Some _ step next) tt
   after_own entry (decisions.Granted vid) next = by_header (header_of known vid.0) next
     where
-      by_header : (o : Option Header) → option_and_then (step_after_grant op vid (chain_of known vid.0) disk entry) o ≡ Some step → IsOwnStep step
+      by_header : (o : Option Header) → option_and_then (step_after_grant op vid (chain_of known vid.0) disk entry) o ≡ Some step
+          → IsOwnStep step
       by_header None next = absurd (cc (next))
       by_header (Some header) next = granted_own vid header entry next
   after_own entry (decisions.Refused cause) next = subst IsOwnStep (same_Some _ step next) tt
@@ -199,7 +203,8 @@ check_goes_on_own bytes check step next id few = by_stage check.stage next few
     given : (now : CheckStep) → Some now ≡ Some step → IsOwnCheckAct now.check now.act → IsOwnCheckAct step.check step.act
     given now same is = subst (λ (s : CheckStep). IsOwnCheckAct s.check s.act) (same_Some now step same) is
 
-    by_stage : (stage : CheckStage) → check_done_at bytes check stage ≡ Some step → All Few (left_of stage) → IsOwnCheckAct step.check step.act
+    by_stage : (stage : CheckStage) → check_done_at bytes check stage ≡ Some step → All Few (left_of stage)
+        → IsOwnCheckAct step.check step.act
     by_stage (Comparing index later) next few =
         given (checks.write_back_step check index later (pieces_in check.spec bytes)) next
         (λ making. vid-of_object check.vid index id (All-head Few index later few))
@@ -208,7 +213,8 @@ check_goes_on_own bytes check step next id few = by_stage check.stage next few
 
 -- ---- a step that a request takes
 
-put_own : (requests : Requests) (req : ℕ) (now : Request) (work : ObjWork) → MakesOwn now.course work → MakesOwnAt (tree.get (tree.insert requests req now) req) work
+put_own : (requests : Requests) (req : ℕ) (now : Request) (work : ObjWork) → MakesOwn now.course work
+    → MakesOwnAt (tree.get (tree.insert requests req now) req) work
 put_own requests req now work is = subst (λ (o : Option Request). MakesOwnAt o work) (sym (get-insert_same requests req now)) is
 
 -- a request without a work is in another course
@@ -225,7 +231,8 @@ moved_own req number course session so_far free line all =
         → IsAt MakesOwnOf (tree.insert so_far.node.sessions number session) request work
     same_course request work is = is
 
-driven_own : (number req : ℕ) (disk : Disk) (step : DriverStep) (so_far : StepState) → HasNoWorkIn req (after_driver_step number req disk step so_far)
+driven_own : (number req : ℕ) (disk : Disk) (step : DriverStep) (so_far : StepState)
+    → HasNoWorkIn req (after_driver_step number req disk step so_far)
     → MakeOwnSoFar so_far
     → MakeOwnSoFar (after_driver_step number req disk step so_far)
     × IsOutcomeAt MakesOwnOf req (outcome_of_driver step.act) (after_driver_step number req disk step so_far)
@@ -241,7 +248,8 @@ driven_own number req disk step so_far free all = (moved_own req number (Driving
     by_act (driver_acts.Work work) = put_own so_far.node.requests req now work tt
     by_act (driver_acts.Reply reply) = tt
 
-command_own : (number req : ℕ) (step : OpStep) (so_far : StepState) → IsOwnStep step → HasNoWorkIn req (after_command_step number req step so_far)
+command_own : (number req : ℕ) (step : OpStep) (so_far : StepState) → IsOwnStep step
+    → HasNoWorkIn req (after_command_step number req step so_far)
     → MakeOwnSoFar so_far
     → MakeOwnSoFar (after_command_step number req step so_far)
     × IsOutcomeAt MakesOwnOf req (outcome_of_command step.act) (after_command_step number req step so_far)
@@ -259,7 +267,8 @@ command_own number req step so_far is free all = (moved_own req number (Commandi
     by_act (op_acts.Work work) is = put_own so_far.node.requests req now work is
     by_act (op_acts.Reply reply) is = tt
 
-sole_own : (number req : ℕ) (course : Course) (so_far : StepState) → HasNoWorkIn req (with_sole_request number req course so_far) → MakeOwnSoFar so_far
+sole_own : (number req : ℕ) (course : Course) (so_far : StepState) → HasNoWorkIn req (with_sole_request number req course so_far)
+    → MakeOwnSoFar so_far
     → MakeOwnSoFar (with_sole_request number req course so_far)
 sole_own number req course so_far free all =
     moved_own req number course (record (session_in number so_far) { command = Some req }) so_far free refl all

@@ -8,7 +8,6 @@ use Rattle.cluster_script.specs.declared.statement.Statement.{Statement}
 use Rattle.cluster_script.specs.declared.statement.Statement.TheVariants as lines
 use Rattle.cluster_script.specs.Settings.{tries_of}
 use Rattle.peer_service.specs.State.{Peer}
-use Rattle.sheep_node.specs.declared.event.Event.{Event}
 use Rattle.sheep_node.specs.declared.input.Input.{Input}
 use Rattle.sheep_node.specs.declared.input.Input.TheVariants as inputs
 use Rattle.sheep_node.specs.Changes as changes
@@ -20,7 +19,7 @@ use Rattle.sheep_node.proofs.StepChain.{step_chain}
 use Rattle.sheep_node.proofs.StepEffects.{Untouched}
 use Rattle.sheep_node.proofs.StepResults.{step_peer}
 use Rattle.sheep_world.specs.World.{Host, World}
-use Rattle.sheep_world.specs.Step.{EventOutcome, step}
+use Rattle.sheep_world.specs.Step.{EventOutcome}
 use Rattle.sheep_world.specs.MembershipChanges.{lost_host, join_of, last_weight}
 use Rattle.sheep_world.specs.NodeCauses.{input_of_cause, event_of_cause, host_with_node, world_after_cause}
 use Rattle.sheep_world.specs.EventKinds.{log_after_return, outcome_of_step}
@@ -31,12 +30,14 @@ use Rattle.sheep_world.proofs.ControlLaws.{next_fits}
 use Rattle.sheep_world.proofs.LogFrontLaws.{all_read}
 use Rattle.overlap_law.specs.Reached.{Hosts}
 use Rattle.overlap_law.specs.Past.{MomentWithPast}
-use Rattle.overlap_law.specs.StepMoments.{SteppingNode, IsStepping, first_in_step, last_in_step, LeadsInStep, hosts_in_step, moment_in_step}
+use Rattle.overlap_law.specs.StepMoments.{SteppingNode, IsStepping, first_in_step, last_in_step, LeadsInStep, moment_in_step}
+use Rattle.overlap_law.specs.StepMoments.{StepsByChanges}
 use Rattle.overlap_law.specs.MomentChanges as moments
 use Rattle.overlap_law.specs.MomentChanges.{MomentChange, RunsAreInRange}
 use Rattle.overlap_law.proofs.EpochsRise.{same_so_far, read_more, read_with_more}
 use Rattle.overlap_law.proofs.KnownSteps.{together}
 use Rattle.overlap_law.proofs.SendsOfChanges.{in_order_so_far}
+use Rattle.overlap_law.proofs.ClosedWorlds.{hosts_after}
 
 -- what a node steps on, and what it reads more by that
 pub record PeerStep (was : Host) (host : Host) : Type 0 where
@@ -129,10 +130,9 @@ module _ (script : List Statement) (range : RunsAreInRange script) (start : Mome
 module _ (script : List Statement) (Q : ℕ → Peer → Type 0)
     (holds : (world : World) → Began script world → (n : ℕ) (host : Host) → tree.get world.hosts n ≡ Some host → Q n host.node.peer)
     (start : MomentWithPast) (began : Began script start.world) where
-  so_in_step : (stepping : SteppingNode) → IsStepping script start.world stepping → (so_far : StepState)
-      → LeadsInStep stepping (first_in_step stepping) so_far → (n : ℕ) (host : Host)
-      → tree.get (hosts_in_step stepping start.world so_far) n ≡ Some host → Q n host.node.peer
-  so_in_step stepping is so_far leads n host there =
+  so_in_step : (stepping : SteppingNode) → IsStepping script start.world stepping → StepsByChanges stepping.cause → (so_far : StepState)
+      → LeadsInStep stepping (first_in_step stepping) so_far → Q stepping.n so_far.node.peer
+  so_in_step stepping is by so_far leads =
       let last = host_with_node stepping.host (last_in_step stepping).node in
       let end = world_after_cause script stepping.n stepping.host stepping.cause start.world in
       let ended : Began script end = goes_on script (event_of_cause stepping.n stepping.cause) start.world
@@ -141,29 +141,8 @@ module _ (script : List Statement) (Q : ℕ → Peer → Type 0)
       = ap (λ (u : Untouched). u.peer)
       ((in_order_so_far (last_in_step stepping) (step_chain (input_of_cause stepping.cause) stepping.host.node)).same
       ∙ sym (in_order_so_far so_far leads).same) in
-      ⊎_elim
-      (λ (own : (n ≡ stepping.n) × (host_with_node stepping.host so_far.node ≡ host)).
-      let at : tree.get end.hosts n ≡ Some last = ap (tree.get end.hosts) own.0 ∙ get-insert_same start.world.hosts stepping.n last in
-      subst (λ (h : Host). Q n h.node.peer) own.1 (subst (Q n) peer_so (holds end ended n last at)))
-      (λ (other : (n ≢ stepping.n) × (tree.get start.world.hosts n ≡ Some host)). holds start.world began n host other.1)
-      (get-insert_cases start.world.hosts stepping.n (host_with_node stepping.host so_far.node) n host there)
-
-  so_at_end : (event : Event) (made : EventOutcome) → step script event start.world ≡ Some made → (n : ℕ) (host : Host)
-      → tree.get made.world.hosts n ≡ Some host → Q n host.node.peer
-  so_at_end event made happened = holds made.world (goes_on script event start.world made began happened)
+      subst (Q stepping.n) peer_so (holds end ended stepping.n last (get-insert_same start.world.hosts stepping.n last))
 
   pub peers_so : {before after : MomentWithPast} → MomentChange script start before after → (n : ℕ) (host : Host)
       → tree.get after.world.hosts n ≡ Some host → Q n host.node.peer
-  peers_so (moments.StepBegins stepping is by) n host there = so_in_step stepping is (first_in_step stepping) changes.Still n host there
-  peers_so (moments.StepGoesOn stepping so_far next is by within) n host there =
-      so_in_step stepping is next (changes.Then within.leads within.change) n host there
-  peers_so (moments.StepIsMade stepping is by) n host there =
-      so_in_step stepping is (last_in_step stepping) (step_chain (input_of_cause stepping.cause) stepping.host.node) n host there
-  peers_so (moments.LossIsUntold event made happened h) n host there = so_at_end event made happened n host there
-  peers_so (moments.DeliveryIsUnread event made happened h) n host there = so_at_end event made happened n host there
-  peers_so (moments.NodeIsLost event made happened h) n host there = so_at_end event made happened n host there
-  peers_so (moments.NodeLeaves event made happened h) n host there = so_at_end event made happened n host there
-  peers_so (moments.NodeIsReweighted event made happened h) n host there = so_at_end event made happened n host there
-  peers_so (moments.NodeJoins event made happened h) n host there = so_at_end event made happened n host there
-  peers_so (moments.NodeComesBack event made happened h) n host there = so_at_end event made happened n host there
-  peers_so (moments.PhaseEnds event made happened h) n host there = so_at_end event made happened n host there
+  peers_so change = hosts_after script (λ (n : ℕ) (host : Host). Q n host.node.peer) holds start began so_in_step change

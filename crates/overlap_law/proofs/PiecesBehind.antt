@@ -6,7 +6,7 @@ use Rattle.std.proofs.Common.{length, take, Option, Some, None, slice_get, refl,
 use Rattle.std.specs.List.{range_with_len}
 use Rattle.std.proofs.lemmas.Bool.{cases_lt}
 use Rattle.std.proofs.lemmas.List.{length-append}
-use Rattle.std.proofs.lemmas.List.Elements.{All-nil, All-cons, All-head, All-append}
+use Rattle.std.proofs.lemmas.List.Elements.{All-nil, All-cons, All-head, All-tail, All-append}
 use Rattle.std.proofs.lemmas.Option.{same_Some, slice_get_within}
 use Rattle.std.proofs.Math.Nat.{max-eq_left, max-eq_right}
 use Rattle.std.proofs.Math.Seq.{take-append_seam}
@@ -19,7 +19,7 @@ use Rattle.peer_proto.specs.declared.guest.DiskAsk.TheVariants as disk_asks
 use Rattle.gateway_queue.specs.declared.queue.Queued.{Queued}
 use Rattle.guest_driver.specs.declared.disk.Disk.{Disk}
 use Rattle.guest_driver.specs.OnDisk.{pieces_left}
-use Rattle.guest_driver.specs.Pieces.{Piece, first_index, last_index, indexes, piece_in, pieces}
+use Rattle.guest_driver.specs.Pieces.{Piece, offset_of, size_of, first_index, last_index, indexes, piece_in, pieces}
 use Rattle.guest_driver.specs.PieceWorks.{Backing, Hole, Own, Inherited, entry_of, backing_of, read_piece, table_with_entry}
 use Rattle.guest_driver.specs.Refusals.{refusal_on}
 use Rattle.guest_driver.specs.Driver as drivers
@@ -35,6 +35,11 @@ got_range : (a n i k : ℕ) → slice_get (range_with_len a n) i ≡ Some k → 
 got_range a zero i k got = absurd (cc (got))
 got_range a (suc n) zero k got = let same = same_Some a k got in omega (arith, same)
 got_range a (suc n) (suc i) k got = let later = got_range (a + 1) n i k got in omega (arith, later)
+
+got_below : (a n i k : ℕ) → slice_get (range_with_len a n) i ≡ Some k → k < a + n
+got_below a zero i k got = absurd (cc (got))
+got_below a (suc n) zero k got = let same = same_Some a k got in omega (arith, same)
+got_below a (suc n) (suc i) k got = let later = got_below (a + 1) n i k got in omega (arith, later)
 
 got_seam : {X : Type 0} (xs ys : List X) (x : X) → slice_get (xs ++ x ∷ ys) (length xs) ≡ Some x
 got_seam [] ys x = refl
@@ -77,6 +82,18 @@ module _ (shift offset size : ℕ) (before rest : List Piece) (piece : Piece)
       subst (λ (p : Piece). offset + p.place ≡ p.index * 2 ^ shift + p.offset) (sym at_seam)
       (begins_at shift offset size (first_index shift offset + length before))
 
+  -- it is of no later object than the last
+  pub at_last : piece.index ≤ last_index shift offset size
+  unfolding pieces
+  at_last =
+      let got : slice_get (pieces shift offset size) (length before) ≡ Some piece
+      = ap (λ (all : List Piece). slice_get all (length before)) cut ∙ got_seam before rest piece in
+      let (k, at, same) = got_map (piece_in shift offset size) (indexes shift offset size) (length before) piece got in
+      let index : k ≡ piece.index = ap (λ (p : Piece). p.index) same in
+      let least = got_range (first_index shift offset) (last_index shift offset size + 1 - first_index shift offset) (length before) k at in
+      let most = got_below (first_index shift offset) (last_index shift offset size + 1 - first_index shift offset) (length before) k at in
+      omega (arith, index, least, most)
+
   -- their objects are before its own
   pub before_earlier : (one : Piece) → Contains before one → one.index < piece.index
   before_earlier one among =
@@ -106,44 +123,27 @@ cut_once shift offset later size before front rest piece cut other =
 
 -- ---- what the queue covers
 
--- what a queue has for a write covers what the write has behind it
+-- the pieces of a request before these, of one of this size
+abbrev pub AreCoveredBefore : ℕ → Queued → ℕ → List Piece → Type 0
+AreCoveredBefore shift queued size rest =
+    (offset : ℕ) × (before : List Piece) × (pieces shift offset size ≡ before ++ rest) × All (CoversPiece queued) before
+
+-- what a queue has for a read or write covers what the request has behind it
 abbrev pub CoversBehind : ℕ → Queued → Driver → Type 0
-CoversBehind shift queued (Reads told piece rest) = Unit {0}
-CoversBehind shift queued (Writes payload stage piece rest) =
-    (offset : ℕ) × (before : List Piece) × (pieces shift offset (length payload) ≡ before ++ piece ∷ rest)
-    × All (CoversPiece queued) before
+CoversBehind shift queued (Reads told piece rest) = (size : ℕ) × AreCoveredBefore shift queued size (piece ∷ rest)
+CoversBehind shift queued (Writes payload stage piece rest) = AreCoveredBefore shift queued (length payload) (piece ∷ rest)
 CoversBehind shift queued drivers.Answered = Unit {0}
 
 module _ (shift : ℕ) (queued : Queued) where
   abbrev CoversSo : DriverStep → Type 0
   CoversSo step = CoversBehind shift queued step.driver
 
-  reads_behind : (inode : Content) (told : List ℕ) (rest : List Piece) → CoversSo (read_on inode told rest)
-  unfolding read_on
-  reads_behind inode told [] = tt
-  reads_behind inode told (piece ∷ rest) =
-      cond_either CoversSo (entry_of inode piece == 0) (read_on inode (told ++ zeros piece.size) rest)
-      (work_step inode (Reads told piece rest) (read_piece inode piece (entry_of inode piece)))
-      (reads_behind inode (told ++ zeros piece.size) rest) tt
+  abbrev AreBefore : ℕ → List Piece → Type 0
+  AreBefore size rest = AreCoveredBefore shift queued size rest
 
-  -- these pieces are the last ones, and those before are covered
-  abbrev AreLast : List ℕ → List Piece → Type 0
-  AreLast payload rest =
-      (offset : ℕ) × (before : List Piece) × (pieces shift offset (length payload) ≡ before ++ rest) × All (CoversPiece queued) before
-
-  piece_behind : (inode : Content) (payload : List ℕ) (piece : Piece) (rest : List Piece) → AreLast payload (piece ∷ rest)
-      → (backing : Backing) → CoversSo (write_piece_on inode payload piece rest backing)
-  piece_behind inode payload piece rest last Hole = last
-  piece_behind inode payload piece rest last Own = last
-  piece_behind inode payload piece rest last (Inherited vid) = last
-
-  writes_behind : (inode : Content) (payload : List ℕ) (rest : List Piece) → AreLast payload rest → CoversSo (write_on inode payload rest)
-  writes_behind inode payload [] last = tt
-  writes_behind inode payload (piece ∷ rest) last = piece_behind inode payload piece rest last (backing_of inode piece)
-
-  one_more : (payload : List ℕ) (piece : Piece) (rest : List Piece) → CoversPiece queued piece → AreLast payload (piece ∷ rest)
-      → AreLast payload rest
-  one_more payload piece rest covers (offset, before, cut, all) = (
+  one_before : (size : ℕ) (piece : Piece) (rest : List Piece) → CoversPiece queued piece → AreBefore size (piece ∷ rest)
+      → AreBefore size rest
+  one_before size piece rest covers (offset, before, cut, all) = (
     offset,
     before ++ piece ∷ [],
     cut ∙ sym (append_assoc before (piece ∷ []) rest),
@@ -151,36 +151,64 @@ module _ (shift : ℕ) (queued : Queued) where
         (All-cons (CoversPiece queued) piece [] covers (All-nil (CoversPiece queued))),
   )
 
+  -- a read passes over holes
+  reads_behind : (inode : Content) (told : List ℕ) (size : ℕ) (rest : List Piece) → All (CoversPiece queued) rest → AreBefore size rest
+      → CoversSo (read_on inode told rest)
+  unfolding read_on
+  reads_behind inode told size [] covers last = tt
+  reads_behind inode told size (piece ∷ rest) covers last =
+      cond_either CoversSo (entry_of inode piece == 0) (read_on inode (told ++ zeros piece.size) rest)
+      (work_step inode (Reads told piece rest) (read_piece inode piece (entry_of inode piece)))
+      (reads_behind inode (told ++ zeros piece.size) size rest (All-tail (CoversPiece queued) piece rest covers)
+      (one_before size piece rest (All-head (CoversPiece queued) piece rest covers) last))
+      (size, last)
+
+  piece_behind : (inode : Content) (payload : List ℕ) (piece : Piece) (rest : List Piece) → AreBefore (length payload) (piece ∷ rest)
+      → (backing : Backing) → CoversSo (write_piece_on inode payload piece rest backing)
+  piece_behind inode payload piece rest last Hole = last
+  piece_behind inode payload piece rest last Own = last
+  piece_behind inode payload piece rest last (Inherited vid) = last
+
+  writes_behind : (inode : Content) (payload : List ℕ) (rest : List Piece) → AreBefore (length payload) rest
+      → CoversSo (write_on inode payload rest)
+  writes_behind inode payload [] last = tt
+  writes_behind inode payload (piece ∷ rest) last = piece_behind inode payload piece rest last (backing_of inode piece)
+
   done_behind : (inode : Content) (bytes payload : List ℕ) (piece : Piece) (rest : List Piece) (stage : DriverStage)
-      → CoversPiece queued piece → AreLast payload (piece ∷ rest) → CoversSo (write_done inode bytes payload piece rest stage)
+      → CoversPiece queued piece → AreBefore (length payload) (piece ∷ rest) → CoversSo (write_done inode bytes payload piece rest stage)
   done_behind inode bytes payload piece rest InPlace covers last =
-      writes_behind inode payload rest (one_more payload piece rest covers last)
+      writes_behind inode payload rest (one_before (length payload) piece rest covers last)
   done_behind inode bytes payload piece rest Fetching covers last = last
   done_behind inode bytes payload piece rest Creating covers last = last
   done_behind inode bytes payload piece rest Entering covers last =
-      writes_behind (table_with_entry inode piece) payload rest (one_more payload piece rest covers last)
+      writes_behind (table_with_entry inode piece) payload rest (one_before (length payload) piece rest covers last)
 
   pub goes_on_behind : (inode : Content) (bytes : List ℕ) (driver : Driver) (step : DriverStep)
       → driver_on_done inode bytes driver ≡ Some step → All (CoversPiece queued) (pieces_left driver) → CoversBehind shift queued driver
       → CoversBehind shift queued step.driver
   unfolding driver_on_done
-  goes_on_behind inode bytes (Reads told piece rest) step next covers last =
-      subst CoversSo (same_Some (read_on inode (told ++ bytes) rest) step next) (reads_behind inode (told ++ bytes) rest)
+  goes_on_behind inode bytes (Reads told piece rest) step next covers (size, last) =
+      subst CoversSo (same_Some (read_on inode (told ++ bytes) rest) step next)
+      (reads_behind inode (told ++ bytes) size rest (All-tail (CoversPiece queued) piece rest covers)
+      (one_before size piece rest (All-head (CoversPiece queued) piece rest covers) last))
   goes_on_behind inode bytes (Writes payload stage piece rest) step next covers last =
       subst CoversSo (same_Some (write_done inode bytes payload piece rest stage) step next)
       (done_behind inode bytes payload piece rest stage (All-head (CoversPiece queued) piece rest covers) last)
   goes_on_behind inode bytes drivers.Answered step next covers last = absurd (cc (next))
 
 pub begins_behind : (disk : Disk) (queued : Queued) (ask : DiskAsk)
+    → All (CoversPiece queued) (pieces disk.inode.spec.shift (offset_of ask) (size_of ask))
     → CoversBehind disk.inode.spec.shift queued (begin_driver disk ask).driver
 unfolding begin_driver
-begins_behind disk queued ask = by_refusal ask (refusal_on disk false ask)
+begins_behind disk queued ask covers = by_refusal ask covers (refusal_on disk false ask)
   where
-    by_refusal : (ask : DiskAsk) (refusal : Option Cause)
+    by_refusal : (ask : DiskAsk) → All (CoversPiece queued) (pieces disk.inode.spec.shift (offset_of ask) (size_of ask))
+        → (refusal : Option Cause)
         → CoversBehind disk.inode.spec.shift queued (begin_unless_refused disk.inode ask refusal).driver
-    by_refusal ask (Some cause) = tt
-    by_refusal (disk_asks.Read offset size) None =
-        reads_behind disk.inode.spec.shift queued disk.inode [] (pieces disk.inode.spec.shift offset size)
-    by_refusal (disk_asks.Write offset payload) None =
+    by_refusal ask covers (Some cause) = tt
+    by_refusal (disk_asks.Read offset size) covers None =
+        reads_behind disk.inode.spec.shift queued disk.inode [] size (pieces disk.inode.spec.shift offset size) covers
+        (offset, [], refl, All-nil (CoversPiece queued))
+    by_refusal (disk_asks.Write offset payload) covers None =
         writes_behind disk.inode.spec.shift queued disk.inode payload (pieces disk.inode.spec.shift offset (length payload))
         (offset, [], refl, All-nil (CoversPiece queued))

@@ -1,6 +1,6 @@
--- In each run in range, on the way of an event: what comes of the piece of a read is as long as the piece, and of a disk that is available
--- up to the event's end it is what the piece's blocks may come to have, if its objects aren't in strips; and the holes that reads come to
--- are holes that the inode may come to have.
+-- In each run in range, on the way of an event: what comes of the piece of a read is as long as the piece, and of a disk that is good, by
+-- a test that calls none good that wasn't available as the event began, it is what the piece's blocks may come to have, if its objects
+-- aren't in strips; and the holes that reads come to are holes that the inode may come to have.
 use Rattle.std.proofs.Common.{◌≡◌, ◌≢◌, ◌⊎◌, inl, inr, ⊎_elim, arith, ℕ, zero, suc, ◌+◌, ◌*◌, ◌%◌, ◌≤◌, ◌<◌, Bool, true, false, All}
 use Rattle.std.proofs.Common.{Contains, List, [], ◌∷◌, length, Option, Some, IfSome, slice_index, refl, sym, ap, subst, ◌∙◌}
 use Rattle.std.specs.FinMap as tree
@@ -56,9 +56,11 @@ use Rattle.overlap_law.specs.BornObjects.{IsBorn}
 use Rattle.overlap_law.specs.Courses.{WaitsFor}
 use Rattle.overlap_law.specs.Fates.{IsCreated}
 use Rattle.overlap_law.specs.Holders.{is_available_disk}
-use Rattle.overlap_law.specs.MomentChanges.{MomentTrail, TrailLeft, RunsAreInRange}
+use Rattle.overlap_law.specs.MomentChanges.{MomentTrail, RunsAreInRange}
+use Rattle.overlap_law.specs.NamedWorks.{AboveIsGood}
 use Rattle.overlap_law.specs.OpenedTables.{InodesStay}
-use Rattle.overlap_law.specs.Past.{MomentWithPast, next_moment, run_with_past}
+use Rattle.overlap_law.specs.Overlap.{CallsFewer}
+use Rattle.overlap_law.specs.Past.{MomentWithPast, run_with_past}
 use Rattle.overlap_law.specs.Pieces.{IsInPiece}
 use Rattle.overlap_law.specs.StandingReads.{ReadPiecesAreToCome, ReadHolesAreToCome, StripPiecesAreToCome}
 use Rattle.overlap_law.specs.StayingBlocks.{IsHomeToCome}
@@ -68,15 +70,12 @@ use Rattle.overlap_law.specs.ToCome.{IsEntryToCome}
 use Rattle.overlap_law.specs.ToldReads.{PieceIsToCome, HoleIsToCome, HolesAreToCome}
 use Rattle.overlap_law.specs.Units.{unit_start, unit_end}
 use Rattle.overlap_law.proofs.AnswersInMoments.{not_lost}
-use Rattle.overlap_law.proofs.CarriedInodes.{inodes-on_the_way}
 use Rattle.overlap_law.proofs.CarriedRows.{good_at}
-use Rattle.overlap_law.proofs.CarriedTables.{tables-on_the_way}
 use Rattle.overlap_law.proofs.CausedWorks.{HasWellWorks}
 use Rattle.overlap_law.proofs.CoveredCourses.{size_and_queue, shift_open, IsCovered}
 use Rattle.overlap_law.proofs.CoveredPieces.{CoversPiece, all_covered}
 use Rattle.overlap_law.proofs.CreatesFirst.{session_of, inside as inside_table}
 use Rattle.overlap_law.proofs.DoneWorks.{bytes_long}
-use Rattle.overlap_law.proofs.EndTests.{was_good_id}
 use Rattle.overlap_law.proofs.GoodDisks.{IsBelow, good_below}
 use Rattle.overlap_law.proofs.KnownDisks.{FewAt, kind-of_object, vid-of_object}
 use Rattle.overlap_law.proofs.KnownReads.{entry_at, hole_none}
@@ -89,6 +88,7 @@ use Rattle.overlap_law.proofs.OpenTables.{entries_of_chain, whole_tables}
 use Rattle.overlap_law.proofs.PiecesReadToCome.{piece_to_come}
 use Rattle.overlap_law.proofs.QueuesInMoments.{HasGoodQueues}
 use Rattle.overlap_law.proofs.ReadsInMoments.{IsReadingWell}
+use Rattle.overlap_law.proofs.ReadsToldTables.{tables_along, inodes_along}
 use Rattle.overlap_law.proofs.ReadUnits.{read_born}
 use Rattle.overlap_law.proofs.TablesOfReads.{queues_along, reading_along, table_comes}
 use Rattle.overlap_law.proofs.ToldPiecesInRuns.{told_pieces-in_run}
@@ -113,12 +113,10 @@ read_on_disk opened told piece rest work waits disk on =
     awaited_piece waits.disk told piece rest work waits.awaited
     ∙ ap (λ (d : Disk). read_piece d.inode piece (entry_of d.inode piece)) same
 
-module _ (script : List Statement) (range : RunsAreInRange script) (events : List Event) (event : Event) (start end : MomentWithPast)
-    (run : run_with_past script events ≡ Some start) (happens : next_moment script event start ≡ Some end) (before : MomentWithPast)
-    (trail : MomentTrail script start before) (left : TrailLeft script start before end) where
-  abbrev good_id : ℕ → Bool
-  good_id = is_available_disk end.world.log end.past.unavailable
-
+module _ (script : List Statement) (range : RunsAreInRange script) (events : List Event) (start : MomentWithPast)
+    (run : run_with_past script events ≡ Some start) (good_id : ℕ → Bool)
+    (fewer : CallsFewer good_id (is_available_disk start.world.log start.past.unavailable))
+    (closed : AboveIsGood (log_effects start.world.log) good_id) (before : MomentWithPast) (trail : MomentTrail script start before) where
   abbrev effects : List Effect
   effects = log_effects before.world.log
 
@@ -126,7 +124,7 @@ module _ (script : List Statement) (range : RunsAreInRange script) (events : Lis
   began = began-with_past script events start run
 
   inodes : InodesStay effects good_id before.world.hosts before.past.attempts
-  inodes = inodes-on_the_way script range events event start end run happens trail left
+  inodes = inodes_along script range events start run good_id fewer closed trail
 
   -- ---- a session of a node that steps
 
@@ -220,19 +218,19 @@ module _ (script : List Statement) (range : RunsAreInRange script) (events : Lis
 
       -- ---- the object
 
-      is_read : work.work ≡ read_piece disk.inode piece (entry_of disk.inode piece)
+      pub is_read : work.work ≡ read_piece disk.inode piece (entry_of disk.inode piece)
       is_read =
           read_on_disk (session_among session so_far.node.sessions).disk told piece rest work.work
           (subst (λ (r : Option Request). IfSome r (λ (r : Request). Waits (session_among r.session so_far.node.sessions).disk r.course
           work.work)) ends.ends.request (reading.waited.1 req work.work (inl (work, ends.ends.learns.there, refl)))).0 disk opened
 
-      few : piece.index < OBJECTS_MAX
+      pub few : piece.index < OBJECTS_MAX
       few = All-head FewAt piece rest (well.on_known.courses req request ends.ends.request)
 
-      blocks : AreBlocks piece
+      pub blocks : AreBlocks piece
       blocks = All-head AreBlocks piece rest (reading.sound.courses req request ends.ends.request)
 
-      some : entry_of disk.inode piece ≢ 0
+      pub some : entry_of disk.inode piece ≢ 0
       some hole =
           let none : vid_of (object_number (entry_of disk.inode piece) piece.index) ≡ 0
           = ap (λ (k : ℕ). vid_of (object_number k piece.index)) hole ∙ hole_none piece.index few in
@@ -241,7 +239,7 @@ module _ (script : List Statement) (range : RunsAreInRange script) (events : Lis
       its_session : (one : Session) × (tree.get so_far.node.sessions session ≡ Some one) × (one.disk ≡ Some disk)
       its_session = session_of so_far.node session disk opened
 
-      is_vid : IsVid (entry_of disk.inode piece)
+      pub is_vid : IsVid (entry_of disk.inode piece)
       is_vid =
           let (one, got, on) = its_session in
           let ids = (subst (λ (o : Option Disk). IfSome o (λ (d : Disk). IsSoundInode d.inode)) on
@@ -287,7 +285,7 @@ module _ (script : List Statement) (range : RunsAreInRange script) (events : Lis
       trail_here : MomentTrail script start (moment_in_step script stepping start so_far)
       trail_here = subst (MomentTrail script start) same trail
 
-      long_so : length bytes ≡ piece.size
+      pub long_so : length bytes ≡ piece.size
       long_so =
           let known = knows_well script range events start run stepping is by so_far leads trail_here in
           bytes_long (step_known script range events start run stepping is by so_far leads trail_here).sound so_far session req number work
@@ -297,20 +295,28 @@ module _ (script : List Statement) (range : RunsAreInRange script) (events : Lis
 
       module _ (ledger : Ledger) (good : good_id disk.inode.vid ≡ true)
           (live : is_live_state (state_of effects disk.inode.vid) ≡ true) where
-        home_comes : IsHomeToCome before.world.hosts before.past.attempts disk.inode.vid piece.index (entry_of disk.inode piece)
+        pub home_comes : IsHomeToCome before.world.hosts before.past.attempts disk.inode.vid piece.index (entry_of disk.inode piece)
         home_comes =
             inl (entries_come piece.index good live in_table
             (λ one among its. All-head (CoversPiece one) piece rest (covered.1 one among its).0))
 
-        created : IsCreated (moment_in_step script stepping start so_far).past.attempts
+        pub created : IsCreated (moment_in_step script stepping start so_far).past.attempts
             (object_number (entry_of disk.inode piece) piece.index) so_far.node.peer.epoch
         created =
             let (one, got, on) = its_session in
             subst (λ (m : MomentWithPast). IsCreated m.past.attempts (object_number (entry_of disk.inode piece) piece.index)
             so_far.node.peer.epoch) same
-            ((tables-on_the_way script range events event start end run happens trail left).tables.tables.each stepping.n was at
+            ((tables_along script range events start run good_id fewer closed trail).tables.tables.each stepping.n was at
             (not_lost stepping.host is.up) session piece.index one disk got on good
             (stands_alive effects disk.inode.vid (live_stands (state_of effects disk.inode.vid) live)) in_table some)
+
+        pub good_object : IsBorn start.past.attempts (object_number (entry_of disk.inode piece) piece.index)
+            → good_at start (object_number (entry_of disk.inode piece) piece.index) ≡ true
+        good_object born =
+            good_below start.world.log disk.inode.vid (object_number (entry_of disk.inode piece) piece.index)
+            (ap (λ (log : List Entry). is_gone (state_of (log_effects log) disk.inode.vid)) (sym log_same)
+            ∙ live_stands (state_of effects disk.inode.vid) live)
+            start.past.attempts start.past.unavailable (fewer disk.inode.vid good) below born
 
         module _ (whole : is_in_strips disk.inode.spec.policy Block ≡ false) where
           kind_so : kind_of (object_number (entry_of disk.inode piece) piece.index) ≡ Block
@@ -318,14 +324,6 @@ module _ (script : List Statement) (range : RunsAreInRange script) (events : Lis
 
           in_copies : is_in_strips disk.inode.spec.policy (kind_of (object_number (entry_of disk.inode piece) piece.index)) ≡ false
           in_copies = ap (λ (k : Kind). is_in_strips disk.inode.spec.policy k) kind_so ∙ whole
-
-          good_object : IsBorn start.past.attempts (object_number (entry_of disk.inode piece) piece.index)
-              → good_at start (object_number (entry_of disk.inode piece) piece.index) ≡ true
-          good_object born =
-              good_below start.world.log disk.inode.vid (object_number (entry_of disk.inode piece) piece.index)
-              (ap (λ (log : List Entry). is_gone (state_of (log_effects log) disk.inode.vid)) (sym log_same)
-              ∙ live_stands (state_of effects disk.inode.vid) live)
-              start.past.attempts start.past.unavailable (was_good_id script event start end happens disk.inode.vid good) below born
 
           at_block : (unit : ℕ) → IsInPiece piece unit
               → PieceIsToCome ledger effects good_id here.world.hosts here.past.attempts disk.inode (entry_of disk.inode piece) piece bytes

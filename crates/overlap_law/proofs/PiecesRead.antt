@@ -16,11 +16,10 @@ use Rattle.inode.specs.Layout.{Content}
 use Rattle.disk_history.specs.Ledger.{Item, Ledger}
 use Rattle.disk_history.specs.Legal.{standing, is_torn}
 use Rattle.vdi_directory.specs.declared.effect.Effect.{Effect}
-use Rattle.guest_driver.specs.declared.extent.Extent.{Extent}
 use Rattle.guest_driver.specs.Pieces.{Piece}
 use Rattle.overlap_law.specs.Attempts.{AttemptRecord}
 use Rattle.overlap_law.specs.StayingBlocks.{MayStay, Stays, WasServed, IsHomeToCome, BlocksStayWritten}
-use Rattle.overlap_law.specs.ToldReads.{MayBeReadAs, MayStayReadAs, IsReadUpTo, PieceMayBeRead, PieceIsToCome, HoleMayBeRead}
+use Rattle.overlap_law.specs.ToldReads.{MayBeReadAs, MayStayReadAs, PieceMayBeRead, PieceIsToCome, HoleMayBeRead}
 use Rattle.overlap_law.specs.ToldReads.{HolesMayBeRead, HoleIsToCome, HolesAreToCome}
 use Rattle.overlap_law.specs.Words.{Hosts, bytes_by}
 use Rattle.overlap_law.specs.WrittenBlocks.{items_at, is_torn_here}
@@ -39,15 +38,6 @@ pub stays_read : (attempts : List AttemptRecord) (items : List Item) (bytes : Li
 stays_read attempts items bytes (inl torn) = inl torn
 stays_read attempts items bytes (inr may) =
     inr (any_at (λ (item : Item). bytes_eq item.bytes bytes) (standing items) may.place may.item may.among may.same)
-
-pub staying_read : (attempts : List AttemptRecord) (ledger : Ledger) (effects : List Effect) (good_id : ℕ → Bool) (inode : Content)
-    (extent : Extent) (index : ℕ) (told : List ℕ) → IsReadUpTo (MayStayReadAs attempts) ledger effects good_id inode extent index told
-    → IsReadUpTo MayBeReadAs ledger effects good_id inode extent index told
-staying_read attempts ledger effects good_id inode extent index told up = record {
-  long = up.long;
-  each = λ k unit disk low less inside block.
-      stays_read attempts (items_at disk inode.spec k unit) _ (up.each k unit disk low less inside block);
-}
 
 -- ---- what comes of a piece
 

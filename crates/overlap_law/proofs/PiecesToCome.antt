@@ -133,11 +133,9 @@ module _ (log : List Entry) (hosts : Hosts) (wire : Wire) (attempts : List Attem
         made_reads log hosts wire attempts fates shape from oid epoch policy known target last j attempt at made index unit covers piece.row
         piece.since
 
-  -- ---- copies
+  -- ---- what isn't doomed
 
-  module _ (whole : is_in_strips policy (kind_of oid) ≡ false) (above : offset ≤ unit_start (kind_of oid) unit)
-      (below : unit_end (kind_of oid) unit ≤ offset + length bytes)
-      (flying : (j : ℕ) (attempt : AttemptRecord) → slice_get attempts j ≡ Some attempt → object_of attempt ≡ oid → (place : ℕ)
+  module _ (flying : (j : ℕ) (attempt : AttemptRecord) → slice_get attempts j ≡ Some attempt → object_of attempt ≡ oid → (place : ℕ)
       (node : NodeId) → HasPacket wire attempt place node → attempt.epoch < epoch) where
     -- what isn't doomed is owed: it is of an earlier epoch; or it has nothing in flight, so each target has served it
     standing_owed : (j : ℕ) (attempt : AttemptRecord) → slice_get (attempts_on oid attempts) j ≡ Some attempt
@@ -163,6 +161,12 @@ module _ (log : List Entry) (hosts : Hosts) (wire : Wire) (attempts : List Attem
         (λ (read : reading_of policy oid (attempts_on oid attempts) unit j index (row_bytes_at policy (kind_of oid) unit piece.row)). read)
         (piece.since.each j attempt at unit covers (standing_owed j attempt at stands_still))
 
+  -- ---- copies
+
+  module _ (whole : is_in_strips policy (kind_of oid) ≡ false) (above : offset ≤ unit_start (kind_of oid) unit)
+      (below : unit_end (kind_of oid) unit ≤ offset + length bytes)
+      (flying : (j : ℕ) (attempt : AttemptRecord) → slice_get attempts j ≡ Some attempt → object_of attempt ≡ oid → (place : ℕ)
+      (node : NodeId) → HasPacket wire attempt place node → attempt.epoch < epoch) where
     abbrev is_standing : AttemptRecord → Bool
     is_standing attempt = covers_unit unit attempt && not (is_doomed hosts attempt)
 
@@ -246,11 +250,27 @@ module _ (log : List Entry) (hosts : Hosts) (wire : Wire) (attempts : List Attem
             of_copy base last_one
             (subst (λ (b : Bool). reading_by b (attempts_on oid attempts) unit last_one.place index
             (row_bytes_at policy (kind_of oid) unit piece.row)) whole
-            (standing_reads last_one.place base last_one.there (not_so (is_doomed hosts base) stands_still) covers_base))
+            (standing_reads flying last_one.place base last_one.there (not_so (is_doomed hosts base) stands_still) covers_base))
 
   -- ---- strips
 
-  -- a part of a unit is that of a made attempt, if what came behind it adds nothing
+  -- a part of a unit is that of an attempt which reads so, if what came behind it adds nothing
+  part_read : is_in_strips policy (kind_of oid) ≡ true → (j : ℕ) (one : AttemptRecord)
+      → slice_get (attempts_on oid attempts) j ≡ Some one
+      → reading_of policy oid (attempts_on oid attempts) unit j index (row_bytes_at policy (kind_of oid) unit piece.row)
+      → AddNothingAfter (attempts_on oid attempts) unit j one
+      → part_size policy (kind_of oid) offset ≤ part_size policy (kind_of oid) (unit_start (kind_of oid) unit)
+      → part_size policy (kind_of oid) (unit_start (kind_of oid) unit) + part_size policy (kind_of oid) (unit_size (kind_of oid) unit)
+      ≤ part_size policy (kind_of oid) offset + length bytes
+      → piece_at bytes (part_size policy (kind_of oid) (unit_start (kind_of oid) unit) - part_size policy (kind_of oid) offset)
+      (part_size policy (kind_of oid) (unit_size (kind_of oid) unit))
+      ≡ unit_part_by index unit one.work
+  part_read strips j one at reads quiet above below =
+      let read = subst (λ (b : Bool). reading_by b (attempts_on oid attempts) unit j index
+      (row_bytes_at policy (kind_of oid) unit piece.row)) strips reads in
+      sym (unit_in_piece policy (kind_of oid) piece.row bytes offset piece.size unit piece.same above below) ∙ read.own one at quiet
+
+  -- so is that of a made one
   pub part_of_made : is_in_strips policy (kind_of oid) ≡ true → (j : ℕ) (made : AttemptRecord)
       → slice_get (attempts_on oid attempts) j ≡ Some made → covers_unit unit made ≡ true → is_made made ≡ true
       → AddNothingAfter (attempts_on oid attempts) unit j made
@@ -260,7 +280,18 @@ module _ (log : List Entry) (hosts : Hosts) (wire : Wire) (attempts : List Attem
       → piece_at bytes (part_size policy (kind_of oid) (unit_start (kind_of oid) unit) - part_size policy (kind_of oid) offset)
       (part_size policy (kind_of oid) (unit_size (kind_of oid) unit))
       ≡ unit_part_by index unit made.work
-  part_of_made strips j made at covers is quiet above below =
-      let read = subst (λ (b : Bool). reading_by b (attempts_on oid attempts) unit j index
-      (row_bytes_at policy (kind_of oid) unit piece.row)) strips (reads_as j made at is covers) in
-      sym (unit_in_piece policy (kind_of oid) piece.row bytes offset piece.size unit piece.same above below) ∙ read.own made at quiet
+  part_of_made strips j made at covers is = part_read strips j made at (reads_as j made at is covers)
+
+  -- and of one that isn't doomed, where what flies on the object is of earlier epochs
+  pub part_of_standing : ((j : ℕ) (attempt : AttemptRecord) → slice_get attempts j ≡ Some attempt → object_of attempt ≡ oid → (place : ℕ)
+      (node : NodeId) → HasPacket wire attempt place node → attempt.epoch < epoch) → is_in_strips policy (kind_of oid) ≡ true → (j : ℕ)
+      (one : AttemptRecord) → slice_get (attempts_on oid attempts) j ≡ Some one → covers_unit unit one ≡ true
+      → is_doomed hosts one ≡ false → AddNothingAfter (attempts_on oid attempts) unit j one
+      → part_size policy (kind_of oid) offset ≤ part_size policy (kind_of oid) (unit_start (kind_of oid) unit)
+      → part_size policy (kind_of oid) (unit_start (kind_of oid) unit) + part_size policy (kind_of oid) (unit_size (kind_of oid) unit)
+      ≤ part_size policy (kind_of oid) offset + length bytes
+      → piece_at bytes (part_size policy (kind_of oid) (unit_start (kind_of oid) unit) - part_size policy (kind_of oid) offset)
+      (part_size policy (kind_of oid) (unit_size (kind_of oid) unit))
+      ≡ unit_part_by index unit one.work
+  part_of_standing flying strips j one at covers stands_still =
+      part_read strips j one at (standing_reads flying j one at stands_still covers)

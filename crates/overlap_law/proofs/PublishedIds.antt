@@ -4,13 +4,10 @@ use Rattle.std.proofs.Common.{Ok, Err, is_some, refl, sym, ap, ◌∙◌}
 use Rattle.std.proofs.lemmas.Bool.{eqb-true, eq-eqb}
 use Rattle.proof_tools.proofs.Booleans.{cond_either}
 use Rattle.object_id.specs.declared.cause.Cause.{Cause}
-use Rattle.object_id.specs.declared.cause.Cause.TheVariants as causes
 use Rattle.object_id.specs.declared.entry.Entry.{Entry}
 use Rattle.object_id.specs.declared.entry.Entry.TheVariants.{Format, Join, Leave, Reweight, Recovered, Reserve, Publish, Clone, Snapshot}
 use Rattle.object_id.specs.declared.entry.Entry.TheVariants.{Delete, Lock, Unlock}
 use Rattle.object_id.specs.declared.entry.Origin.{Origin}
-use Rattle.object_id.specs.declared.entry.Origin.TheVariants.{Fresh, SnapshotOf, CloneOf}
-use Rattle.object_id.specs.declared.entry.VdiSpec.{VdiSpec}
 use Rattle.object_id.specs.declared.node.NodeId.{NodeId}
 use Rattle.object_id.specs.declared.oid.Vid.{Vid}
 use Rattle.disk_lock.specs.declared.holder.Holder.{Holder}
@@ -20,25 +17,21 @@ use Rattle.vdi_directory.specs.declared.effect.Effect.TheVariants as effects
 use Rattle.vdi_directory.specs.declared.effect.Grant.{Grant}
 use Rattle.vdi_directory.specs.declared.effect.Reservation.{Reservation}
 use Rattle.vdi_directory.specs.declared.effect.Source.{Source}
-use Rattle.vdi_directory.specs.declared.effect.Source.TheVariants as sources
-use Rattle.vdi_directory.specs.declared.header.Header.{Header}
-use Rattle.vdi_directory.specs.Decisions.{nothing, silent_outcome, grant_outcome, refusal_outcome, is_held_by, is_reserved_by, is_taken}
-use Rattle.vdi_directory.specs.Decisions.{grant_of, or_full, reservation_outcome, with_spec, held_disk, reserved_snapshot, reserved_clone}
+use Rattle.vdi_directory.specs.Decisions.{nothing, silent_outcome, grant_outcome, is_held_by, is_reserved_by}
 use Rattle.vdi_directory.specs.Decisions.{reserve_outcome, publication, replacement, snapshot_outcome, deletion, target, lock, release}
 use Rattle.vdi_directory.specs.Decisions.{outcome, log_effects}
-use Rattle.vdi_directory.specs.Effects.{is_used, header_of, name_of, reservations_of, reservation_on, holder_of}
-use Rattle.vdi_directory.specs.Names.{snapshot_with_tag, is_live_name}
+use Rattle.vdi_directory.specs.Effects.{reservations_of, reservation_on, holder_of}
 use Rattle.vdi_directory.specs.Sources.{is_for, tag_for}
 use Rattle.vdi_directory.specs.Sound.{IsLawful}
 use Rattle.vdi_directory.specs.States.{VdiState, freed_state, state_after_leave, state_after, state_of, is_live_state}
 use Rattle.vdi_directory.specs.States as states
-use Rattle.vdi_directory.specs.Vids.{free_id}
 use Rattle.vdi_directory.proofs.LawfulEntries.{in-find, lawful-outcome, sound-log_effects}
 use Rattle.vdi_directory.proofs.SoundEffects.{state_of-push}
 use Rattle.vdi_directory.proofs.StateLemmas.{log_effects-push}
 use Rattle.overlap_law.specs.Drafts.{published_by}
 use Rattle.overlap_law.specs.Grants.{gives, publishes}
 use Rattle.overlap_law.specs.LastReads.{snaps}
+use Rattle.overlap_law.proofs.ClosedReservations.{reserves_so}
 use Rattle.overlap_law.proofs.ClosedSnapshots.{snaps-working}
 
 -- ---- what is passed by publications and snapshots alone
@@ -55,41 +48,10 @@ module _ (before : List Effect) (passes : Effect → Bool) (plain : IsPlain pass
   abbrev PassesNot : Outcome → Type 0
   PassesNot made = passes made.effect ≡ false
 
-  module _ (by : NodeId) (session : ℕ) (name : List ℕ) where
-    free_not : (source : Source) (parent : Option Vid) (spec : VdiSpec) (free : Option ℕ)
-        → PassesNot (or_full free (grant_of before by session name source parent spec))
-    free_not source parent spec None = plain.none
-    free_not source parent spec (Some id) = plain.reserved _
-
-    spec_not : (source : Source) (parent : Option Vid) (header : Option Header)
-        → PassesNot (with_spec header (reservation_outcome before by session name source parent))
-    spec_not source parent None = plain.none
-    spec_not source parent (Some header) = free_not source parent header.spec (free_id name (is_used before))
-
-    snapshot_not : (tag : List ℕ) (old : Option Vid) → PassesNot (reserved_snapshot before by session name tag old)
-    snapshot_not tag None = plain.none
-    snapshot_not tag (Some old) =
-        cond_either PassesNot (is_some (snapshot_with_tag tag (name_of before name))) (refusal_outcome causes.VdiExist)
-        (with_spec (header_of before old.0) (reservation_outcome before by session name (sources.Snapshot old tag) (Some old)))
-        plain.none (spec_not (sources.Snapshot old tag) (Some old) (header_of before old.0))
-
-    clone_not : (base : Option Vid) → PassesNot (reserved_clone before by session name base)
-    clone_not None = plain.none
-    clone_not (Some base) =
-        cond_either PassesNot (is_taken before name) (refusal_outcome causes.VdiExist)
-        (with_spec (header_of before base.0) (reservation_outcome before by session name sources.Clone (Some base)))
-        plain.none (spec_not sources.Clone (Some base) (header_of before base.0))
-
-    reserve_not : (origin : Origin) → PassesNot (reserve_outcome before by session name origin)
-    reserve_not (Fresh spec) =
-        cond_either PassesNot (is_taken before name) (refusal_outcome causes.VdiExist)
-        (reservation_outcome before by session name sources.Fresh None spec)
-        plain.none (free_not sources.Fresh None spec (free_id name (is_used before)))
-    reserve_not (SnapshotOf tag) = snapshot_not tag (held_disk before by session (name_of before name).working)
-    reserve_not (CloneOf base tag) =
-        cond_either PassesNot (is_live_name (name_of before base))
-        (reserved_clone before by session name (snapshot_with_tag tag (name_of before base)))
-        (refusal_outcome causes.NoBaseVdi) (clone_not (snapshot_with_tag tag (name_of before base))) plain.none
+  reserve_not : (by : NodeId) (session : ℕ) (name : List ℕ) (origin : Origin)
+      → PassesNot (reserve_outcome before by session name origin)
+  reserve_not by session name =
+      reserves_so before by session name PassesNot (λ cause is. plain.none) plain.none (λ source parent spec id. plain.reserved _)
 
   deletion_not : (name : List ℕ) (of : Result Vid Cause) → PassesNot (deletion name of)
   deletion_not name (Err cause) = plain.none

@@ -1,17 +1,12 @@
 -- A command that waits for the publication of an id waited for it before a change of its node, or the work was done just now by which it
 -- makes the id's inode.
-use Rattle.std.proofs.Common.{◌≡◌, ◌⊎◌, inl, inr, ℕ, true, false, List, Option, Some, None, option_map, refl, sym, ap, subst}
+use Rattle.std.proofs.Common.{◌≡◌, ◌⊎◌, inl, inr, ℕ, true, false, List, Option, Some, None, refl, sym, ap, subst}
 use Rattle.std.proofs.Common.{◌∙◌}
-use Rattle.std.specs.Option.{option_and_then}
 use Rattle.std.specs.FinMap as tree
 use Rattle.std.proofs.lemmas.Option.{same_Some}
 use Rattle.object_id.specs.declared.entry.Entry.{Entry}
-use Rattle.object_id.specs.declared.entry.Entry.TheVariants as entries
-use Rattle.object_id.specs.declared.entry.Origin.TheVariants.{Fresh, SnapshotOf, CloneOf}
-use Rattle.object_id.specs.declared.node.NodeId.{NodeId}
 use Rattle.object_id.specs.declared.oid.Vid.{Vid}
 use Rattle.inode.specs.Layout.{Content}
-use Rattle.peer_proto.specs.declared.guest.VdiAsk.{VdiAsk}
 use Rattle.peer_service.specs.State.{effects_of}
 use Rattle.peer_service.specs.LogReading.{decision_on}
 use Rattle.gateway.specs.declared.message.Status.{Status}
@@ -19,17 +14,10 @@ use Rattle.gateway.specs.Attempt as gateways
 use Rattle.gateway.specs.State.{Work}
 use Rattle.guest_driver.specs.Driver as drivers
 use Rattle.disk_check.specs.Check.{begin_check}
-use Rattle.vdi_directory.specs.declared.decision.Decision.{Decision}
-use Rattle.vdi_directory.specs.declared.decision.Decision.TheVariants as decisions
-use Rattle.vdi_directory.specs.declared.effect.Effect.{Effect}
-use Rattle.vdi_directory.specs.declared.header.Header.{Header}
-use Rattle.vdi_directory.specs.Chains.{chain_of}
-use Rattle.vdi_directory.specs.Effects.{header_of}
-use Rattle.vdi_ops.specs.Entries.{first_entry}
 use Rattle.vdi_ops.specs.Op.{Op, OpStep, OpStage, Asked, Working, Publishing, Answered, Task, Opening, WritingBack, Tagging, Copying}
 use Rattle.vdi_ops.specs.Op.{Making}
-use Rattle.vdi_ops.specs.Steps.{first_step, begin_command, tag_step, copy_step, step_after_grant, step_after_decision, done_at, task_done}
-use Rattle.vdi_ops.specs.Steps.{decided_at, op_on_done, on_decision}
+use Rattle.vdi_ops.specs.Steps.{done_at, task_done}
+use Rattle.vdi_ops.specs.Steps.{op_on_done}
 use Rattle.sheep_node.specs.declared.course.Course.{Course}
 use Rattle.sheep_node.specs.declared.course.Request.{Request}
 use Rattle.sheep_node.specs.declared.course.Course.TheVariants.{Waiting, Driving, Commanding, Checking, DoingWork, AwaitingDecision}
@@ -43,6 +31,7 @@ use Rattle.sheep_node.specs.Changes.{CheckGoesOn, ObjectBegins, ObjectIsDone, En
 use Rattle.sheep_node.specs.Changes.{Change}
 use Rattle.sheep_node.proofs.OneWorkParts.{Requests}
 use Rattle.overlap_law.specs.Drafts.{published_by}
+use Rattle.overlap_law.proofs.ClosedFirstStages.{HoldsAtFirst, begins_so, decided_so}
 use Rattle.overlap_law.proofs.RequestWalk.{IsWhereThere, put_there, change_there}
 
 -- ---- what a command publishes
@@ -62,77 +51,19 @@ published_in_course (Checking check) = None
 published_in_course (DoingWork work) = None
 published_in_course (AwaitingDecision entry) = None
 
--- by a step, if there is one
-abbrev published_by_step : Option OpStep → Option Vid
-published_by_step None = None
-published_by_step (Some step) = published_at step.op.stage
+-- none as it begins, and as its first entry is decided
+abbrev PublishesNone : OpStage → Type 0
+PublishesNone stage = published_at stage ≡ None
 
-step_of : (o : Option OpStep) (step : OpStep) → o ≡ Some step → published_by_step o ≡ None → published_at step.op.stage ≡ None
-step_of o step is none = ap published_by_step (sym is) ∙ none
-
-begins_none : (by : NodeId) (session : ℕ) (ask : VdiAsk) (disk : Option Content) (step : OpStep)
-    → begin_command by session ask disk ≡ Some step
-    → published_at step.op.stage ≡ None
-unfolding begin_command
-begins_none by session ask disk step is = by_entry (first_entry by session disk ask) is
-  where
-    by_entry : (o : Option Entry) → option_map (first_step by session) o ≡ Some step → published_at step.op.stage ≡ None
-    by_entry None is = absurd (cc (is))
-    by_entry (Some entry) is = step_of (Some (first_step by session entry)) step is refl
-
--- ---- what is decided
-
-module _ (op : Op) where
-  tagged_none : (vid : Vid) (tag : List ℕ) (header : Header) (disk : Option Content)
-      → published_by_step (option_map (tag_step op vid tag header) disk) ≡ None
-  tagged_none vid tag header None = refl
-  tagged_none vid tag header (Some old) = refl
-
-  copied_none : (vid : Vid) (chain : List ℕ) (header : Header) (parent : Option Vid)
-      → published_by_step (option_map (copy_step op vid chain header) parent) ≡ None
-  copied_none vid chain header None = refl
-  copied_none vid chain header (Some parent) = refl
-
-  granted_none : (vid : Vid) (chain : List ℕ) (disk : Option Content) (entry : Entry) (header : Header)
-      → published_by_step (step_after_grant op vid chain disk entry header) ≡ None
-  granted_none vid chain disk (entries.Format members) header = refl
-  granted_none vid chain disk (entries.Join node zone vnodes) header = refl
-  granted_none vid chain disk (entries.Leave node) header = refl
-  granted_none vid chain disk (entries.Reweight node vnodes) header = refl
-  granted_none vid chain disk (entries.Recovered node epoch) header = refl
-  granted_none vid chain disk (entries.Reserve by session name (Fresh spec)) header = refl
-  granted_none vid chain disk (entries.Reserve by session name (SnapshotOf tag)) header = tagged_none vid tag header disk
-  granted_none vid chain disk (entries.Reserve by session name (CloneOf base tag)) header = copied_none vid chain header header.parent
-  granted_none vid chain disk (entries.Publish by of) header = refl
-  granted_none vid chain disk (entries.Clone by of) header = refl
-  granted_none vid chain disk (entries.Snapshot by old of) header = refl
-  granted_none vid chain disk (entries.Delete by session name tag) header = refl
-  granted_none vid chain disk (entries.Lock by session name tag) header = refl
-  granted_none vid chain disk (entries.Unlock by session of) header = refl
-
-  decided_none : (known : List Effect) (disk : Option Content) (entry : Entry) (decision : Decision)
-      → published_by_step (step_after_decision known disk op entry decision) ≡ None
-  decided_none known disk entry decisions.None = refl
-  decided_none known disk entry (decisions.Granted vid) = by_header (header_of known vid.0)
-    where
-      by_header : (o : Option Header)
-          → published_by_step (option_and_then (step_after_grant op vid (chain_of known vid.0) disk entry) o) ≡ None
-      by_header None = refl
-      by_header (Some header) = granted_none vid (chain_of known vid.0) disk entry header
-  decided_none known disk entry (decisions.Refused cause) = refl
-
-  stage_none : (known : List Effect) (disk : Option Content) (decision : Decision) (stage : OpStage)
-      → published_by_step (decided_at known disk decision op stage) ≡ None
-  stage_none known disk decision (Asked entry) = decided_none known disk entry decision
-  stage_none known disk decision (Working vid task) = refl
-  stage_none known disk decision (Publishing entry made) = refl
-  stage_none known disk decision (Answered change) = refl
-
-  on_decision-none : (known : List Effect) (disk : Option Content) (decision : Decision) (step : OpStep)
-      → on_decision known disk decision op ≡ Some step → published_at step.op.stage ≡ None
-  unfolding on_decision
-  on_decision-none known disk decision step is = step_of (decided_at known disk decision op op.stage) step is
-      (stage_none known disk decision op.stage)
+none_at_first : HoldsAtFirst (λ (stage : OpStage). published_at stage ≡ None)
+none_at_first = record {
+  stays = refl;
+  closes = refl;
+  opening = λ vid snapshot ids header. refl;
+  tagging = λ vid old inode. refl;
+  copying = λ vid ids header. refl;
+  making = λ vid by. refl;
+}
 
 -- ---- what is done
 
@@ -222,7 +153,7 @@ module _ (q : ℕ) (vid : Vid) (input : Input) (node : Node) where
       put_none so_far session req (Driving step.driver) refl
   steps_from so_far session req next moved (CommandBegins ask step arrival is) =
       put_none so_far session req (Commanding step.op)
-      (begins_none so_far.node.me session ask (inode_open (session_in session so_far).disk) step is)
+      (begins_so PublishesNone (λ entry. refl) so_far.node.me session ask (inode_open (session_in session so_far).disk) step is)
   steps_from so_far session req next moved (CommandGoesOn number work attempt status bytes op step ends is) =
       put_from so_far so_far.node.requests session req (Commanding step.op)
       (λ own says. inr (record {
@@ -238,7 +169,8 @@ module _ (q : ℕ) (vid : Vid) (input : Input) (node : Node) where
       })) (from_itself so_far)
   steps_from so_far session req next moved (CommandDecided entry op step from read there waits is) =
       put_none so_far session req (Commanding step.op)
-      (on_decision-none op (effects_of so_far.node.peer) (inode_open (session_in session so_far).disk) (decision_on entry node.peer) step
+      (decided_so PublishesNone none_at_first op (λ inode. refl) (effects_of so_far.node.peer)
+      (inode_open (session_in session so_far).disk) (decision_on entry node.peer) step
       is)
   steps_from so_far session req next moved (CheckBegins inode arrival on) = put_none so_far session req
       (Checking (begin_check inode).check) refl
@@ -251,4 +183,5 @@ module _ (q : ℕ) (vid : Vid) (input : Input) (node : Node) where
 
   pub publication_from : (so_far next : StepState) → Change input node so_far next → From so_far next
   publication_from so_far =
-      change_there q (IsFrom so_far) so_far (steps_from so_far) (λ session req ask arrival own says. absurd (cc (says))) (from_itself so_far)
+      change_there q (IsFrom so_far) so_far (steps_from so_far) (λ session req ask arrival own says. absurd (cc (says)))
+      (from_itself so_far)

@@ -1,19 +1,16 @@
--- In each world of a run in range, and at each moment on the way of its events, the queues and lines of a node's sessions go with its requests
--- and works.
-use Rattle.std.proofs.Common.{◌≡◌, ◌≢◌, ⊎_elim, arith, ℕ, true, List, [], Some, subst}
+-- In each world of a run in range, and at each moment on the way of its events, the queues and lines of a node's sessions go with its
+-- requests and works.
+use Rattle.std.proofs.Common.{◌≡◌, arith, ℕ, true, List, [], Some}
 use Rattle.std.specs.FinMap as tree
 use Rattle.std.proofs.lemmas.Bool.{le-leb}
 use Rattle.proof_tools.proofs.Booleans.{cond_either}
-use Rattle.proof_tools.proofs.FiniteMaps.{get-insert_cases}
 use Rattle.object_id.specs.declared.entry.Entry.{Entry}
 use Rattle.cluster_script.specs.declared.statement.Statement.{Statement}
 use Rattle.cluster_script.specs.Settings.{tries_of}
 use Rattle.peer_proto.specs.declared.ask.PeerReq.{PeerReq}
-use Rattle.sheep_node.specs.declared.event.Event.{Event}
 use Rattle.sheep_node.specs.declared.input.Input.{Input}
 use Rattle.sheep_node.specs.declared.input.Input.TheVariants as inputs
 use Rattle.sheep_node.specs.declared.limits.TheConstants.{SENDS_MAX}
-use Rattle.sheep_node.specs.Changes as changes
 use Rattle.sheep_node.specs.Changes.{IsSoundStep, input_received, Leads}
 use Rattle.sheep_node.specs.LogReading.{on_back}
 use Rattle.sheep_node.specs.OpenLines.{LinesAreOpen, HasOpenLines}
@@ -30,27 +27,26 @@ use Rattle.sheep_node.proofs.ReceivedInputs.{received_keeps}
 use Rattle.sheep_node.proofs.SoleCommands.{commands_alone_at_opening}
 use Rattle.sheep_node.proofs.StepChain.{kept_by_chain, step_chain}
 use Rattle.sheep_world.specs.Began.{Began}
-use Rattle.sheep_world.specs.EventKinds.{log_after_return, outcome_of_step}
+use Rattle.sheep_world.specs.EventKinds.{log_after_return}
 use Rattle.sheep_world.specs.HostChanges.{HostsKeep}
-use Rattle.sheep_world.specs.NodeCauses.{NodeCause, GuestAsks, RequestComes, ReplyComes, LossIsTold, EntryIsRead, EntryIsPut, RecoveryTicks, WorkIsRetried, input_of_cause, event_of_cause, IsCause, host_with_node, world_after_cause}
+use Rattle.sheep_world.specs.NodeCauses.{NodeCause, GuestAsks, RequestComes, ReplyComes, LossIsTold, EntryIsRead, EntryIsPut, RecoveryTicks}
+use Rattle.sheep_world.specs.NodeCauses.{WorkIsRetried, input_of_cause, IsCause}
 use Rattle.sheep_world.specs.Opening.{format_entry, initial_world}
-use Rattle.sheep_world.specs.Step.{EventOutcome, step}
 use Rattle.sheep_world.specs.World.{Host, World, is_host_up}
-use Rattle.sheep_world.proofs.BegunWorlds.{each_where, goes_on}
+use Rattle.sheep_world.proofs.BegunWorlds.{each_where}
 use Rattle.sheep_world.proofs.LogAtOpening.{opens_log}
 use Rattle.sheep_world.proofs.StepsByCause.{IsReady, sound_step}
 use Rattle.sheep_world.proofs.ValidNodes.{first_may}
 use Rattle.sheep_world.proofs.WireAtEvents.{is_ready}
-use Rattle.overlap_law.specs.MomentChanges as moments
 use Rattle.overlap_law.specs.MomentChanges.{MomentChange, RunsAreInRange}
 use Rattle.overlap_law.specs.Past.{MomentWithPast}
 use Rattle.overlap_law.specs.Reached.{Hosts}
-use Rattle.overlap_law.specs.StepMoments.{SteppingNode, IsStepping, StepsByChanges, first_in_step, LeadsInStep, hosts_in_step}
 use Rattle.overlap_law.proofs.CausedWorks.{IsNotServed, by_changes, caused_may}
 use Rattle.overlap_law.proofs.CoveredCourses.{AreCovered, CoveredSoFar, none_covered, covered_in_chain}
 use Rattle.overlap_law.proofs.KnownSteps.{together}
 use Rattle.overlap_law.proofs.QueueOnce.{AreOnceIn, once_so_far}
 use Rattle.overlap_law.proofs.RoomOfSessions.{HasSoundGuests, guests_sound}
+use Rattle.overlap_law.proofs.ClosedWorlds.{hosts_after}
 
 -- a node's queues have its reads and writes, each once, and cover what they haven't come to; and its lines go with its works
 pub record HasGoodQueues (node : Node) : Type 0 where
@@ -92,15 +88,18 @@ back_covered entries node = due_covered (with_node (on_back entries node) (at_fi
 module _ (script : List Statement) (range : RunsAreInRange script) where
   -- ---- a step
 
-  module _ (world : World) (began : Began script world) (n : ℕ) (host : Host) (there : tree.get world.hosts n ≡ Some host) (up : is_host_up host ≡ true) where
+  module _ (world : World) (began : Began script world) (n : ℕ) (host : Host) (there : tree.get world.hosts n ≡ Some host)
+      (up : is_host_up host ≡ true) where
     ready : IsReady script world n host
     ready = is_ready script world (together script range world began) n host there up
 
     guests : HasSoundGuests host.node
     guests = guests_sound script range world began n host there
 
-    module _ (cause : NodeCause) (not : IsNotServed cause) (so : IsCause script world n host cause) (covered : AreCovered host.node.requests host.node.sessions)
-        (so_far : StepState) (leads : Leads (input_of_cause cause) host.node (input_received (input_of_cause cause) (at_first host.node)) so_far) where
+    module _ (cause : NodeCause) (not : IsNotServed cause) (so : IsCause script world n host cause)
+        (covered : AreCovered host.node.requests host.node.sessions)
+        (so_far : StepState) (leads : Leads (input_of_cause cause) host.node (input_received (input_of_cause cause) (at_first host.node))
+        so_far) where
       covered_then : CoveredSoFar so_far
       covered_then =
           covered_in_chain (input_of_cause cause) host.node (caused_may script range world began n host there up cause not so)
@@ -142,9 +141,12 @@ module _ (script : List Statement) (range : RunsAreInRange script) where
         let new = nodes.initial_node member.node (tries_of script) in
         let input = inputs.LogEntry (format_entry script) in
         covered_in_chain input new
-        (record { numbers = le-leb 0 SENDS_MAX (omega arith); condition = first_may (format_entry script) [] (opens_log script range.is_script).log })
-        (tt, one_work_at_opening member.node (tries_of script)) none_queued (commands_alone_at_opening member.node (tries_of script)) none_covered _
-        (step_chain input new);
+        (record {
+          numbers = le-leb 0 SENDS_MAX (omega arith);
+          condition = first_may (format_entry script) [] (opens_log script range.is_script).log;
+        })
+        (tt, one_work_at_opening member.node (tries_of script)) none_queued (commands_alone_at_opening member.node (tries_of script))
+        none_covered _ (step_chain input new);
     stays = λ event world made h began n host so. so;
     steps = λ world n host cause began there up caused so. step_covered world began n host there up cause caused so;
     fails = λ world n host began so. so;
@@ -155,8 +157,8 @@ module _ (script : List Statement) (range : RunsAreInRange script) where
   pub covered_in_world : (world : World) → Began script world → (n : ℕ) (host : Host) → tree.get world.hosts n ≡ Some host
       → AreCovered host.node.requests host.node.sessions
   covered_in_world =
-      each_where script (Began script) (λ (world : World) (n : ℕ) (host : Host). AreCovered host.node.requests host.node.sessions) (λ world began. began)
-      covered_kept
+      each_where script (Began script) (λ (world : World) (n : ℕ) (host : Host). AreCovered host.node.requests host.node.sessions)
+      (λ world began. began) covered_kept
 
   pub queues_in_world : (world : World) → Began script world → HaveGoodQueues world.hosts
   queues_in_world world began n host there =
@@ -166,31 +168,9 @@ module _ (script : List Statement) (range : RunsAreInRange script) where
   -- ---- along trails
 
   module _ (start : MomentWithPast) (began : Began script start.world) where
-    in_step : (stepping : SteppingNode) → IsStepping script start.world stepping → StepsByChanges stepping.cause → (so_far : StepState)
-        → LeadsInStep stepping (first_in_step stepping) so_far → HaveGoodQueues (hosts_in_step stepping start.world so_far)
-    in_step stepping is by so_far leads q other at = ⊎_elim
-        (λ (own : (q ≡ stepping.n) × (host_with_node stepping.host so_far.node ≡ other)).
-        subst (λ (h : Host). HasGoodQueues h.node) own.1
-        (queues_then start.world began stepping.n stepping.host is.there is.up stepping.cause (by_changes stepping.cause by) is.caused
-        (covered_in_world start.world began stepping.n stepping.host is.there) so_far leads))
-        (λ (apart : (q ≢ stepping.n) × (tree.get start.world.hosts q ≡ Some other)). queues_in_world start.world began q other apart.1)
-        (get-insert_cases start.world.hosts stepping.n (host_with_node stepping.host so_far.node) q other at)
-
-    at_end : (event : Event) (made : EventOutcome) → step script event start.world ≡ Some made → HaveGoodQueues made.world.hosts
-    at_end event made happened = queues_in_world made.world (goes_on script event start.world made began happened)
-
     pub queues_after : {before after : MomentWithPast} → MomentChange script start before after → HaveGoodQueues after.world.hosts
-    queues_after (moments.StepBegins stepping is by) = in_step stepping is by (first_in_step stepping) changes.Still
-    queues_after (moments.StepGoesOn stepping so_far next is by within) = in_step stepping is by next (changes.Then within.leads within.change)
-    queues_after (moments.StepIsMade stepping is by) =
-        queues_in_world (world_after_cause script stepping.n stepping.host stepping.cause start.world)
-        (goes_on script (event_of_cause stepping.n stepping.cause) start.world
-        (outcome_of_step script stepping.n stepping.host stepping.cause start.world) began is.made)
-    queues_after (moments.LossIsUntold event made happened h) = at_end event made happened
-    queues_after (moments.DeliveryIsUnread event made happened h) = at_end event made happened
-    queues_after (moments.NodeIsLost event made happened h) = at_end event made happened
-    queues_after (moments.NodeLeaves event made happened h) = at_end event made happened
-    queues_after (moments.NodeIsReweighted event made happened h) = at_end event made happened
-    queues_after (moments.NodeJoins event made happened h) = at_end event made happened
-    queues_after (moments.NodeComesBack event made happened h) = at_end event made happened
-    queues_after (moments.PhaseEnds event made happened h) = at_end event made happened
+    queues_after change =
+        hosts_after script (λ (n : ℕ) (host : Host). HasGoodQueues host.node) queues_in_world start began
+        (λ stepping is by so_far leads.
+        queues_then start.world began stepping.n stepping.host is.there is.up stepping.cause (by_changes stepping.cause by) is.caused
+        (covered_in_world start.world began stepping.n stepping.host is.there) so_far leads) change

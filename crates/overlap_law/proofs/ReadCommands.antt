@@ -4,7 +4,8 @@ use Rattle.std.proofs.Common.{◌≡◌, arith, ℕ, ◌+◌, ◌≤◌, true, f
 use Rattle.std.proofs.Common.{refl, sym, ap, subst, ◌∙◌}
 use Rattle.std.proofs.lemmas.List.Elements.{All-head, All-weaker}
 use Rattle.object_id.specs.declared.entry.Entry.{Entry}
-use Rattle.object_id.specs.declared.entry.Entry.TheVariants.{Format, Join, Leave, Reweight, Recovered, Reserve, Publish, Clone, Snapshot, Delete, Lock, Unlock}
+use Rattle.object_id.specs.declared.entry.Entry.TheVariants.{Format, Join, Leave, Reweight, Recovered, Reserve, Publish, Clone, Snapshot}
+use Rattle.object_id.specs.declared.entry.Entry.TheVariants.{Delete, Lock, Unlock}
 use Rattle.object_id.specs.declared.entry.Origin.TheVariants.{Fresh, SnapshotOf, CloneOf}
 use Rattle.object_id.specs.declared.entry.VdiSpec.{VdiSpec}
 use Rattle.object_id.specs.declared.limits.TheConstants.{OBJECTS_MAX}
@@ -25,17 +26,19 @@ use Rattle.vdi_directory.specs.Effects.{header_of}
 use Rattle.vdi_directory.specs.References.{header_parent, parent_of}
 use Rattle.guest_driver.specs.declared.disk.Disk.{Disk}
 use Rattle.guest_driver.proofs.ExtentLemmas.{objects_most}
-use Rattle.vdi_ops.specs.Entries.{first_entry}
 use Rattle.vdi_ops.specs.InodeWorks.{written_bytes, read_inode}
 use Rattle.vdi_ops.specs.Tables.{table_in, inode_by}
-use Rattle.vdi_ops.specs.Op.{Task, Opening, WritingBack, Tagging, Copying, Making, DiskChange, Stays, Opens, Closes, OpStage, Asked, Working, Publishing, Answered, disk_change_at, Op, OpStep}
-use Rattle.vdi_ops.specs.Steps.{first_step, begin_command, tag_step, copy_step, change_without_grant, step_after_grant, step_after_decision, decided_at, on_decision, task_done, done_at, op_on_done}
+use Rattle.vdi_ops.specs.Op.{Task, Opening, WritingBack, Tagging, Copying, Making, DiskChange, Stays, Opens, Closes, OpStage, Asked}
+use Rattle.vdi_ops.specs.Op.{Working, Publishing, Answered, disk_change_at, Op, OpStep}
+use Rattle.vdi_ops.specs.Steps.{begin_command, tag_step, copy_step, change_without_grant, step_after_grant, step_after_decision, decided_at}
+use Rattle.vdi_ops.specs.Steps.{on_decision, task_done, done_at, op_on_done}
 use Rattle.vdi_ops.proofs.TableLemmas.{table_length}
 use Rattle.sheep_node.specs.declared.course.Course.{Course}
 use Rattle.sheep_node.specs.declared.course.Course.TheVariants as courses
 use Rattle.sheep_node.specs.Changes.{outcome_of_command}
 use Rattle.sheep_node.specs.Courses.{disk_after}
 use Rattle.sheep_node.proofs.ValidSteps.{given}
+use Rattle.overlap_law.proofs.ClosedFirstStages.{begins_first}
 use Rattle.overlap_law.proofs.ChainTables.{IsInChain, IsOtherId, HasChainTable, HasNoOwn, above_then, chain_other, own_chain}
 use Rattle.overlap_law.proofs.ChainTables.{in_chain_grows, table_grows, HasChains, taken_over, taken_no_own}
 use Rattle.overlap_law.proofs.KnownDisks.{IsKnownDisk, IsKnownInode, vid-of_inode, kind-of_inode}
@@ -131,12 +134,9 @@ module _ (known : List Effect) where
 
   pub command_begins-inside : (by : NodeId) (session : ℕ) (ask : VdiAsk) (disk : Option Content) (step : OpStep)
       → begin_command by session ask disk ≡ Some step → IsReadCommandStep step
-  unfolding begin_command
-  command_begins-inside by session ask disk step is = by_entry (first_entry by session disk ask) is
-    where
-      by_entry : (entry : Option Entry) → option_map (first_step by session) entry ≡ Some step → IsReadCommandStep step
-      by_entry None is = absurd (cc (is))
-      by_entry (Some entry) is = given IsReadCommandStep is (record { stage = tt; outcome = tt })
+  command_begins-inside by session ask disk step is =
+      let (entry, same) = begins_first by session ask disk step is in
+      subst IsReadCommandStep same (record { stage = tt; outcome = tt })
 
   -- a table that was read keeps none but these entries
   table_read : (vid : ℕ) (header : Header) (ids bytes : List ℕ) → All (IsInChain known vid) ids

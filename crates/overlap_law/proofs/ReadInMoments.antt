@@ -1,6 +1,7 @@
--- In each moment on the way of an event a node has read the first entries of the log, and is in the epoch of those; and its recovery is of the
--- members that the log has of its epoch.
-use Rattle.std.proofs.Common.{◌≡◌, ◌≢◌, ◌⊎◌, inl, inr, ⊎_elim, arith, ℕ, ◌+◌, ◌≤◌, ◌<◌, Bool, true, false, ◌||◌, List, [], ◌∷◌, filter, length, Some, refl, sym, ap, subst, ◌∙◌}
+-- In each moment on the way of an event a node has read the first entries of the log, and is in the epoch of those; and its recovery is of
+-- the members that the log has of its epoch.
+use Rattle.std.proofs.Common.{◌≡◌, ◌≢◌, ◌⊎◌, inl, inr, ⊎_elim, arith, ℕ, ◌+◌, ◌≤◌, ◌<◌, Bool, true, false, ◌||◌, List, [], ◌∷◌, filter}
+use Rattle.std.proofs.Common.{length, Some, refl, sym, ap, subst, ◌∙◌}
 use Rattle.std.specs.FinMap as tree
 use Rattle.std.proofs.lemmas.Bool.{cases_lt}
 use Rattle.proof_tools.proofs.FiniteMaps.{get-insert_same, get-insert_other, get-insert_cases}
@@ -13,13 +14,10 @@ use Rattle.epoch_log.proofs.EpochLemmas.{epoch_of-append, members_in-append}
 use Rattle.object_list.specs.Gathered.{has_node}
 use Rattle.cluster_script.specs.declared.statement.Statement.{Statement}
 use Rattle.peer_service.specs.State.{Peer}
-use Rattle.sheep_node.specs.declared.event.Event.{Event}
 use Rattle.sheep_node.specs.StepState.{StepState}
-use Rattle.sheep_node.specs.Changes as changes
 use Rattle.sheep_node.proofs.StepChain.{step_chain}
 use Rattle.sheep_node.proofs.StepEffects.{Untouched}
 use Rattle.sheep_world.specs.World.{Host, World}
-use Rattle.sheep_world.specs.Step.{EventOutcome, step}
 use Rattle.sheep_world.specs.NodeCauses.{input_of_cause, event_of_cause, host_with_node, world_after_cause}
 use Rattle.sheep_world.specs.EventKinds.{outcome_of_step}
 use Rattle.sheep_world.specs.Began.{Began}
@@ -29,13 +27,13 @@ use Rattle.sheep_world.proofs.LogFrontLaws.{all_read}
 use Rattle.sheep_world.proofs.NodesByTheLog.{by_the_log, knows_its_number}
 use Rattle.overlap_law.specs.Past.{MomentWithPast, first_moment, run_with_past, run_on}
 use Rattle.overlap_law.specs.StepMoments.{SteppingNode, IsStepping, first_in_step, last_in_step, LeadsInStep, hosts_in_step, moment_in_step}
-use Rattle.overlap_law.specs.MomentChanges as moments
 use Rattle.overlap_law.specs.MomentChanges.{MomentChange, RunsAreInRange, KeptByChanges}
 use Rattle.overlap_law.specs.NodeEpochs.{RecoveriesArePresent}
 use Rattle.overlap_law.proofs.NoRecoveredDue.{began-with_past}
 use Rattle.overlap_law.proofs.RecoveryMembers.{nodes_of_members}
 use Rattle.overlap_law.proofs.SendsOfChanges.{in_order_so_far}
 use Rattle.overlap_law.proofs.SoundNodes.{IsSoundNode, sound_in_worlds, sound_after}
+use Rattle.overlap_law.proofs.ClosedWorlds.{world_after}
 
 -- a node of this number has read the first entries of a log, and is in their epoch, with what they settle
 pub record HasReadOf (log : List Entry) (n : ℕ) (me : NodeId) (peer : Peer) : Type 0 where
@@ -84,7 +82,8 @@ recovery_members log n host is other later =
     let entered = recovers.entered in
     ap (has_node other) (recovers.members_so later)
     ∙ node_among other (members_in host.node.peer.entries host.node.recovery.epoch)
-    ∙ ap (members.is_member other.0) (sym (members_of log n host.node.me host.node.peer is.read host.node.recovery.epoch (omega (arith, later, entered)) entered))
+    ∙ ap (members.is_member other.0) (sym (members_of log n host.node.me host.node.peer is.read host.node.recovery.epoch
+    (omega (arith, later, entered)) entered))
 
 -- a node is among them
 pub recovery_own : (log : List Entry) (n : ℕ) (host : Host) → IsSoundHost log n host → 1 < host.node.recovery.epoch
@@ -93,7 +92,8 @@ recovery_own log n host is later =
     let recovers = is.sound.recovers in
     let entered = recovers.entered in
     ap (λ (k : ℕ). members.is_member k (members_in log host.node.recovery.epoch)) (sym is.read.own)
-    ∙ ap (members.is_member host.node.me.0) (members_of log n host.node.me host.node.peer is.read host.node.recovery.epoch (omega (arith, later, entered)) entered)
+    ∙ ap (members.is_member host.node.me.0) (members_of log n host.node.me host.node.peer is.read host.node.recovery.epoch
+    (omega (arith, later, entered)) entered)
     ∙ recovers.own later
 
 -- its recovery is that of its epoch, if it is a member
@@ -106,8 +106,8 @@ recovery_present log n host is =
     (λ (own : host.node.recovery.epoch ≡ host.node.peer.epoch). inl own)
     (λ (out : members.is_member host.node.me.0 (members_in host.node.peer.entries host.node.peer.epoch) ≡ false).
     inr (ap (λ (k : ℕ). members.is_member k (members_in log host.node.peer.epoch)) (sym is.read.own)
-    ∙ ap (members.is_member host.node.me.0) (members_of log n host.node.me host.node.peer is.read host.node.peer.epoch later (omega arith)) ∙ out))
-    recovers.present)
+    ∙ ap (members.is_member host.node.me.0) (members_of log n host.node.me host.node.peer is.read host.node.peer.epoch later (omega arith))
+    ∙ out)) recovers.present)
     (λ (first : host.node.peer.epoch ≤ 1).
     let begun = recovers.begun in
     let entered = recovers.entered in
@@ -138,11 +138,15 @@ module _ (script : List Statement) (range : RunsAreInRange script) where
 
   pub sound_hosts : (moment : MomentWithPast) → Began script moment.world → HostsAreSound moment
   sound_hosts moment began = record {
-    each = λ n host there. record { read = read_in_world moment.world began n host there; sound = sound_in_worlds script range moment.world began n host there };
+    each = λ n host there. record {
+      read = read_in_world moment.world began n host there;
+      sound = sound_in_worlds script range moment.world began n host there;
+    };
   }
 
   module _ (start : MomentWithPast) (began : Began script start.world) where
-    read_in_step : (stepping : SteppingNode) → IsStepping script start.world stepping → (so_far : StepState) → LeadsInStep stepping (first_in_step stepping) so_far
+    read_in_step : (stepping : SteppingNode) → IsStepping script start.world stepping → (so_far : StepState)
+        → LeadsInStep stepping (first_in_step stepping) so_far
         → (n : ℕ) (host : Host) → tree.get (hosts_in_step stepping start.world so_far) n ≡ Some host
         → HasReadOf (moment_in_step script stepping start so_far).world.log n host.node.me host.node.peer
     read_in_step stepping is so_far leads n host there =
@@ -151,10 +155,12 @@ module _ (script : List Statement) (range : RunsAreInRange script) where
         let ended : Began script end = goes_on script (event_of_cause stepping.n stepping.cause) start.world
         (outcome_of_step script stepping.n stepping.host stepping.cause start.world) began is.made in
         let own_so : (last_in_step stepping).node.me ≡ so_far.node.me
-        = ap (λ (u : Untouched). u.me) ((in_order_so_far (last_in_step stepping) (step_chain (input_of_cause stepping.cause) stepping.host.node)).same
+        = ap (λ (u : Untouched). u.me) ((in_order_so_far (last_in_step stepping)
+        (step_chain (input_of_cause stepping.cause) stepping.host.node)).same
         ∙ sym (in_order_so_far so_far leads).same) in
         let peer_so : (last_in_step stepping).node.peer ≡ so_far.node.peer
-        = ap (λ (u : Untouched). u.peer) ((in_order_so_far (last_in_step stepping) (step_chain (input_of_cause stepping.cause) stepping.host.node)).same
+        = ap (λ (u : Untouched). u.peer) ((in_order_so_far (last_in_step stepping)
+        (step_chain (input_of_cause stepping.cause) stepping.host.node)).same
         ∙ sym (in_order_so_far so_far leads).same) in
         ⊎_elim
         (λ (own : (n ≡ stepping.n) × (host_with_node stepping.host so_far.node ≡ host)).
@@ -166,29 +172,19 @@ module _ (script : List Statement) (range : RunsAreInRange script) where
         read_in_world end ended n host (get-insert_other start.world.hosts stepping.n last n other.0 ∙ other.1))
         (get-insert_cases start.world.hosts stepping.n (host_with_node stepping.host so_far.node) n host there)
 
-    read_at_end : (event : Event) (made : EventOutcome) → step script event start.world ≡ Some made → (n : ℕ) (host : Host)
-        → tree.get made.world.hosts n ≡ Some host → HasReadOf made.world.log n host.node.me host.node.peer
-    read_at_end event made happened = read_in_world made.world (goes_on script event start.world made began happened)
-
     read_after : {before after : MomentWithPast} → MomentChange script start before after → (n : ℕ) (host : Host)
         → tree.get after.world.hosts n ≡ Some host → HasReadOf after.world.log n host.node.me host.node.peer
-    read_after (moments.StepBegins stepping is by) n host there = read_in_step stepping is (first_in_step stepping) changes.Still n host there
-    read_after (moments.StepGoesOn stepping so_far next is by within) n host there =
-        read_in_step stepping is next (changes.Then within.leads within.change) n host there
-    read_after (moments.StepIsMade stepping is by) n host there =
-        read_in_step stepping is (last_in_step stepping) (step_chain (input_of_cause stepping.cause) stepping.host.node) n host there
-    read_after (moments.LossIsUntold event made happened h) n host there = read_at_end event made happened n host there
-    read_after (moments.DeliveryIsUnread event made happened h) n host there = read_at_end event made happened n host there
-    read_after (moments.NodeIsLost event made happened h) n host there = read_at_end event made happened n host there
-    read_after (moments.NodeLeaves event made happened h) n host there = read_at_end event made happened n host there
-    read_after (moments.NodeIsReweighted event made happened h) n host there = read_at_end event made happened n host there
-    read_after (moments.NodeJoins event made happened h) n host there = read_at_end event made happened n host there
-    read_after (moments.NodeComesBack event made happened h) n host there = read_at_end event made happened n host there
-    read_after (moments.PhaseEnds event made happened h) n host there = read_at_end event made happened n host there
+    read_after change =
+        world_after script
+        (λ (world : World). (n : ℕ) (host : Host) → tree.get world.hosts n ≡ Some host → HasReadOf world.log n host.node.me host.node.peer)
+        read_in_world start began (λ stepping is by so_far leads. read_in_step stepping is so_far leads) change
 
     pub hosts_after_sound : {before after : MomentWithPast} → MomentChange script start before after → HostsAreSound after
     hosts_after_sound change = record {
-      each = λ n host there. record { read = read_after change n host there; sound = sound_after script range start began change n host there };
+      each = λ n host there. record {
+        read = read_after change n host there;
+        sound = sound_after script range start began change n host there;
+      };
     }
 
   -- before the first event

@@ -1,22 +1,17 @@
 -- In each run in range, where a session's read of whole copies ends in the middle of a step, each unit inside what it read is one that the
 -- object may come to have, if the object was good as the event began, and was created.
-use Rattle.std.proofs.Common.{◌≡◌, arith, ℕ, ◌+◌, ◌-◌, ◌≤◌, ◌<◌, ◌==◌, nat_le, Bool, true, false, List, [], ◌∷◌, length, take, Some}
+use Rattle.std.proofs.Common.{◌≡◌, arith, ℕ, ◌+◌, ◌-◌, ◌≤◌, ◌<◌, ◌==◌, Bool, true, false, List, length, Some}
 use Rattle.std.proofs.Common.{option_map, sym, ap, subst, ◌∙◌}
 use Rattle.std.specs.FinMap as tree
-use Rattle.std.specs.List.{list_any}
 use Rattle.std.proofs.lemmas.Bool.{le-leb, eqb-true}
 use Rattle.proof_tools.proofs.FiniteMaps.{get-insert_same}
 use Rattle.object_id.specs.declared.entry.Entry.{Entry}
 use Rattle.object_id.specs.declared.entry.VdiSpec.{VdiSpec}
 use Rattle.object_id.specs.declared.node.NodeId.{NodeId}
-use Rattle.object_id.specs.declared.oid.Kind.{Kind}
-use Rattle.object_id.specs.declared.oid.Kind.TheVariants.{Block, Inode}
 use Rattle.object_id.specs.declared.policy.Policy.{Policy}
-use Rattle.object_id.specs.declared.policy.Policy.TheVariants.{Copies, Coded}
 use Rattle.object_id.specs.Oid.{kind_of, vid_of}
-use Rattle.object_id.specs.Policy.{need_of}
 use Rattle.object_store.specs.Bytes.{piece_at}
-use Rattle.gf256.specs.Part.{is_in_strips, bytes_of_parts}
+use Rattle.gf256.specs.Part.{is_in_strips}
 use Rattle.cluster_script.specs.declared.statement.Statement.{Statement}
 use Rattle.vdi_directory.specs.Decisions.{log_effects}
 use Rattle.peer_proto.specs.declared.say.PeerRsp.{PeerRsp}
@@ -30,8 +25,7 @@ use Rattle.gateway.specs.declared.message.Message.{Message}
 use Rattle.gateway.specs.declared.message.Status.{Status}
 use Rattle.gateway.specs.declared.message.Status.TheVariants as statuses
 use Rattle.gateway.specs.Attempt as gateways
-use Rattle.gateway.specs.Attempt.{is_awaited_message, is_done, bytes_given, successes, bytes_through, messages_with_status}
-use Rattle.gateway.specs.State.{Work, WorkStage, open_messages}
+use Rattle.gateway.specs.State.{Work}
 use Rattle.gateway.specs.Work.{asks_all, bytes_of_work}
 use Rattle.sheep_node.specs.declared.course.Course.{Course}
 use Rattle.sheep_node.specs.declared.event.Event.{Event}
@@ -55,7 +49,7 @@ use Rattle.overlap_law.specs.StepMoments.{SteppingNode, IsStepping, StepsByChang
 use Rattle.overlap_law.specs.ToldPieces.{IsUnansweredOf, offset_read, IsPieceOfAttempts, ToldPiecesAreSince}
 use Rattle.overlap_law.specs.Units.{unit_start, unit_size, unit_end, covers_by, covers_unit}
 use Rattle.overlap_law.proofs.BornFirst.{of_the_born}
-use Rattle.overlap_law.proofs.DoneReads.{AwaitedAt, awaited_at, only_one, marked_one}
+use Rattle.overlap_law.proofs.DoneReads.{AwaitedAt, awaited_by, unanswered_by, gave_by}
 use Rattle.overlap_law.proofs.DoneWorks.{bytes_long}
 use Rattle.overlap_law.proofs.FilteredOrder.{stands_among_all}
 use Rattle.overlap_law.proofs.GrantedEpochs.{spec_stays}
@@ -79,24 +73,8 @@ spec_along script (Then {moment} {next} trail change) vid spec known =
     ap (λ (log : List Entry). spec_in (log_effects log) vid) grows.is
     ∙ spec_stays moment.world.log grows.rest vid spec (spec_along script trail vid spec known)
 
--- a read of whole copies gives what its message did
-copy_gives : (policy : Policy) (kind : Kind) → is_in_strips policy kind ≡ false → (m : Message) (status : Status) (bytes : List ℕ)
-    → nat_le (need_of policy kind) (length (successes (record m { status = status } ∷ []))) ≡ true
-    → bytes_through policy kind (take (need_of policy kind) (successes (record m { status = status } ∷ []))) ≡ bytes
-    → status ≡ statuses.Succeeded bytes
-unfolding bytes_of_parts
-copy_gives (Copies copies) kind whole m statuses.Unanswered bytes done given = absurd (cc (done))
-copy_gives (Copies copies) kind whole m (statuses.Succeeded piece) bytes done given = ap statuses.Succeeded given
-copy_gives (Copies copies) kind whole m (statuses.Refused refusal) bytes done given = absurd (cc (done))
-copy_gives (Copies copies) kind whole m statuses.Lost bytes done given = absurd (cc (done))
-copy_gives (Coded d p) Block whole m status bytes done given = absurd (cc (whole))
-copy_gives (Coded d p) Inode whole m statuses.Unanswered bytes done given = absurd (cc (done))
-copy_gives (Coded d p) Inode whole m (statuses.Succeeded piece) bytes done given = ap statuses.Succeeded given
-copy_gives (Coded d p) Inode whole m (statuses.Refused refusal) bytes done given = absurd (cc (done))
-copy_gives (Coded d p) Inode whole m statuses.Lost bytes done given = absurd (cc (done))
-
 -- a create covers each unit inside its object
-created_covers : (unit size : ℕ) (work : ObjWork) → is_create_work work ≡ true → IsWhole size work
+pub created_covers : (unit size : ℕ) (work : ObjWork) → is_create_work work ≡ true → IsWhole size work
     → unit_end (kind_of (oid_of work)) unit ≤ size → covers_by unit work ≡ true
 created_covers unit size (works.Create oid policy long offset bytes) creating whole within =
     let same = whole.0 in
@@ -160,32 +138,18 @@ module _ (script : List Statement) (range : RunsAreInRange script) (events : Lis
         ∙ ap bytes_of_work is_read
 
     -- the message of which it is told
-    awaited : AwaitedAt number attempt.messages
-    awaited =
-        awaited_at number attempt.messages
-        (sym (ap (λ (stage : WorkStage). list_any (is_awaited_message number) (open_messages stage)) ends.ends.learns.open_so)
-        ∙ ends.ends.learns.awaited)
+    abbrev awaited : AwaitedAt number attempt.messages
+    awaited = awaited_by ends
 
-    unanswered : IsUnansweredOf so_far.node.gateway.works req work attempt awaited.0 awaited.1
-    unanswered = record {
-      there = ends.ends.learns.there;
-      stage = ends.ends.learns.open_so;
-      at = awaited.2;
-      unanswered = awaited.4;
-    }
+    unanswered : IsUnansweredOf so_far.node.gateway.works req work attempt (awaited_by ends).0 (awaited_by ends).1
+    unanswered = unanswered_by ends
 
     -- is the only one, and gave the bytes
     gave : status ≡ statuses.Succeeded bytes
     gave =
-        let m : Message = awaited.1 in
-        let few : length attempt.messages ≤ 1
-        = tellers.reads.few stepping.n was seat up req awaited.0 work attempt m unanswered
-        (ap (λ (w : ObjWork). asks_all w) is_read ∙ whole) in
-        let only : messages_with_status number status attempt.messages ≡ record m { status = status } ∷ []
-        = ap (messages_with_status number status) (only_one attempt.messages awaited.0 m few awaited.2)
-        ∙ marked_one number status m awaited.3 in
-        copy_gives policy (kind_of oid) whole m status bytes
-        (sym (λ i. is_done (is_read i) (only i)) ∙ ends.done) (sym (λ i. bytes_given (is_read i) (only i)) ∙ ends.given)
+        gave_by ends oid policy offset size is_read whole
+        (tellers.reads.few stepping.n was seat up req awaited.0 work attempt awaited.1 unanswered
+        (ap (λ (w : ObjWork). asks_all w) is_read ∙ whole))
 
     told_now : IsTold input number (statuses.Succeeded bytes)
     told_now = subst (IsTold input number) gave ends.ends.learns.told

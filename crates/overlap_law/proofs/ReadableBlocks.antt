@@ -50,7 +50,7 @@ any_at test [] place x at is = absurd (cc (at))
 any_at test (y ∷ xs) zero x at is = or_left (test y) (list_any test xs) (ap test (same_Some y x at) ∙ is)
 any_at test (y ∷ xs) (suc place) x at is = or_right (test y) (list_any test xs) (any_at test xs place x at is)
 
-may_allowed : (attempts : List AttemptRecord) (items : List Item) (by : Option ℕ) (bytes : List ℕ) → MayStay attempts items by bytes
+pub may_allowed : (attempts : List AttemptRecord) (items : List Item) (by : Option ℕ) (bytes : List ℕ) → MayStay attempts items by bytes
     → is_allowed items bytes ≡ true
 may_allowed attempts items by bytes may =
     any_at (λ (item : Item). bytes_eq item.bytes bytes) (standing items) may.place may.item may.among may.same

@@ -1,19 +1,16 @@
 -- In each world of a run in range, and at each moment on the way of its events, each open read of a session is on an id that the session
 -- may write, or on a disk that became a snapshot by what the node has read.
-use Rattle.std.proofs.Common.{◌≡◌, ◌≢◌, ⊎_elim, ℕ, List, Some, sym, subst}
+use Rattle.std.proofs.Common.{◌≡◌, ℕ, List, Some, sym, subst}
 use Rattle.std.specs.FinMap as tree
-use Rattle.proof_tools.proofs.FiniteMaps.{get-insert_cases}
 use Rattle.object_id.specs.declared.entry.Entry.{Entry}
 use Rattle.cluster_script.specs.declared.statement.Statement.{Statement}
 use Rattle.sheep_node.specs.declared.event.Event.{Event}
-use Rattle.sheep_node.specs.Changes as changes
 use Rattle.sheep_node.specs.SoundWorks.{HasSoundWorks}
 use Rattle.sheep_node.specs.State.{Node}
 use Rattle.sheep_node.specs.StepState.{StepState}
 use Rattle.sheep_world.specs.Began.{Began}
 use Rattle.sheep_world.specs.EventKinds.{outcome_of_step}
-use Rattle.sheep_world.specs.NodeCauses.{input_of_cause, event_of_cause, host_with_node, world_after_cause}
-use Rattle.sheep_world.specs.Step.{EventOutcome, step}
+use Rattle.sheep_world.specs.NodeCauses.{input_of_cause, event_of_cause, world_after_cause}
 use Rattle.sheep_world.specs.World.{Host, World}
 use Rattle.sheep_world.proofs.BegunWorlds.{goes_on}
 use Rattle.overlap_law.specs.AwaitedEntries.{CommandsAreTheSessions}
@@ -22,7 +19,7 @@ use Rattle.overlap_law.specs.MomentChanges as moments
 use Rattle.overlap_law.specs.MomentChanges.{MomentChange, MomentTrail, RunsAreInRange}
 use Rattle.overlap_law.specs.Past.{MomentWithPast, run_with_past}
 use Rattle.overlap_law.specs.Reached.{Hosts}
-use Rattle.overlap_law.specs.StepMoments.{SteppingNode, IsStepping, StepsByChanges, first_in_step, LeadsInStep, hosts_in_step}
+use Rattle.overlap_law.specs.StepMoments.{SteppingNode, IsStepping, StepsByChanges, first_in_step, LeadsInStep}
 use Rattle.overlap_law.proofs.AwaitedEntriesInMoments.{entries_so}
 use Rattle.overlap_law.proofs.AwaitedInRuns.{awaited_in_worlds, awaited_after, said_sessions}
 use Rattle.overlap_law.proofs.CausedWorks.{by_changes}
@@ -38,6 +35,7 @@ use Rattle.overlap_law.proofs.WaitedInRuns.{IsWaitedIn, waits_then, works_waited
 use Rattle.overlap_law.proofs.WholeInRuns.{sound_world}
 use Rattle.overlap_law.proofs.WorksInMoments.{HaveWellWorks, well_in_world, well_after}
 use Rattle.overlap_law.proofs.WritersOfWorks.{asked_for}
+use Rattle.overlap_law.proofs.ClosedWorlds.{hosts_after, world_along}
 
 -- a node's works are waited for, and its tables name snapshots alone beside their own disks
 pub record IsReadingWell (node : Node) : Type 0 where
@@ -95,30 +93,9 @@ module _ (script : List Statement) (range : RunsAreInRange script) where
               (sharing_then script range start.world began stepping.n stepping.host is.there stepping.cause is.caused so_far leads);
         }
 
-    in_step : (stepping : SteppingNode) → IsStepping script start.world stepping → StepsByChanges stepping.cause → (so_far : StepState)
-        → LeadsInStep stepping (first_in_step stepping) so_far → AreReadingWell (hosts_in_step stepping start.world so_far)
-    in_step stepping is by so_far leads q other at = ⊎_elim
-        (λ (own : (q ≡ stepping.n) × (host_with_node stepping.host so_far.node ≡ other)).
-        subst (λ (h : Host). IsReadingWell h.node) own.1 (reading_then stepping is by so_far leads))
-        (λ (apart : (q ≢ stepping.n) × (tree.get start.world.hosts q ≡ Some other)). reading_in_world start.world began q other apart.1)
-        (get-insert_cases start.world.hosts stepping.n (host_with_node stepping.host so_far.node) q other at)
-
-    at_end : (event : Event) (made : EventOutcome) → step script event start.world ≡ Some made → AreReadingWell made.world.hosts
-    at_end event made happened = reading_in_world made.world (goes_on script event start.world made began happened)
-
     pub reading_after : {before after : MomentWithPast} → MomentChange script start before after → AreReadingWell after.world.hosts
-    reading_after (moments.StepBegins stepping is by) = in_step stepping is by (first_in_step stepping) changes.Still
-    reading_after (moments.StepGoesOn stepping so_far next is by within) =
-        in_step stepping is by next (changes.Then within.leads within.change)
-    reading_after (moments.StepIsMade stepping is by) = reading_in_world (end_of stepping) (has_ended stepping is)
-    reading_after (moments.LossIsUntold event made happened h) = at_end event made happened
-    reading_after (moments.DeliveryIsUnread event made happened h) = at_end event made happened
-    reading_after (moments.NodeIsLost event made happened h) = at_end event made happened
-    reading_after (moments.NodeLeaves event made happened h) = at_end event made happened
-    reading_after (moments.NodeIsReweighted event made happened h) = at_end event made happened
-    reading_after (moments.NodeJoins event made happened h) = at_end event made happened
-    reading_after (moments.NodeComesBack event made happened h) = at_end event made happened
-    reading_after (moments.PhaseEnds event made happened h) = at_end event made happened
+    reading_after change =
+        hosts_after script (λ (n : ℕ) (host : Host). IsReadingWell host.node) reading_in_world start began reading_then change
 
     pub known_at_start : ReadsAreKnown start.world.log start.world.hosts
     known_at_start =
@@ -141,26 +118,10 @@ module _ (script : List Statement) (range : RunsAreInRange script) where
 
     -- ---- the entries of snapshots
 
-    taken_at_end : (event : Event) (made : EventOutcome) → step script event start.world ≡ Some made → SnapshotsAreTaken made.world.log
-    taken_at_end event made happened = taken_in_worlds script range made.world (goes_on script event start.world made began happened)
-
-    taken_after : {before after : MomentWithPast} → MomentChange script start before after → SnapshotsAreTaken after.world.log
-    taken_after (moments.StepBegins stepping is by) = taken_in_worlds script range (end_of stepping) (has_ended stepping is)
-    taken_after (moments.StepGoesOn stepping so_far next is by within) =
-        taken_in_worlds script range (end_of stepping) (has_ended stepping is)
-    taken_after (moments.StepIsMade stepping is by) = taken_in_worlds script range (end_of stepping) (has_ended stepping is)
-    taken_after (moments.LossIsUntold event made happened h) = taken_at_end event made happened
-    taken_after (moments.DeliveryIsUnread event made happened h) = taken_at_end event made happened
-    taken_after (moments.NodeIsLost event made happened h) = taken_at_end event made happened
-    taken_after (moments.NodeLeaves event made happened h) = taken_at_end event made happened
-    taken_after (moments.NodeIsReweighted event made happened h) = taken_at_end event made happened
-    taken_after (moments.NodeJoins event made happened h) = taken_at_end event made happened
-    taken_after (moments.NodeComesBack event made happened h) = taken_at_end event made happened
-    taken_after (moments.PhaseEnds event made happened h) = taken_at_end event made happened
-
     taken_along : {moment : MomentWithPast} → MomentTrail script start moment → SnapshotsAreTaken moment.world.log
-    taken_along moments.Still = taken_in_worlds script range start.world began
-    taken_along (moments.Then trail change) = taken_after change
+    taken_along trail =
+        world_along script (λ (world : World). SnapshotsAreTaken world.log) (taken_in_worlds script range) start began
+        (λ stepping is by so_far leads. taken_in_worlds script range (end_of stepping) (has_ended stepping is)) trail
 
   pub reads_known-in_run : (events : List Event) (start moment : MomentWithPast) → run_with_past script events ≡ Some start
       → MomentTrail script start moment → ReadsAreKnown moment.world.log moment.world.hosts

@@ -30,6 +30,23 @@ use Rattle.overlap_law.proofs.CoursesOfReads.{reads_go_on}
 use Rattle.overlap_law.proofs.GuestsInMoments.{GuestsChange, GuestsStay, GuestsAreNone, IsGoingOn, IsBetween, between}
 use Rattle.overlap_law.proofs.WholeInRuns.{sound_world}
 
+-- what a node's step rests on
+module _ (script : List Statement) (range : RunsAreInRange script) (start : MomentWithPast) (began : Began script start.world) where
+  module _ (on : SteppingNode) (is : IsStepping script start.world on) (by : StepsByChanges on.cause) where
+    pub may : May (input_of_cause on.cause) on.host.node
+    may = caused_may script range start.world began on.n on.host is.there is.up on.cause (by_changes on.cause by) is.caused
+
+    pub queued : QueuesAreDiskRequests on.host.node
+    queued = ((sound_world script range start.world began).hosts on.n on.host is.there).node.queues
+
+    pub sole : CommandsAreAlone on.host.node
+    sole = ((sound_world script range start.world began).hosts on.n on.host is.there).node.sole_commands
+
+    pub alone_so_far : (so_far : StepState) → LeadsInStep on (first_in_step on) so_far → CommandsAreAlone so_far.node
+    alone_so_far so_far leads =
+        kept_by_chain CommandsAre (λ at next change. change_keeps_alone may queued sole at next change) leads
+        (received_alone (input_of_cause on.cause) on.host.node sole)
+
 module _ (script : List Statement) (range : RunsAreInRange script) (start : MomentWithPast) (began : Began script start.world)
     (May_be : Reading) (ledger : Ledger) (effects : List Effect) (good_id : ℕ → Bool) where
   abbrev Stand : Node → Type 0
@@ -48,21 +65,6 @@ module _ (script : List Statement) (range : RunsAreInRange script) (start : Mome
         (sym sessions)
         (stand.each req request (ap (λ (all : tree.FinMap nat_cmp Request). tree.get all req) (sym requests) ∙ got));
   }
-
-  module _ (on : SteppingNode) (is : IsStepping script start.world on) (by : StepsByChanges on.cause) where
-    may : May (input_of_cause on.cause) on.host.node
-    may = caused_may script range start.world began on.n on.host is.there is.up on.cause (by_changes on.cause by) is.caused
-
-    queued : QueuesAreDiskRequests on.host.node
-    queued = ((sound_world script range start.world began).hosts on.n on.host is.there).node.queues
-
-    sole : CommandsAreAlone on.host.node
-    sole = ((sound_world script range start.world began).hosts on.n on.host is.there).node.sole_commands
-
-    alone_so_far : (so_far : StepState) → LeadsInStep on (first_in_step on) so_far → CommandsAreAlone so_far.node
-    alone_so_far so_far leads =
-        kept_by_chain CommandsAre (λ at next change. change_keeps_alone may queued sole at next change) leads
-        (received_alone (input_of_cause on.cause) on.host.node sole)
 
   -- a node goes on in its step
   going_on : (before after : MomentWithPast) → IsGoingOn script start before after
@@ -89,8 +91,9 @@ module _ (script : List Statement) (range : RunsAreInRange script) (start : Mome
       own_stands : Stand g.next.node
       own_stands =
           reads_go_on May_be ledger effects good_id (asked_in script) (input_of_cause g.stepping.cause) g.stepping.host.node g.so_far g.next
-          (may g.stepping g.is g.by) (queued g.stepping g.is g.by) (sole g.stepping g.is g.by)
-          (alone_so_far g.stepping g.is g.by g.so_far g.within.leads) g.within.change
+          (may script range start began g.stepping g.is g.by) (queued script range start began g.stepping g.is g.by)
+          (sole script range start began g.stepping g.is g.by)
+          (alone_so_far script range start began g.stepping g.is g.by g.so_far g.within.leads) g.within.change
           (goes.each g.stepping g.so_far g.is g.by g.within.leads g.before_so) was_stands
 
   pub reads_stand_after : {before after : MomentWithPast} → MomentChange script start before after

@@ -1,5 +1,5 @@
 -- Where the reads of a node stand by a history they stand by a later one, which keeps what they were told.
-use Rattle.std.proofs.Common.{◌≡◌, ℕ, ◌+◌, ◌*◌, ◌<◌, Bool, List, ◌++◌, Option, Some, None, refl, sym, ap, subst, ◌∙◌, arith}
+use Rattle.std.proofs.Common.{◌≡◌, ℕ, ◌+◌, ◌*◌, ◌<◌, ◌≤◌, Bool, List, ◌++◌, Option, Some, None, refl, sym, ap, subst, ◌∙◌, arith}
 use Rattle.std.specs.FinMap as tree
 use Rattle.object_id.specs.declared.entry.VdiSpec.{VdiSpec}
 use Rattle.disk_history.specs.declared.event.HistEvent.{HistEvent}
@@ -10,8 +10,10 @@ use Rattle.vdi_directory.specs.declared.effect.Effect.{Effect}
 use Rattle.peer_proto.specs.declared.guest.DiskAsk.TheVariants as disk_asks
 use Rattle.guest_driver.specs.declared.disk.Disk.{Disk}
 use Rattle.guest_driver.specs.Driver.{Driver, Reads, Writes, Answered}
+use Rattle.guest_driver.specs.Extent.{first_index_of}
 use Rattle.guest_driver.specs.Pieces.{Piece}
 use Rattle.sheep_node.specs.declared.ask.Ask.{Ask}
+use Rattle.sheep_node.specs.declared.ask.Ask.TheVariants as asks
 use Rattle.sheep_node.specs.declared.course.Course.{Course}
 use Rattle.sheep_node.specs.declared.course.Course.TheVariants.{Waiting, Driving, Commanding, Checking, DoingWork, AwaitingDecision}
 use Rattle.sheep_node.specs.declared.course.Request.{Request}
@@ -39,19 +41,19 @@ module _ (May_be Later : Reading) (ledger later : Ledger) (effects after : List 
       → WasBlock vid spec index unit disk
 
   told_by : (inode : Content) (offset size index : ℕ) (told : List ℕ)
-      → ((k unit : ℕ) → k < index → Keeps inode.vid inode.spec k unit)
+      → ((k unit : ℕ) → first_index_of (extent_on inode offset size) ≤ k → k < index → Keeps inode.vid inode.spec k unit)
       → IsReadUpTo May_be ledger effects good_id inode (extent_on inode offset size) index told
       → IsReadUpTo Later later after good_after inode (extent_on inode offset size) index told
   told_by inode offset size index told keep is = record {
     long = is.long;
     each = λ k unit disk low less inside block.
-        let before = keep k unit less disk block in
+        let before = keep k unit low less disk block in
         before.stays _ (is.each k unit before.was low less inside before.block);
   }
 
   driver_by : (inode : Content) (offset size : ℕ) (driver : Driver)
-      → ((told : List ℕ) (piece : Piece) (rest : List Piece) → driver ≡ Reads told piece rest → (k unit : ℕ) → k < piece.index
-      → Keeps inode.vid inode.spec k unit)
+      → ((told : List ℕ) (piece : Piece) (rest : List Piece) → driver ≡ Reads told piece rest → (k unit : ℕ)
+      → first_index_of (extent_on inode offset size) ≤ k → k < piece.index → Keeps inode.vid inode.spec k unit)
       → IsDriverStanding May_be ledger effects good_id inode offset size driver
       → IsDriverStanding Later later after good_after inode offset size driver
   driver_by inode offset size (Reads told piece rest) keep is = (
@@ -64,15 +66,17 @@ module _ (May_be Later : Reading) (ledger later : Ledger) (effects after : List 
           at,
           same,
           behind,
-          told_by inode offset size index told (λ k unit less. keep told piece rest refl k unit (omega (arith, less, place))) up,
+          told_by inode offset size index told (λ k unit low less. keep told piece rest refl k unit low (omega (arith, less, place))) up,
         ),
   )
   driver_by inode offset size (Writes payload stage piece rest) keep is = absurd is
   driver_by inode offset size Answered keep is = tt
 
   course_by : (asked : Option Ask) (opened : Option Disk) (course : Course)
-      → ((told : List ℕ) (piece : Piece) (rest : List Piece) (disk : Disk) → course ≡ Driving (Reads told piece rest) → opened ≡ Some disk
-      → (k unit : ℕ) → k < piece.index → Keeps disk.inode.vid disk.inode.spec k unit)
+      → ((offset size : ℕ) (told : List ℕ) (piece : Piece) (rest : List Piece) (disk : Disk)
+      → asked ≡ Some (asks.Disk (disk_asks.Read offset size)) → course ≡ Driving (Reads told piece rest) → opened ≡ Some disk
+      → (k unit : ℕ) → first_index_of (extent_on disk.inode offset size) ≤ k → k < piece.index
+      → Keeps disk.inode.vid disk.inode.spec k unit)
       → IsCourseStanding May_be ledger effects good_id asked opened course
       → IsCourseStanding Later later after good_after asked opened course
   course_by asked opened (Waiting ask) keep is = is
@@ -82,7 +86,7 @@ module _ (May_be Later : Reading) (ledger later : Ledger) (effects after : List 
   course_by asked (Some disk) (Driving driver) keep (disk_asks.Read offset size, asks_so, is) = (
     disk_asks.Read offset size,
     asks_so,
-    driver_by disk.inode offset size driver (λ told piece rest same. keep told piece rest disk (ap Driving same) refl) is,
+    driver_by disk.inode offset size driver (λ told piece rest same. keep offset size told piece rest disk asks_so (ap Driving same) refl) is,
   )
   course_by asked opened (Commanding op) keep is = is
   course_by asked opened (Checking check) keep is = is
@@ -90,14 +94,17 @@ module _ (May_be Later : Reading) (ledger later : Ledger) (effects after : List 
   course_by asked opened (AwaitingDecision entry) keep is = is
 
   stand_by : (asked : ℕ → Option Ask) (node : Node)
-      → ((req : ℕ) (request : Request) (told : List ℕ) (piece : Piece) (rest : List Piece) (disk : Disk)
+      → ((req offset size : ℕ) (request : Request) (told : List ℕ) (piece : Piece) (rest : List Piece) (disk : Disk)
       → tree.get node.requests req ≡ Some request → request.course ≡ Driving (Reads told piece rest)
-      → (session_at request.session node).disk ≡ Some disk → (k unit : ℕ) → k < piece.index → Keeps disk.inode.vid disk.inode.spec k unit)
+      → asked req ≡ Some (asks.Disk (disk_asks.Read offset size)) → (session_at request.session node).disk ≡ Some disk
+      → (k unit : ℕ) → first_index_of (extent_on disk.inode offset size) ≤ k → k < piece.index
+      → Keeps disk.inode.vid disk.inode.spec k unit)
       → ReadsStand May_be ledger effects good_id asked node → ReadsStand Later later after good_after asked node
   stand_by asked node kept stand = record {
     each = λ req request got.
         course_by (asked req) (session_at request.session node).disk request.course
-        (λ told piece rest disk course on k unit less. kept req request told piece rest disk got course on k unit less)
+        (λ offset size told piece rest disk asks_so course on k unit low less.
+        kept req offset size request told piece rest disk got course asks_so on k unit low less)
         (stand.each req request got);
   }
 
@@ -109,7 +116,7 @@ module _ (May_be : Reading) (ledger later : Ledger) (effects : List Effect) (goo
       → ReadsStand May_be later effects good_id asked node
   stand_alike asked node stand =
       stand_by May_be May_be ledger later effects effects good_id good_id asked node
-      (λ req request told piece rest disk got course on k unit less now block. record {
+      (λ req offset size request told piece rest disk got course asks_so on k unit low less now block. record {
         was = now;
         block = record {
           there = sym (alike disk.inode.vid) ∙ block.there;
@@ -132,7 +139,7 @@ module _ (May_be : Reading) (ledger : Ledger) (effects : List Effect) (many few 
       → ReadsStand May_be ledger effects few asked node
   stand_fewer asked node stand =
       stand_by May_be May_be ledger ledger effects effects many few asked node
-      (λ req request told piece rest disk got course on k unit less now block. record {
+      (λ req offset size request told piece rest disk got course asks_so on k unit low less now block. record {
         was = now;
         block = record {
           there = block.there;
@@ -154,11 +161,12 @@ module _ (attempts later : List AttemptRecord)
     (goes : (items : List Item) (bytes : List ℕ) → MayStayReadAs attempts items bytes → MayStayReadAs later items bytes)
     (history grown : List HistEvent) (effects after : List Effect) (good_id : ℕ → Bool) (were : DisksWereThere effects after history) where
   was_block : (vid : ℕ) (spec : VdiSpec) (index unit : ℕ)
-      → AllKeepReadsOf attempts (ledger_of history) vid (index * blocks_per_object spec + unit) grown
+      → (unit < blocks_per_object spec
+      → AllKeepReadsOf attempts (ledger_of history) vid (index * blocks_per_object spec + unit) grown)
       → Keeps (MayStayReadAs attempts) (MayStayReadAs later) (ledger_of history) (ledger_of (history ++ grown)) effects after good_id
       good_id vid spec index unit
   was_block vid spec index unit keep disk block =
-      let before = stood attempts history grown vid (index * blocks_per_object spec + unit) disk keep block.there block.kept in
+      let before = stood attempts history grown vid (index * blocks_per_object spec + unit) disk (keep block.inside) block.there block.kept in
       record {
         was = before.was;
         block = record {
@@ -174,12 +182,13 @@ module _ (attempts later : List AttemptRecord)
         stays = λ bytes may. goes (items_at disk spec index unit) bytes (before.stays bytes may);
       }
 
-  pub stand_later : (asked : ℕ → Option Ask) (node : Node) → ReadsAreKept attempts history grown node
+  pub stand_later : (asked : ℕ → Option Ask) (node : Node) → ReadsAreKept attempts asked history grown node
       → ReadsStand (MayStayReadAs attempts) (ledger_of history) effects good_id asked node
       → ReadsStand (MayStayReadAs later) (ledger_of (history ++ grown)) after good_id asked node
   stand_later asked node kept stand =
       stand_by (MayStayReadAs attempts) (MayStayReadAs later) (ledger_of history) (ledger_of (history ++ grown)) effects after good_id
       good_id asked node
-      (λ req request told piece rest disk got course on k unit less.
-      was_block disk.inode.vid disk.inode.spec k unit (kept.each req request told piece rest disk got course on k unit less))
+      (λ req offset size request told piece rest disk got course asks_so on k unit low less.
+      was_block disk.inode.vid disk.inode.spec k unit
+      (λ inside. kept.each req offset size request told piece rest disk got course asks_so on k unit low less inside))
       stand

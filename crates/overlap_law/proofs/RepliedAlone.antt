@@ -1,29 +1,25 @@
--- So each block in which a request has an item is alone behind the reply to it, if that is so of checks: as a change of a moment says it, on
--- the way of an event too.
-use Rattle.std.proofs.Common.{◌≡◌, ℕ, Bool, true, List, Some, sym, subst}
+-- So each block in which a request has an item is alone behind the reply to it, if that is so of checks: as a change of a moment says it.
+use Rattle.std.proofs.Common.{◌≡◌, ℕ, Bool, List, Some, sym, subst}
 use Rattle.cluster_script.specs.declared.statement.Statement.{Statement}
-use Rattle.peer_proto.specs.declared.guest.GuestRsp.{GuestRsp}
 use Rattle.vdi_directory.specs.Decisions.{log_effects}
 use Rattle.sheep_node.specs.declared.event.Event.{Event}
 use Rattle.overlap_law.specs.Headline.{ledger_of}
-use Rattle.overlap_law.specs.Holders.{is_available_disk}
 use Rattle.overlap_law.specs.KeptHistory.{RepliesAreAlone}
-use Rattle.overlap_law.specs.MomentChanges.{MomentTrail, IsOnTheWay, Next, RunsAreInRange}
+use Rattle.overlap_law.specs.MomentChanges.{MomentTrail, RunsAreInRange}
 use Rattle.overlap_law.specs.Past.{MomentWithPast, run_with_past}
 use Rattle.overlap_law.specs.RepliedChecks.{RepliesToChecksAreAlone}
 use Rattle.overlap_law.specs.StayingBlocks.{IsAloneWhereWritten}
 use Rattle.overlap_law.specs.StepMoments.{moment_in_step}
 use Rattle.overlap_law.specs.ToCome.{TablesStayTheInodes}
-use Rattle.overlap_law.proofs.CarriedInodes.{inodes-on_the_way}
 use Rattle.overlap_law.proofs.RepliedSteps.{reply_alone}
 
 -- a request is alone behind a change where it was written
-abbrev IsAloneBehind : (ℕ → Bool) → ℕ → MomentWithPast → MomentWithPast → Type 0
+abbrev pub IsAloneBehind : (ℕ → Bool) → ℕ → MomentWithPast → MomentWithPast → Type 0
 IsAloneBehind good_id req before after =
     IsAloneWhereWritten (log_effects after.world.log) good_id after.world.hosts after.past.attempts (ledger_of before.past.history) req
 
 -- the tables of open disks may come
-abbrev TablesStay : (ℕ → Bool) → MomentWithPast → Type 0
+abbrev pub TablesStay : (ℕ → Bool) → MomentWithPast → Type 0
 TablesStay good_id moment =
     TablesStayTheInodes (log_effects moment.world.log) good_id moment.world.hosts moment.past.attempts
 
@@ -43,11 +39,3 @@ module _ (script : List Statement) (range : RunsAreInRange script) where
       (owed on so_far next is by within was will reply among free accepts checked))) in
       subst (IsAloneBehind good_id reply.0 before) (sym will)
       (subst (λ (m : MomentWithPast). IsAloneBehind good_id reply.0 m later) (sym was) alone)
-
-  pub replies-on_the_way : (events : List Event) (event : Event) (start end before after : MomentWithPast)
-      → IsOnTheWay script events event start end before after
-      → RepliesToChecksAreAlone script (is_available_disk end.world.log end.past.unavailable) start before after
-      → RepliesAreAlone script (is_available_disk end.world.log end.past.unavailable) start before after
-  replies-on_the_way events event start end before after way =
-      replies-by_tables events start before after way.run way.behind (is_available_disk end.world.log end.past.unavailable)
-      (inodes-on_the_way script range events event start end way.run way.happens way.behind (Next way.change way.left)).tables

@@ -105,7 +105,7 @@ drives_write disk offset payload ask writes (Writes bytes stage piece rest) (sta
 drives_write disk offset payload ask writes Answered is = absurd is
 
 -- a write that is replied to as it begins, and isn't refused, has no pieces
-begin_replies : (disk : Disk) (offset : ℕ) (payload : List ℕ) (rsp : GuestRsp)
+pub begin_replies : (disk : Disk) (offset : ℕ) (payload : List ℕ) (rsp : GuestRsp)
     → (begin_driver disk (disk_asks.Write offset payload)).act ≡ acts.Reply rsp → is_refusal rsp ≡ false
     → pieces disk.inode.spec.shift offset (length payload) ≡ []
 unfolding begin_driver

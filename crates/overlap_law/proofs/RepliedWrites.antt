@@ -202,7 +202,7 @@ module _ (script : List Statement) (range : RunsAreInRange script) (events : Lis
         ∙ ap (λ (more : List AttemptRecord). here.past.attempts ++ more) (none on.host)
         ∙ append-nil here.past.attempts
 
-    might : (oid unit j : ℕ) (attempt : AttemptRecord)
+    pub might : (oid unit j : ℕ) (attempt : AttemptRecord)
         → IsToCome (moment_in_step script on start next).world.hosts (moment_in_step script on start next).past.attempts oid unit j attempt
         → IsToCome (moment_in_step script on start so_far).world.hosts (moment_in_step script on start so_far).past.attempts oid unit j
         attempt

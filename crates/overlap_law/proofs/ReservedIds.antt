@@ -1,16 +1,13 @@
 -- An id is reserved for one session: by the entry that was granted it, and for good. So an entry is one session's at most.
-use Rattle.std.proofs.Common.{◌≡◌, ◌⊎◌, inl, inr, ⊎_elim, ℕ, ◌==◌, Bool, true, false, List, [], ◌∷◌, ◌++◌, Contains, Option, Some, None, refl, sym, ap, subst, ◌∙◌}
+use Rattle.std.proofs.Common.{◌≡◌, ◌⊎◌, inl, inr, ⊎_elim, ℕ, ◌==◌, Bool, true, false, List, [], ◌∷◌, ◌++◌, Contains, refl, sym, ap, subst}
+use Rattle.std.proofs.Common.{◌∙◌}
 use Rattle.std.proofs.lemmas.Bool.{eq-eqb}
 use Rattle.std.proofs.lemmas.List.Elements.{Contains-append_left, Contains-append_right, Contains-append_cases}
-use Rattle.proof_tools.proofs.Booleans.{cond_either}
 use Rattle.proof_tools.proofs.Lists.{Contains-nil, Contains-head, Contains-cons_cases, list_any-none}
-use Rattle.object_id.specs.declared.cause.Cause.TheVariants as causes
-use Rattle.object_id.specs.declared.cause.Cause.{Cause}
-use Rattle.object_id.specs.declared.entry.VdiSpec.{VdiSpec}
 use Rattle.object_id.specs.declared.entry.Entry.{Entry}
-use Rattle.object_id.specs.declared.entry.Entry.TheVariants.{Format, Join, Leave, Reweight, Recovered, Reserve, Publish, Clone, Snapshot, Delete, Lock, Unlock}
+use Rattle.object_id.specs.declared.entry.Entry.TheVariants.{Format, Join, Leave, Reweight, Recovered, Reserve, Publish, Clone, Snapshot}
+use Rattle.object_id.specs.declared.entry.Entry.TheVariants.{Delete, Lock, Unlock}
 use Rattle.object_id.specs.declared.entry.Origin.{Origin}
-use Rattle.object_id.specs.declared.entry.Origin.TheVariants.{Fresh, SnapshotOf, CloneOf}
 use Rattle.object_id.specs.declared.node.NodeId.{NodeId}
 use Rattle.object_id.specs.declared.oid.Vid.{Vid}
 use Rattle.vdi_directory.specs.declared.decision.Decision.TheVariants as decisions
@@ -18,17 +15,12 @@ use Rattle.vdi_directory.specs.declared.decision.Outcome.{Outcome}
 use Rattle.vdi_directory.specs.declared.effect.Effect.{Effect}
 use Rattle.vdi_directory.specs.declared.effect.Effect.TheVariants as effects
 use Rattle.vdi_directory.specs.declared.effect.Grant.{Grant}
-use Rattle.vdi_directory.specs.declared.effect.Source.{Source}
-use Rattle.vdi_directory.specs.declared.effect.Source.TheVariants as sources
-use Rattle.vdi_directory.specs.declared.header.Header.{Header}
-use Rattle.vdi_directory.specs.Decisions.{nothing, refusal_outcome, is_taken, grant_of, or_full, reservation_outcome, with_spec, held_disk, reserved_snapshot, reserved_clone, reserve_outcome, outcome, log_effects, decision_after}
-use Rattle.vdi_directory.specs.Effects.{grants, is_used, header_of, name_of}
-use Rattle.vdi_directory.specs.Names.{snapshot_with_tag, is_live_name}
-use Rattle.vdi_directory.specs.Vids.{free_id}
+use Rattle.vdi_directory.specs.Decisions.{reserve_outcome, outcome, log_effects, decision_after}
+use Rattle.vdi_directory.specs.Effects.{grants, is_used}
 use Rattle.vdi_directory.proofs.DecisionLaws.{grant_outcome-unused}
 use Rattle.vdi_directory.proofs.StateLemmas.{log_effects-none, log_effects-push}
-use Rattle.std.specs.Prelude.{is_some}
 use Rattle.overlap_law.specs.AwaitedEntries.{WasReserved, IsSessionsEntry, IsSessionsTask, IsSessionsStage, IsSessionsCommand}
+use Rattle.overlap_law.proofs.ClosedReservations.{reserves_so}
 use Rattle.overlap_law.proofs.DatedEffects.{by_entries}
 use Rattle.vdi_ops.specs.Op.{Task, Opening, WritingBack, Tagging, Copying, Making, OpStage, Asked, Working, Publishing, Answered, Op}
 
@@ -40,44 +32,12 @@ module _ (before : List Effect) (by : NodeId) (session : ℕ) where
       → (grant : Grant) × (made.effect ≡ effects.Reserved grant) × (grant.reservation.vid ≡ vid) × (grant.reservation.by ≡ by)
       × (grant.reservation.session ≡ session)
 
-  refused_reserves : (cause : Cause) → ReservesWhat (refusal_outcome cause)
-  refused_reserves cause vid is = absurd (cc (is))
-
-  nothing_reserves : ReservesWhat nothing
-  nothing_reserves vid is = absurd (cc (is))
-
-  module _ (name : List ℕ) (source : Source) (parent : Option Vid) where
-    free_reserves : (spec : VdiSpec) (free : Option ℕ) → ReservesWhat (or_full free (grant_of before by session name source parent spec))
-    free_reserves spec None vid is = absurd (cc (is))
-    free_reserves spec (Some id) vid is = let same : record { 0 = id } ≡ vid = cc (is) in (_, refl, same, refl, refl)
-
-    spec_reserves : (header : Option Header) → ReservesWhat (with_spec header (reservation_outcome before by session name source parent))
-    spec_reserves None = nothing_reserves
-    spec_reserves (Some header) = free_reserves header.spec (free_id name (is_used before))
-
-  snapshot_reserves : (name tag : List ℕ) (old : Option Vid) → ReservesWhat (reserved_snapshot before by session name tag old)
-  snapshot_reserves name tag None = refused_reserves causes.VdiNotLocked
-  snapshot_reserves name tag (Some old) =
-      cond_either ReservesWhat (is_some (snapshot_with_tag tag (name_of before name))) (refusal_outcome causes.VdiExist)
-      (with_spec (header_of before old.0) (reservation_outcome before by session name (sources.Snapshot old tag) (Some old)))
-      (refused_reserves causes.VdiExist) (spec_reserves name (sources.Snapshot old tag) (Some old) (header_of before old.0))
-
-  clone_reserves : (name : List ℕ) (base : Option Vid) → ReservesWhat (reserved_clone before by session name base)
-  clone_reserves name None = refused_reserves causes.NoTag
-  clone_reserves name (Some base) =
-      cond_either ReservesWhat (is_taken before name) (refusal_outcome causes.VdiExist)
-      (with_spec (header_of before base.0) (reservation_outcome before by session name sources.Clone (Some base)))
-      (refused_reserves causes.VdiExist) (spec_reserves name sources.Clone (Some base) (header_of before base.0))
-
   reserves : (name : List ℕ) (origin : Origin) → ReservesWhat (reserve_outcome before by session name origin)
-  reserves name (Fresh spec) =
-      cond_either ReservesWhat (is_taken before name) (refusal_outcome causes.VdiExist)
-      (reservation_outcome before by session name sources.Fresh None spec)
-      (refused_reserves causes.VdiExist) (free_reserves name sources.Fresh None spec (free_id name (is_used before)))
-  reserves name (SnapshotOf tag) = snapshot_reserves name tag (held_disk before by session (name_of before name).working)
-  reserves name (CloneOf base tag) =
-      cond_either ReservesWhat (is_live_name (name_of before base)) (reserved_clone before by session name (snapshot_with_tag tag (name_of before base)))
-      (refusal_outcome causes.NoBaseVdi) (clone_reserves name (snapshot_with_tag tag (name_of before base))) (refused_reserves causes.NoBaseVdi)
+  reserves name =
+      reserves_so before by session name ReservesWhat (λ cause is vid granted. absurd (cc (granted)))
+      (λ vid granted. absurd (cc (granted)))
+      (λ source parent spec id vid granted.
+      let same : record { 0 = id } ≡ vid = cc (granted) in (_, refl, same, refl, refl))
 
 -- an entry that was granted an id reserved it
 pub reserved_now : (entries : List Entry) (by : NodeId) (session : ℕ) (name : List ℕ) (origin : Origin) (vid : Vid)
@@ -88,8 +48,10 @@ reserved_now entries by session name origin vid is =
     record {
       grant = grant;
       there =
-          subst (λ (all : List Effect). Contains all (effects.Reserved grant)) (sym (log_effects-push entries (Reserve by session name origin)))
-          (Contains-append_right (log_effects entries) ((outcome (log_effects entries) (Reserve by session name origin)).effect ∷ []) (effects.Reserved grant)
+          subst (λ (all : List Effect). Contains all (effects.Reserved grant))
+          (sym (log_effects-push entries (Reserve by session name origin)))
+          (Contains-append_right (log_effects entries) ((outcome (log_effects entries) (Reserve by session name origin)).effect ∷ [])
+          (effects.Reserved grant)
           (subst (λ (e : Effect). Contains (e ∷ []) (effects.Reserved grant)) (sym effect) (Contains-head (effects.Reserved grant) [])));
       id = ap (λ (v : Vid). v.0) of;
       by = own;
@@ -111,12 +73,14 @@ used_there all grant there = by_test (is_used all grant.reservation.vid.0) refl
         absurd (cc (other_id, same_id))
 
 abbrev GrantsAreApart : List Entry → Type 0
-GrantsAreApart log = (one other : Grant) → Contains (log_effects log) (effects.Reserved one) → Contains (log_effects log) (effects.Reserved other)
+GrantsAreApart log =
+    (one other : Grant) → Contains (log_effects log) (effects.Reserved one) → Contains (log_effects log) (effects.Reserved other)
     → one.reservation.vid.0 ≡ other.reservation.vid.0 → one ≡ other
 
 grants_apart : (log : List Entry) → GrantsAreApart log
 grants_apart = by_entries GrantsAreApart
-    (λ one other there. absurd (Contains-nil (effects.Reserved one) (subst (λ (all : List Effect). Contains all (effects.Reserved one)) log_effects-none there)))
+    (λ one other there. absurd (Contains-nil (effects.Reserved one)
+    (subst (λ (all : List Effect). Contains all (effects.Reserved one)) log_effects-none there)))
     one_more
   where
     one_more : (log : List Entry) (entry : Entry) → GrantsAreApart log → GrantsAreApart (log ++ entry ∷ [])
@@ -161,7 +125,8 @@ reserved_once log me session other vid one two =
     sym one.of ∙ ap (λ (grant : Grant). grant.reservation.session) same ∙ two.of
 
 -- an entry is one session's
-pub session_of_entry : (log : List Entry) (me : NodeId) (session other : ℕ) (entry : Entry) → IsSessionsEntry (log_effects log) me session entry
+pub session_of_entry : (log : List Entry) (me : NodeId) (session other : ℕ) (entry : Entry)
+    → IsSessionsEntry (log_effects log) me session entry
     → IsSessionsEntry (log_effects log) me other entry → session ≡ other
 session_of_entry log me session other (Format members) one two = absurd one
 session_of_entry log me session other (Join node zone vnodes) one two = absurd one
@@ -180,7 +145,8 @@ session_of_entry log me session other (Unlock by of vid) one two = sym one.1 ∙
 
 module _ (old new : List Effect) (grows : (effect : Effect) → Contains old effect → Contains new effect) (me : NodeId) (session : ℕ) where
   reserved_stays : (vid : ℕ) → WasReserved old me session vid → WasReserved new me session vid
-  reserved_stays vid is = record { grant = is.grant; there = grows (effects.Reserved is.grant) is.there; id = is.id; by = is.by; of = is.of }
+  reserved_stays vid is =
+      record { grant = is.grant; there = grows (effects.Reserved is.grant) is.there; id = is.id; by = is.by; of = is.of }
 
   entry_stays : (entry : Entry) → IsSessionsEntry old me session entry → IsSessionsEntry new me session entry
   entry_stays (Format members) is = is

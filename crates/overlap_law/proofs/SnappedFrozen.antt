@@ -1,52 +1,31 @@
 -- What the inode of an id that became a snapshot once may come to have stays one entry at each index, over each change of a moment, also
 -- where the snapshot is deleted.
-use Rattle.std.proofs.Common.{◌≡◌, ◌⊎◌, ⊎_elim, ℕ, ◌<◌, Bool, true, false, All, List, [], ◌∷◌, ◌++◌, Option, Some}
-use Rattle.std.proofs.Common.{None, option_map, is_some, refl, sym, ap, ◌∙◌}
+use Rattle.std.proofs.Common.{◌≡◌, ◌⊎◌, ⊎_elim, ℕ, ◌<◌, Bool, true, false, All, List, [], ◌∷◌, ◌++◌, Some}
+use Rattle.std.proofs.Common.{refl, sym, ap, ◌∙◌}
 use Rattle.object_id.specs.declared.entry.Entry.{Entry}
 use Rattle.object_id.specs.declared.entry.VdiSpec.{VdiSpec}
-use Rattle.object_id.specs.Oid.{IsVid, inode_number, vid_of}
+use Rattle.object_id.specs.Oid.{IsVid}
 use Rattle.object_id.specs.Spec.{objects_of}
 use Rattle.cluster_script.specs.declared.statement.Statement.{Statement}
 use Rattle.epoch_log.specs.Appending.{IsReservable}
-use Rattle.gateway.specs.State.{Open}
-use Rattle.peer_proto.specs.Work.{oid_of}
-use Rattle.vdi_directory.specs.declared.header.Header.{Header}
 use Rattle.vdi_directory.specs.Decisions.{outcome, log_effects}
-use Rattle.vdi_directory.specs.Effects.{header_of}
 use Rattle.vdi_directory.specs.States.{state_of, is_live_state}
 use Rattle.vdi_directory.proofs.LawfulEntries.{lawful-outcome, sound-log_effects}
-use Rattle.vdi_directory.proofs.LineLemmas.{line-log_effects}
-use Rattle.sheep_node.specs.Changes.{attempt_in}
 use Rattle.sheep_node.specs.declared.event.Event.{Event}
-use Rattle.sheep_world.specs.Began.{Began}
-use Rattle.overlap_law.specs.Attempts.{AttemptRecord, object_of}
+use Rattle.overlap_law.specs.Attempts.{AttemptRecord}
 use Rattle.overlap_law.specs.Each.{spec_in}
-use Rattle.overlap_law.specs.Grants.{writer_of}
 use Rattle.overlap_law.specs.LastReads.{snaps}
 use Rattle.overlap_law.specs.MomentChanges.{MomentChange, MomentTrail, RunsAreInRange}
 use Rattle.overlap_law.specs.MomentChanges as moments
 use Rattle.overlap_law.specs.Past.{MomentWithPast, run_with_past}
-use Rattle.overlap_law.specs.ShapedAttempts.{AreShaped}
-use Rattle.overlap_law.specs.Tables.{entry_unit, entry_by}
-use Rattle.overlap_law.specs.TiedAttempts.{IsTied}
+use Rattle.overlap_law.specs.Tables.{entry_by}
 use Rattle.overlap_law.specs.ToCome.{IsEntryToCome, SnapshotsStayFrozen, SnappedStayFrozen, TablesStayTheInodes}
-use Rattle.overlap_law.specs.Writers.{session_holder}
-use Rattle.overlap_law.proofs.ClosedSnapshots.{snaps-working, snapped-no_writer}
+use Rattle.overlap_law.proofs.ClosedSnapshots.{snaps-working}
 use Rattle.overlap_law.proofs.CreatedInodes.{header_is}
-use Rattle.overlap_law.proofs.FinishedInMoments.{TermsHold, kept_terms}
-use Rattle.overlap_law.proofs.GrantedAttempts.{only_writer-in_run}
-use Rattle.overlap_law.proofs.GrantedEpochs.{spec_stays}
-use Rattle.overlap_law.proofs.KnownDisks.{vid-of_inode}
 use Rattle.overlap_law.proofs.LogsReservable.{LogIsReservable, kept_reservable}
-use Rattle.overlap_law.proofs.NamedEntries.{opened_there, opened_up}
-use Rattle.overlap_law.proofs.NewAttempts.{IsOpened, WasAttempt, come_from}
-use Rattle.overlap_law.proofs.NoRecoveredDue.{began-with_past}
 use Rattle.overlap_law.proofs.PublishedInodes.{IsOfMembers, IsPutNow, log_gets}
 use Rattle.overlap_law.proofs.RunsByChanges.{on_the_way}
-use Rattle.overlap_law.proofs.ShapedAttempts.{kept_shaped}
 use Rattle.overlap_law.proofs.SnapshotChains.{snapshot_was}
-use Rattle.overlap_law.proofs.TiedInRuns.{kept_tied}
-use Rattle.overlap_law.proofs.ToComeStays.{to_come_before}
 use Rattle.std.proofs.Common.{arith, ◌||◌}
 use Rattle.std.proofs.lemmas.Bool.{or_cases}
 use Rattle.vdi_directory.specs.Effects.{is_used}
@@ -54,7 +33,7 @@ use Rattle.vdi_directory.specs.States.{rank}
 use Rattle.overlap_law.specs.Reached.{Hosts}
 use Rattle.overlap_law.specs.LastReads.{was_snapped}
 use Rattle.overlap_law.proofs.ClosedSnapshots.{snapped_no_more, snapped-push}
-use Rattle.overlap_law.proofs.FrozenSnapshots.{snapshot_so, taken_now, spec_before}
+use Rattle.overlap_law.proofs.FrozenSnapshots.{snapshot_so, taken_now, spec_before, used_spec, was_come}
 
 -- what became a snapshot is an id that is used
 snapped_used : (log : List Entry) (vid : ℕ) → was_snapped log vid ≡ true → is_used (log_effects log) vid ≡ true
@@ -66,19 +45,6 @@ snapped_used log vid snapped = by_test (is_used (log_effects log) vid) refl
         let zero : rank (state_of (log_effects log) vid) ≡ 0 = ap rank ((sound-log_effects log).unused vid none) in
         let above = snapped_no_more vid log snapped in
         absurd (omega (arith, zero, above))
-
-used_spec : (log later : List Entry) (vid : ℕ) (spec : VdiSpec) → is_used (log_effects log) vid ≡ true
-    → spec_in (log_effects (log ++ later)) vid ≡ Some spec → spec_in (log_effects log) vid ≡ Some spec
-used_spec log later vid spec used now = by_header (header_of (log_effects log) vid) refl
-  where
-    by_header : (o : Option Header) → header_of (log_effects log) vid ≡ o → spec_in (log_effects log) vid ≡ Some spec
-    by_header None none =
-        let known : is_some (header_of (log_effects log) vid) ≡ true = sym ((line-log_effects log).known vid) ∙ used in
-        let not : is_some (header_of (log_effects log) vid) ≡ false = ap is_some none in
-        absurd (cc (known, not))
-    by_header (Some header) there =
-        let was : spec_in (log_effects log) vid ≡ Some header.spec = ap (option_map (λ (h : Header). h.spec)) there in
-        was ∙ sym (spec_stays log later vid header.spec was) ∙ now
 
 -- what is a snapshot became one
 pub snapshots_frozen : (log : List Entry) (good_id : ℕ → Bool) (hosts : Hosts) (attempts : List AttemptRecord)
@@ -92,40 +58,8 @@ module _ (script : List Statement) (range : RunsAreInRange script) (events : Lis
     (is : run_with_past script events ≡ Some start) (trail : MomentTrail script start before)
     (change : MomentChange script start before after)
     (good_id : ℕ → Bool) where
-  began : Began script start.world
-  began = began-with_past script events start is
-
   reservable : All IsReservable after.world.log
   reservable = (on_the_way script LogIsReservable (kept_reservable script range) events start after is (moments.Then trail change)).all
-
-  -- nothing begins on what was a snapshot once
-  none_opens : (vid index j : ℕ) (now : AttemptRecord) → IsVid vid → was_snapped after.world.log vid ≡ true
-      → IsEntryToCome after.world.hosts after.past.attempts vid index j now → IsOpened script start after now → ⊥
-  none_opens vid index j now is_vid snapshot comes o =
-      let writes = (only_writer-in_run script range events start after is (moments.Then trail change)).each o.stepping.n _
-      (opened_there script start after now o) (opened_up script start after now o) o.req
-      (record o.asked { stage = Open (attempt_in o.asked o.lined.node) }) o.at_gateway o.making in
-      let id : vid_of (oid_of o.asked.work) ≡ vid
-      = ap vid_of (ap (λ (a : AttemptRecord). object_of a) o.opened ∙ comes.object) ∙ vid-of_inode vid is_vid in
-      snapped-no_writer after.world.log vid (session_holder o.stepping.n writes.request.session)
-      snapshot
-      (ap (writer_of (log_effects after.world.log)) (sym id) ∙ writes.may.writer)
-
-  -- what may come then might come before
-  was_come : (vid index j : ℕ) (now : AttemptRecord) → IsVid vid → was_snapped after.world.log vid ≡ true
-      → IsEntryToCome after.world.hosts after.past.attempts vid index j now
-      → (w : WasAttempt before j now) × IsEntryToCome before.world.hosts before.past.attempts vid index j w.was
-  was_come vid index j now is_vid snapshot comes = ⊎_elim
-      (λ (w : WasAttempt before j now). (
-        w,
-        to_come_before script range start before after began change
-            (on_the_way script TermsHold (kept_terms script range) events start before is trail)
-            (on_the_way script AreShaped (kept_shaped script range) events start before is trail)
-            (on_the_way script IsTied (kept_tied script range) events start before is trail) (inode_number vid) (entry_unit index) j now
-            comes w,
-      ))
-      (λ (o : IsOpened script start after now). absurd (none_opens vid index j now is_vid snapshot comes o))
-      (come_from script range start began change j now comes.there)
 
   module _ (tables : TablesStayTheInodes (log_effects before.world.log) good_id before.world.hosts before.past.attempts)
       (frozen : SnappedStayFrozen (log_effects before.world.log) good_id before.world.hosts before.past.attempts) (vid index : ℕ)
@@ -177,8 +111,9 @@ module _ (script : List Statement) (range : RunsAreInRange script) (events : Lis
   snapped_after tables frozen = record {
     each = λ vid index spec snapped good made_with within i j one other comes comes_too.
         let is_vid = (header_is after.world.log reservable vid spec made_with).0 in
-        let (w, was) = was_come vid index i one is_vid snapped comes in
-        let (w_too, was_too) = was_come vid index j other is_vid snapped comes_too in
+        let (w, was) = was_come script range events start before after is trail change good_id vid index i one is_vid snapped comes in
+        let (w_too, was_too) = was_come script range events start before after is trail change good_id vid index j other is_vid snapped
+        comes_too in
         ap (λ (a : AttemptRecord). entry_by index a) (sym w.same)
         ∙ agree_before tables frozen vid index spec is_vid good within snapped made_with i j w.was w_too.was was was_too
         ∙ ap (λ (a : AttemptRecord). entry_by index a) w_too.same;

@@ -110,7 +110,8 @@ module _ (script : List Statement) (range : RunsAreInRange script) (world : Worl
               let same : other ≡ req = cc (from) in
               let found : tree.get world.hosts session.node ≡ Some host = ap (tree.get world.hosts) caused.gateway ∙ there in
               let free : tree.get host.node.requests other ≡ None
-              = new-begun script session.number world (were_begun script world began) session other host caused.declared caused.next found in
+              = new-begun script session.number world (were_begun script world began) session other host caused.declared caused.next
+              found in
               let both : None ≡ Some request = sym free ∙ ap (tree.get host.node.requests) same ∙ got in
               cc (both)
           by_cause (RequestComes name to asked) caused number ask from = cc (from)
@@ -157,12 +158,16 @@ module _ (script : List Statement) (range : RunsAreInRange script) (world : Worl
               (told_ends found None (GuestAsks session other ask) vid rsp among single at ((writes found there None).does (req, rsp) among refl))
           by_cause (RequestComes name to asked) caused at single writes among =
               let write = check_write_by name world (after (RequestComes name to asked)) in
-              behind (option_map_or (check_write_grown script) write []) (replies_grown script world write (after (RequestComes name to asked)))
-              (told_ends world write (RequestComes name to asked) vid rsp among single at ((writes world there write).does (req, rsp) among refl))
+              behind (option_map_or (check_write_grown script) write [])
+              (replies_grown script world write (after (RequestComes name to asked)))
+              (told_ends world write (RequestComes name to asked) vid rsp among single at
+              ((writes world there write).does (req, rsp) among refl))
           by_cause (ReplyComes name from rsp_here) caused at single writes among =
               let write = check_write_by name world (after (ReplyComes name from rsp_here)) in
-              behind (option_map_or (check_write_grown script) write []) (replies_grown script world write (after (ReplyComes name from rsp_here)))
-              (told_ends world write (ReplyComes name from rsp_here) vid rsp among single at ((writes world there write).does (req, rsp) among refl))
+              behind (option_map_or (check_write_grown script) write [])
+              (replies_grown script world write (after (ReplyComes name from rsp_here)))
+              (told_ends world write (ReplyComes name from rsp_here) vid rsp among single at
+              ((writes world there write).does (req, rsp) among refl))
           by_cause (LossIsTold name packet) caused at single writes among =
               told_ends world None (LossIsTold name packet) vid rsp among single at ((writes world there None).does (req, rsp) among refl)
           by_cause (EntryIsRead entry) caused at single writes among =

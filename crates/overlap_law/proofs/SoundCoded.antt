@@ -1,10 +1,12 @@
 -- In every run in range each item of a request, on a disk whose blocks are kept in strips, is one of a coded write: so one that a lost
 -- writer left tears its block.
-use Rattle.std.proofs.Common.{◌≡◌, ℕ, ◌+◌, ◌/◌, ◌==◌, ◌&&◌, ◌||◌, not, Bool, true, false, cond, List, [], ◌∷◌, ◌++◌, map, filter, fold, length, Option, Some, None, is_none, is_some, refl, sym, ap, subst, ◌∙◌}
+use Rattle.std.proofs.Common.{◌≡◌, ℕ, zero, suc, ◌+◌, ◌/◌, ◌==◌, ◌&&◌, ◌||◌, not, Bool, true, false, cond, List, [], ◌∷◌, ◌++◌, map, filter}
+use Rattle.std.proofs.Common.{fold, length, slice_get, Option, Some, None, is_none, is_some, refl, sym, ap, subst, ◌∙◌}
 use Rattle.std.specs.List.{list_any, range_with_len}
 use Rattle.std.specs.Option.{option_map_or}
 use Rattle.std.proofs.lemmas.Bool.{eqb-true, or_parts}
 use Rattle.std.proofs.lemmas.List.Folds.{list_any-append}
+use Rattle.std.proofs.lemmas.Option.{same_Some}
 use Rattle.object_id.specs.declared.limits.TheConstants.{BLOCK_BYTES}
 use Rattle.object_id.specs.declared.oid.Kind.TheVariants.{Block}
 use Rattle.gf256.specs.Part.{is_in_strips}
@@ -201,3 +203,31 @@ module _ (vid : ℕ) (strips : Bool) where
           (is_in_strips write.spec.policy Block) own in
           λ i. start i || false)
           (filter (is_on_disk write) (range_with_len 0 (length write.value / BLOCK_BYTES)))
+
+-- ---- what holds of an item, where it holds of all
+
+-- an item is coded, where none isn't
+pub none_among : (strips : Bool) (items : List Item) (place : ℕ) (item : Item) → AreCoded strips items → slice_get items place ≡ Some item
+    → is_uncoded strips item ≡ false
+none_among strips [] place item all got = absurd (cc (got))
+none_among strips (first ∷ later) zero item all got =
+    ap (is_uncoded strips) (sym (same_Some first item got))
+    ∙ (or_parts (is_uncoded strips first) (list_any (is_uncoded strips) later) all).0
+none_among strips (first ∷ later) (suc place) item all got =
+    none_among strips later place item (or_parts (is_uncoded strips first) (list_any (is_uncoded strips) later) all).1 got
+
+isnt_false : (b : Bool) → not b ≡ false → b ≡ true
+isnt_false true never = refl
+isnt_false false never = absurd (cc (never))
+
+pub coded_of : (req : ℕ) (item : Item) → is_uncoded true item ≡ false → item.request ≡ Some req → item.coded ≡ true
+coded_of req item fine of =
+    let second = (or_parts (is_none item.request && not (is_acknowledged item))
+    (is_some item.request && (true && not item.coded)) fine).1 in
+    isnt_false item.coded (sym (ap (λ (o : Option ℕ). is_some o && (true && not item.coded)) of) ∙ second)
+
+pub done_of : (strips : Bool) (item : Item) → is_uncoded strips item ≡ false → item.request ≡ None → is_acknowledged item ≡ true
+done_of strips item fine none =
+    let first = (or_parts (is_none item.request && not (is_acknowledged item))
+    (is_some item.request && (strips && not item.coded)) fine).0 in
+    isnt_false (is_acknowledged item) (sym (ap (λ (o : Option ℕ). is_none o && not (is_acknowledged item)) none) ∙ first)

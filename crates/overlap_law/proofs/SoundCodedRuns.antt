@@ -1,9 +1,9 @@
 -- So it is over each event: what begins on a disk is coded as the disk's spec says, and a disk is copied to one of its spec.
-use Rattle.std.proofs.Common.{◌≡◌, ℕ, zero, suc, ◌<◌, ◌/◌, ◌==◌, ◌&&◌, ◌||◌, not, Bool, true, false, cond, List, [], ◌∷◌, ◌++◌, filter, fold, All, Option, Some, None, option_map, is_none, is_some, slice_get, refl, sym, ap, subst, ◌∙◌}
+use Rattle.std.proofs.Common.{◌≡◌, ℕ, ◌<◌, ◌/◌, ◌==◌, Bool, true, false, cond, List, [], ◌∷◌, ◌++◌, filter, fold, All, Option, Some, None, option_map, slice_get, refl, sym, ap, subst, ◌∙◌}
 use Rattle.std.specs.List.{list_any}
 use Rattle.std.specs.Option.{option_map_or, option_and_then}
 use Rattle.std.specs.FinMap as tree
-use Rattle.std.proofs.lemmas.Bool.{eqb-true, or_parts, lt-ltb}
+use Rattle.std.proofs.lemmas.Bool.{eqb-true, lt-ltb}
 use Rattle.std.proofs.lemmas.List.Sums.{fold-append}
 use Rattle.std.proofs.lemmas.Option.{same_Some}
 use Rattle.epoch_log.specs.Appending.{IsReservable}
@@ -24,7 +24,6 @@ use Rattle.disk_history.specs.declared.event.HistEvent.{HistEvent}
 use Rattle.disk_history.specs.declared.event.HistEvent.TheVariants.{Create, Copy, Delete}
 use Rattle.disk_history.specs.Changes.{items_in, blocks_in}
 use Rattle.disk_history.specs.Ledger.{Item, Ledger, empty_ledger, has_block, ledger_after, zeros_item}
-use Rattle.disk_history.specs.Legal.{is_acknowledged}
 use Rattle.disk_history.specs.Ledger as histories
 use Rattle.vdi_directory.specs.declared.decision.Decision.{Decision}
 use Rattle.vdi_directory.specs.declared.decision.Decision.TheVariants as decisions
@@ -68,15 +67,16 @@ use Rattle.overlap_law.proofs.LogsReservable.{in_world}
 use Rattle.overlap_law.proofs.NoRecoveredDue.{began-with_past}
 use Rattle.overlap_law.proofs.RunsByEvents.{run-kept_by_events}
 use Rattle.overlap_law.proofs.RunsWithOneMore.{run_with_one_more}
-use Rattle.overlap_law.proofs.SoundCoded.{AreCoded, DiskIsCoded, is_uncoded, begins_uncoded, coded_along, all_harmless, asks_harmless, check_harmless}
+use Rattle.overlap_law.proofs.SoundCoded.{DiskIsCoded, is_uncoded, begins_uncoded, coded_along, coded_of, done_of, none_among}
+use Rattle.overlap_law.proofs.SoundCoded.{all_harmless, asks_harmless, check_harmless}
 use Rattle.overlap_law.proofs.SourceSpecs.{snapshot_spec}
 
 -- whether blocks of a spec are kept in strips
-abbrev strips_of : VdiSpec → Bool
+abbrev pub strips_of : VdiSpec → Bool
 strips_of spec = is_in_strips spec.policy Block
 
 -- each disk of a ledger is coded as a log says that it was made
-abbrev AllCoded : List Entry → Ledger → Type 0
+abbrev pub AllCoded : List Entry → Ledger → Type 0
 AllCoded log ledger = (vid : ℕ) (spec : VdiSpec) → spec_in (log_effects log) vid ≡ Some spec
     → DiskIsCoded vid (strips_of spec) (ledger.disks vid)
 
@@ -88,6 +88,25 @@ write_spec write check bytes req (Comparing index later) so =
     let same = same_Some _ write so in (ap (λ (w : CheckWrite). w.vid.0) same, ap (λ (w : CheckWrite). w.spec) same)
 write_spec write check bytes req (WritingBack later) so = absurd (cc (so))
 write_spec write check bytes req checks.Answered so = absurd (cc (so))
+
+-- so each item of a block that a disk has is fine
+pub are_coded : (log : List Entry) (ledger : Ledger) → AllCoded log ledger → StripItemsAreCoded ledger (log_effects log)
+are_coded log ledger all = record {
+  each = λ vid block place req disk spec item there made strips below got of.
+      coded_of req item
+      (ap (λ (b : Bool). is_uncoded b item) (sym strips) ∙ fine vid block place disk spec item there made below got) of;
+  nobodys = λ vid block place disk spec item there made below got none.
+      done_of (is_in_strips spec.policy Block) item (fine vid block place disk spec item there made below got) none;
+}
+  where
+    fine : (vid block place : ℕ) (disk : histories.Disk) (spec : VdiSpec) (item : Item) → ledger.disks vid ≡ Some disk
+        → spec_in (log_effects log) vid ≡ Some spec → block < disk.blocks → slice_get (disk.items block) place ≡ Some item
+        → is_uncoded (is_in_strips spec.policy Block) item ≡ false
+    fine vid block place disk spec item there made below got =
+        none_among (is_in_strips spec.policy Block) (disk.items block) place item
+        (sym (ap (λ (o : Option histories.Disk). list_any (is_uncoded (is_in_strips spec.policy Block)) (items_in o block)) there)
+        ∙ all vid spec made block
+        (ap (λ (o : Option histories.Disk). has_block o block) there ∙ lt-ltb block disk.blocks below)) got
 
 -- ---- an entry
 
@@ -177,7 +196,7 @@ module _ (script : List Statement) (range : RunsAreInRange script) where
     began : Began script before.world
     began = began-with_past script events before run
 
-    split : (grown : List HistEvent) → ledger_of (before.past.history ++ grown) ≡ fold ledger_after (ledger_of before.past.history) grown
+    pub split : (grown : List HistEvent) → ledger_of (before.past.history ++ grown) ≡ fold ledger_after (ledger_of before.past.history) grown
     split grown = fold-append ledger_after empty_ledger before.past.history grown
 
     abbrev Then : List Entry → List HistEvent → Type 0
@@ -219,14 +238,14 @@ module _ (script : List Statement) (range : RunsAreInRange script) where
         all_harmless vid (strips_of spec) (replies_grown script found write after)
         (replies_none script vid (λ (q : ℕ). false) found write after.outputs.replies)
 
-    told : (found after : World) (write : Option CheckWrite) → Then before.world.log (replies_grown script found write after)
+    pub told : (found after : World) (write : Option CheckWrite) → Then before.world.log (replies_grown script found write after)
     told found after write =
         same (replies_grown script found write after)
         (λ vid. replies_none script vid (λ (q : ℕ). true) found write after.outputs.replies)
         (λ vid spec made. quiet_harmless found after write vid spec)
 
     module _ (n : ℕ) (host : Host) (there : tree.get before.world.hosts n ≡ Some host) (up : is_host_up host ≡ true) where
-      asks_coded : (session : ScriptSession) (other : ℕ) (ask : Ask)
+      pub asks_coded : (session : ScriptSession) (other : ℕ) (ask : Ask)
           → IsCause script before.world n host (GuestAsks session other ask) → (after : World)
           → Then before.world.log (request_grown script before.world session (Some other)
           ++ replies_grown script (request_started session (Some other) before.world) None after)
@@ -253,8 +272,8 @@ module _ (script : List Statement) (range : RunsAreInRange script) where
           ends = replies_grown script (request_started session (Some other) before.world) None after
 
       -- a check's write, where one comes
-      comes_harmless : (rsp : PeerRsp) (o : Option CheckWrite) → o ≡ check_write_on (inputs.Reply rsp) host.node → (vid : ℕ) (spec : VdiSpec)
-          → spec_in (log_effects before.world.log) vid ≡ Some spec
+      pub comes_harmless : (rsp : PeerRsp) (o : Option CheckWrite) → o ≡ check_write_on (inputs.Reply rsp) host.node
+          → (vid : ℕ) (spec : VdiSpec) → spec_in (log_effects before.world.log) vid ≡ Some spec
           → list_any (begins_uncoded vid (strips_of spec)) (option_map_or (check_write_grown script) o []) ≡ false
       comes_harmless rsp None is vid spec made = refl
       comes_harmless rsp (Some write) is vid spec made = check_harmless vid (strips_of spec) script write (λ own.
@@ -273,7 +292,7 @@ module _ (script : List Statement) (range : RunsAreInRange script) where
       comes_make_none None vid = refl
       comes_make_none (Some write) vid = check_none script vid (λ (q : ℕ). true) write (λ same. refl)
 
-      came_coded : (o : Option CheckWrite) (after : World)
+      pub came_coded : (o : Option CheckWrite) (after : World)
           → ((vid : ℕ) (spec : VdiSpec) → spec_in (log_effects before.world.log) vid ≡ Some spec
           → list_any (begins_uncoded vid (strips_of spec)) (option_map_or (check_write_grown script) o []) ≡ false)
           → Then before.world.log (option_map_or (check_write_grown script) o [] ++ replies_grown script before.world o after)
@@ -298,7 +317,8 @@ module _ (script : List Statement) (range : RunsAreInRange script) where
           let none : check_write_by name before.world after ≡ None
           = served_comes_to_none request (node_at name.sender.0 before.world) in
           came_coded (check_write_by name before.world after) after (λ vid spec made.
-          ap (λ (o : Option CheckWrite). list_any (begins_uncoded vid (strips_of spec)) (option_map_or (check_write_grown script) o [])) none)
+          ap (λ (o : Option CheckWrite). list_any (begins_uncoded vid (strips_of spec)) (option_map_or (check_write_grown script) o []))
+          none)
       step_coded (ReplyComes name from rsp) caused =
           let after = world_after_cause script n host (ReplyComes name from rsp) before.world in
           let is : check_write_by name before.world after ≡ check_write_on (inputs.Reply rsp) host.node
@@ -367,48 +387,11 @@ module _ (script : List Statement) (range : RunsAreInRange script) where
     event_coded holds.0 before holds.1 holds.2 event made is,
   )
 
-  -- an item is coded, where none isn't
-  none_among : (strips : Bool) (items : List Item) (place : ℕ) (item : Item) → AreCoded strips items → slice_get items place ≡ Some item
-      → is_uncoded strips item ≡ false
-  none_among strips [] place item all got = absurd (cc (got))
-  none_among strips (first ∷ later) zero item all got =
-      ap (is_uncoded strips) (sym (same_Some first item got)) ∙ (or_parts (is_uncoded strips first) (list_any (is_uncoded strips) later) all).0
-  none_among strips (first ∷ later) (suc place) item all got =
-      none_among strips later place item (or_parts (is_uncoded strips first) (list_any (is_uncoded strips) later) all).1 got
-
-  isnt_false : (b : Bool) → not b ≡ false → b ≡ true
-  isnt_false true never = refl
-  isnt_false false never = absurd (cc (never))
-
-  coded_of : (req : ℕ) (item : Item) → is_uncoded true item ≡ false → item.request ≡ Some req → item.coded ≡ true
-  coded_of req item fine of =
-      let second = (or_parts (is_none item.request && not (is_acknowledged item)) (is_some item.request && (true && not item.coded)) fine).1 in
-      isnt_false item.coded (sym (ap (λ (o : Option ℕ). is_some o && (true && not item.coded)) of) ∙ second)
-
-  done_of : (strips : Bool) (item : Item) → is_uncoded strips item ≡ false → item.request ≡ None → is_acknowledged item ≡ true
-  done_of strips item fine none =
-      let first = (or_parts (is_none item.request && not (is_acknowledged item)) (is_some item.request && (strips && not item.coded)) fine).0 in
-      isnt_false (is_acknowledged item) (sym (ap (λ (o : Option ℕ). is_none o && not (is_acknowledged item)) none) ∙ first)
-
-  -- each item of a block that a disk has is fine
-  fine_in_run : (events : List Event) (moment : MomentWithPast) → run_with_past script events ≡ Some moment
-      → (vid block place : ℕ) (disk : histories.Disk) (spec : VdiSpec) (item : Item)
-      → (ledger_of moment.past.history).disks vid ≡ Some disk → spec_in (log_effects moment.world.log) vid ≡ Some spec
-      → block < disk.blocks → slice_get (disk.items block) place ≡ Some item → is_uncoded (is_in_strips spec.policy Block) item ≡ false
-  fine_in_run events moment run vid block place disk spec item there made below got =
-      let all = (run-kept_by_events script HoldsInRun opens keeps events moment run).2 vid spec made block
-      (ap (λ (o : Option histories.Disk). has_block o block) there ∙ lt-ltb block disk.blocks below) in
-      none_among (is_in_strips spec.policy Block) (disk.items block) place item
-      (sym (ap (λ (o : Option histories.Disk). list_any (is_uncoded (is_in_strips spec.policy Block)) (items_in o block)) there) ∙ all) got
+  pub all_coded-in_run : (events : List Event) (moment : MomentWithPast) → run_with_past script events ≡ Some moment
+      → AllCoded moment.world.log (ledger_of moment.past.history)
+  all_coded-in_run events moment run = (run-kept_by_events script HoldsInRun opens keeps events moment run).2
 
   pub coded-in_run : (events : List Event) (moment : MomentWithPast) → run_with_past script events ≡ Some moment
       → StripItemsAreCoded (ledger_of moment.past.history) (log_effects moment.world.log)
-  coded-in_run events moment run = record {
-    each = λ vid block place req disk spec item there made strips below got of.
-        coded_of req item
-        (ap (λ (b : Bool). is_uncoded b item) (sym strips)
-        ∙ fine_in_run events moment run vid block place disk spec item there made below got) of;
-    nobodys = λ vid block place disk spec item there made below got none.
-        done_of (is_in_strips spec.policy Block) item
-        (fine_in_run events moment run vid block place disk spec item there made below got) none;
-  }
+  coded-in_run events moment run =
+      are_coded moment.world.log (ledger_of moment.past.history) (all_coded-in_run events moment run)

@@ -80,7 +80,8 @@ module _ (script : List Statement) (range : RunsAreInRange script) where
             absurd (both_ways (list_any (is_item_of req) (items_in ((ledger_of moment.past.history).disks vid) has.block)) all has.item)
 
     -- and began a write
-    pub has_begun : (vid : ℕ) → HasItemOf req (ledger_of moment.past.history) vid → list_any (begins_write_of req) moment.past.history ≡ true
+    pub has_begun : (vid : ℕ) → HasItemOf req (ledger_of moment.past.history) vid
+        → list_any (begins_write_of req) moment.past.history ≡ true
     has_begun vid has = by_value (list_any (begins_write_of req) moment.past.history) refl
       where
         by_value : (b : Bool) → list_any (begins_write_of req) moment.past.history ≡ b
@@ -90,9 +91,10 @@ module _ (script : List Statement) (range : RunsAreInRange script) where
             absurd (both_ways (may_have_items req moment.past.history) (none_behind req moment.past.history false none refl)
             (may_have vid has))
 
-    writes : (vid : ℕ) → HasItemOf req (ledger_of moment.past.history) vid → Writing script range req moment.world.hosts
+    pub writes : (vid : ℕ) → HasItemOf req (ledger_of moment.past.history) vid → Writing script range req moment.world.hosts
     writes vid has =
-        (run-kept_by_events script (BothAt script range req) (opens_known script range req) (events_known script range req) events moment run).1.1
+        (run-kept_by_events script (BothAt script range req) (opens_known script range req) (events_known script range req) events
+        moment run).1.1
         (may_have vid has)
 
     module _ (vid : ℕ) (work : IsAtWork script moment.world.hosts moment.world.guests req vid) (writer : IsWriterAt script req) where
@@ -243,7 +245,7 @@ module _ (script : List Statement) (range : RunsAreInRange script) where
   item_among req (first ∷ later) (suc place) item got of =
       or_right (is_item_of req first) (list_any (is_item_of req) later) (item_among req later place item got of)
 
-  has_item : (events : List Event) (moment : MomentWithPast) → run_with_past script events ≡ Some moment → (req vid block place : ℕ)
+  pub has_item : (events : List Event) (moment : MomentWithPast) → run_with_past script events ≡ Some moment → (req vid block place : ℕ)
       (disk : Disk) (item : Item) → (ledger_of moment.past.history).disks vid ≡ Some disk → block < disk.blocks
       → slice_get (disk.items block) place ≡ Some item → is_item_of req item ≡ true → HasItemOf req (ledger_of moment.past.history) vid
   has_item events moment run req vid block place disk item there below got of = record {

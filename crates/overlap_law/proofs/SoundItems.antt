@@ -109,7 +109,8 @@ module _ (req vid : ℕ) where
   -- what a block has then it had before
   pub item_was : (ledger : Ledger) (grown : List HistEvent) → list_any (begins_by_others vid (λ (q : ℕ). true)) grown ≡ false
       → list_any (begins_here req vid) grown ≡ false → HasItemOf req (fold ledger_after ledger grown) vid → HasItemOf req ledger vid
-  item_was ledger grown makes here is = record { block = is.block; has = had; item = by_value (list_any (is_item_of req) (items_in (ledger.disks vid) is.block)) refl }
+  item_was ledger grown makes here is =
+      record { block = is.block; has = had; item = by_value (list_any (is_item_of req) (items_in (ledger.disks vid) is.block)) refl }
     where
       none : list_any (makes_disk vid is.block) grown ≡ false
       none = fewer_make (λ (q : ℕ). true) vid is.block grown makes

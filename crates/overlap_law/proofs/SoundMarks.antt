@@ -159,8 +159,8 @@ module _ (req : ℕ) where
 
   stays_so : (ledger : Ledger) (event : HistEvent) → MayFollowUnlessRead ledger event → IsSo ledger → IsSo (ledger_after ledger event)
   stays_so ledger (Create disk blocks) may so ended =
-      changed_none disk (Some (record { blocks = blocks; items = λ block. zeros_item ∷ []; deleted = false })) ledger.disks (new_none blocks)
-      (so ended)
+      changed_none disk (Some (record { blocks = blocks; items = λ block. zeros_item ∷ []; deleted = false })) ledger.disks
+      (new_none blocks) (so ended)
   stays_so ledger (Copy old new) may so ended =
       changed_none new (option_map (λ (disk : Disk). record disk { deleted = false }) (ledger.disks old)) ledger.disks
       (copied_none false (ledger.disks old) (so ended old)) (so ended)
@@ -176,8 +176,8 @@ module _ (req : ℕ) where
       written = option_map (with_item block (new_item other coded bytes)) (ledger.disks disk)
 
       by_test : (b : Bool) (at : ℕ) → NoneIsOpen req (cond b (changed_at disk written ledger.disks) ledger.disks at)
-      by_test true = changed_none disk written ledger.disks (item_none other block bytes coded (ledger.disks disk) parts.0 (so parts.1 disk))
-          (so parts.1)
+      by_test true = changed_none disk written ledger.disks
+          (item_none other block bytes coded (ledger.disks disk) parts.0 (so parts.1 disk)) (so parts.1)
       by_test false = so parts.1
   stays_so ledger (WriteDone other) may so ended = λ disk.
       marked_none Acknowledged done_closed other (ledger.disks disk) (λ apart. so (ended_before other ledger.requests ended apart) disk)
@@ -187,7 +187,8 @@ module _ (req : ℕ) where
       marked_none Lost lost_closed other (ledger.disks disk) (λ apart. so (ended_before other ledger.requests ended apart) disk)
   stays_so ledger (Read disk block bytes) may so ended = so ended
 
-  along : (events : List HistEvent) (ledger : Ledger) → AllElseMayFollow ledger events → IsSo ledger → IsSo (fold ledger_after ledger events)
+  along : (events : List HistEvent) (ledger : Ledger) → AllElseMayFollow ledger events → IsSo ledger
+      → IsSo (fold ledger_after ledger events)
   along [] ledger may so = so
   along (event ∷ events) ledger may so = along events (ledger_after ledger event) may.1 (stays_so ledger event may.0 so)
 

@@ -1,9 +1,9 @@
--- In each run in range, and in the middle of its steps, a node's recovery is of the members of its epoch and asks for its lists as it is to,
--- and the node's requests come to no `Recovered`.
-use Rattle.std.proofs.Common.{◌≡◌, ◌≢◌, ⊎_elim, arith, ℕ, suc, ◌<◌, true, List, [], ◌∷◌, ◌++◌, length, Some, refl, sym, ap, subst, ◌∙◌}
+-- In each run in range, and in the middle of its steps, a node's recovery is of the members of its epoch and asks for its lists as it is
+-- to, and the node's requests come to no `Recovered`.
+use Rattle.std.proofs.Common.{◌≡◌, arith, ℕ, suc, ◌<◌, true, List, [], ◌∷◌, ◌++◌, length, Some, refl, sym, ap, subst, ◌∙◌}
 use Rattle.std.specs.List.Sorted.{IsStrictlyIncreasing}
 use Rattle.std.specs.FinMap as tree
-use Rattle.proof_tools.proofs.FiniteMaps.{get-insert_same, get-insert_cases}
+use Rattle.proof_tools.proofs.FiniteMaps.{get-insert_same}
 use Rattle.object_id.specs.declared.entry.Entry.{Entry}
 use Rattle.object_id.specs.declared.entry.Member.{Member}
 use Rattle.object_id.specs.declared.node.NodeId.{NodeId}
@@ -23,38 +23,36 @@ use Rattle.sheep_node.specs.State.{Node}
 use Rattle.sheep_node.specs.StepState.{StepState, at_first}
 use Rattle.sheep_node.specs.LogReading.{epoch_members, node_with_entry, begins_recovery, entry_read, come_back_with, on_back}
 use Rattle.sheep_node.specs.StepFacts.{IsByTheLog}
-use Rattle.sheep_node.specs.Changes as changes
 use Rattle.sheep_node.specs.Changes.{input_received, Leads}
 use Rattle.sheep_node.proofs.LogLaws.{epoch_more, reads_follow, opening_follows}
 use Rattle.sheep_node.proofs.PeerLog.{entries_reading}
 use Rattle.sheep_node.proofs.StepChain.{step_chain}
-use Rattle.sheep_node.specs.declared.event.Event.{Event}
 use Rattle.sheep_world.specs.Asking.{ask_of_statement}
-use Rattle.sheep_world.specs.Step.{EventOutcome, step}
 use Rattle.sheep_world.specs.World.{Host, World}
 use Rattle.sheep_world.specs.Opening.{format_entry, initial_world}
 use Rattle.sheep_world.specs.MembershipChanges.{join_of, last_weight}
-use Rattle.sheep_world.specs.NodeCauses.{NodeCause, GuestAsks, RequestComes, ReplyComes, LossIsTold, EntryIsRead, EntryIsPut, RecoveryTicks, WorkIsRetried, input_of_cause, IsCause, host_with_node}
+use Rattle.sheep_world.specs.NodeCauses.{NodeCause, GuestAsks, RequestComes, ReplyComes, LossIsTold, EntryIsRead, EntryIsPut, RecoveryTicks}
+use Rattle.sheep_world.specs.NodeCauses.{WorkIsRetried, input_of_cause, IsCause}
 use Rattle.sheep_world.specs.EventKinds.{log_after_return, world_after_return}
 use Rattle.sheep_world.specs.HostChanges.{HostsKeep, host_after_return}
 use Rattle.sheep_world.specs.Began.{Began}
 use Rattle.sheep_world.specs.LogHolds.{is_member_now}
-use Rattle.sheep_world.proofs.BegunWorlds.{each_where, goes_on}
+use Rattle.sheep_world.proofs.BegunWorlds.{each_where}
 use Rattle.sheep_world.proofs.LogAtOpening.{opens_log, log-holds}
 use Rattle.sheep_world.proofs.LogFrontLaws.{all_read, read_one}
 use Rattle.sheep_world.proofs.NextEntries.{reads-may}
 use Rattle.sheep_world.proofs.NodesByTheLog.{by_the_log, knows_its_number}
 use Rattle.sheep_world.proofs.ValidNodes.{first_may}
 use Rattle.overlap_law.specs.Past.{MomentWithPast}
-use Rattle.overlap_law.specs.StepMoments.{SteppingNode, IsStepping, first_in_step, last_in_step, LeadsInStep, hosts_in_step}
-use Rattle.overlap_law.specs.MomentChanges as moments
 use Rattle.overlap_law.specs.MomentChanges.{MomentChange, RunsAreInRange}
 use Rattle.overlap_law.proofs.AskedEntries.{IsAskedEntry, OnlyAskedEntries, AsksForNoRecovered}
 use Rattle.overlap_law.proofs.ListedNodes.{KnowsItsLists, opening_lists, read_lists, back_lists, lists_so_far, quiet_lists}
 use Rattle.overlap_law.proofs.ListMessages.{numbers_of}
 use Rattle.overlap_law.proofs.OutboxEnds.{EndsAreOwn, ends_received, ends_so_far, opening_ends}
 use Rattle.overlap_law.proofs.RecoveredEntries.{only_received, puts_so_far, opening_only}
-use Rattle.overlap_law.proofs.RecoveryMembers.{some_read, nodes_of_members, RecoversByTheLog, opening_recovers, recovers_so_far, quiet_recovers, newest_then, read_recovers, back_members, back_recovers}
+use Rattle.overlap_law.proofs.RecoveryMembers.{some_read, nodes_of_members, RecoversByTheLog, opening_recovers, recovers_so_far}
+use Rattle.overlap_law.proofs.RecoveryMembers.{quiet_recovers, newest_then, read_recovers, back_members, back_recovers}
+use Rattle.overlap_law.proofs.ClosedWorlds.{hosts_after}
 
 -- what holds of a node
 pub record IsSoundNode (node : Node) : Type 0 where
@@ -78,7 +76,8 @@ ascend_in entries log list is =
 -- ---- the cause of a step
 
 -- a session asks for no entry
-no_entry_asked : (ask : Ask) (session req : ℕ) (s : Statement) → ask_of_statement s ≡ Some ask → AsksForNoRecovered (inputs.Guest req session ask)
+no_entry_asked : (ask : Ask) (session req : ℕ) (s : Statement) → ask_of_statement s ≡ Some ask
+    → AsksForNoRecovered (inputs.Guest req session ask)
 no_entry_asked (asks.Disk ask) session req s is = tt
 no_entry_asked (asks.Vdi ask) session req s is = tt
 no_entry_asked (asks.Object work) session req s is = tt
@@ -96,7 +95,8 @@ no_entry_asked (asks.Entry entry) session req s is = by_statement s is
     by_statement (lines.Check session) is = absurd (cc (is))
     by_statement _ is = absurd (cc (is))
 
-pub asks_no_recovered : (script : List Statement) (world : World) (n : ℕ) (host : Host) (cause : NodeCause) → IsCause script world n host cause
+pub asks_no_recovered : (script : List Statement) (world : World) (n : ℕ) (host : Host) (cause : NodeCause)
+    → IsCause script world n host cause
     → AsksForNoRecovered (input_of_cause cause)
 asks_no_recovered script world n host (GuestAsks session req ask) asked = no_entry_asked ask session.number req asked.line asked.asks
 asks_no_recovered script world n host (RequestComes name to request) here = tt
@@ -110,7 +110,8 @@ asks_no_recovered script world n host WorkIsRetried may = tt
 -- ---- an entry is read
 
 sound_reading : (entry : Entry) (node : Node) → IsByTheLog node → IsByTheLog (entry_read entry node)
-    → (begins_recovery entry node ≡ true → IsLog (entry_read entry node).peer.entries) → IsSoundNode node → IsSoundNode (entry_read entry node)
+    → (begins_recovery entry node ≡ true → IsLog (entry_read entry node).peer.entries) → IsSoundNode node
+    → IsSoundNode (entry_read entry node)
 unfolding entry_read
 sound_reading entry node before after log sound = record {
   recovers = read_recovers entry node before after sound.recovers;
@@ -125,7 +126,8 @@ sound_reading entry node before after log sound = record {
 
 module _ (script : List Statement) (range : RunsAreInRange script) where
   module _ (world : World) (began : Began script world) (n : ℕ) (host : Host) (there : tree.get world.hosts n ≡ Some host) where
-    quiet_sound : (cause : NodeCause) → IsCause script world n host cause → IsSoundNode host.node → IsSoundNode (input_received (input_of_cause cause) (at_first host.node)).node
+    quiet_sound : (cause : NodeCause) → IsCause script world n host cause → IsSoundNode host.node
+        → IsSoundNode (input_received (input_of_cause cause) (at_first host.node)).node
     quiet_sound (GuestAsks session req ask) so sound = record {
       recovers = quiet_recovers (inputs.Guest req session.number ask) host.node refl sound.recovers;
       only = only_received (inputs.Guest req session.number ask) host.node sound.only;
@@ -180,7 +182,8 @@ module _ (script : List Statement) (range : RunsAreInRange script) where
 
     -- at each point of its step
     pub sound_so_far : (cause : NodeCause) → IsCause script world n host cause → IsSoundNode host.node → {so_far : StepState}
-        → Leads (input_of_cause cause) host.node (input_received (input_of_cause cause) (at_first host.node)) so_far → IsSoundNode so_far.node
+        → Leads (input_of_cause cause) host.node (input_received (input_of_cause cause) (at_first host.node)) so_far
+        → IsSoundNode so_far.node
     sound_so_far cause so sound {so_far} leads =
         let received = quiet_sound cause so sound in
         let puts = puts_so_far (input_of_cause cause) host.node (asks_no_recovered script world n host cause so) sound.only leads in
@@ -191,14 +194,17 @@ module _ (script : List Statement) (range : RunsAreInRange script) where
           ends = ends_so_far (input_of_cause cause) host.node so_far puts sound.ends;
         }
 
-  sound_back : (log : List Entry) (node : Node) → IsLog log → 1 < epoch_of log → members.is_member node.me.0 (members_in log (epoch_of log)) ≡ true
-      → OnlyAskedEntries node → EndsAreOwn node → {so_far : StepState} → Leads (inputs.Back log) node (input_received (inputs.Back log) (at_first node)) so_far → IsSoundNode so_far.node
+  sound_back : (log : List Entry) (node : Node) → IsLog log → 1 < epoch_of log
+      → members.is_member node.me.0 (members_in log (epoch_of log)) ≡ true
+      → OnlyAskedEntries node → EndsAreOwn node → {so_far : StepState}
+      → Leads (inputs.Back log) node (input_received (inputs.Back log) (at_first node)) so_far → IsSoundNode so_far.node
   sound_back log node is_log above member only ends {so_far} leads =
       let puts = puts_so_far (inputs.Back log) node tt only leads in
       record {
         recovers = recovers_so_far (inputs.Back log) node leads (back_recovers log node above member);
         only = puts.only;
-        lists = lists_so_far (on_back log node) so_far puts (back_lists log node (ascend_in log is_log (epoch_members (come_back_with log node)) (back_members log node)));
+        lists = lists_so_far (on_back log node) so_far puts (back_lists log node
+            (ascend_in log is_log (epoch_members (come_back_with log node)) (back_members log node)));
         ends = ends_so_far (inputs.Back log) node so_far puts ends;
       }
 
@@ -252,43 +258,23 @@ module _ (script : List Statement) (range : RunsAreInRange script) where
         let more : epoch_of log ≡ suc (epoch_of world.log) = epoch_more world.log (join_of script n (last_weight world.log n)) refl in
         let member : is_member_now log n ≡ true = (holds.well n after (get-insert_same world.hosts n after)).stands refl in
         sound_back log host.node holds.log (omega (arith, more))
-        (ap (λ (k : ℕ). members.is_member k (members_in log (epoch_of log))) own ∙ member) (so began).only (so began).ends (step_chain (inputs.Back log) host.node);
+        (ap (λ (k : ℕ). members.is_member k (members_in log (epoch_of log))) own ∙ member) (so began).only (so began).ends
+        (step_chain (inputs.Back log) host.node);
     joins = λ world n began control next. sound_at_opening (record { 0 = n });
   }
 
-  pub sound_in_worlds : (world : World) → Began script world → (n : ℕ) (host : Host) → tree.get world.hosts n ≡ Some host → IsSoundNode host.node
+  pub sound_in_worlds : (world : World) → Began script world → (n : ℕ) (host : Host) → tree.get world.hosts n ≡ Some host
+      → IsSoundNode host.node
   sound_in_worlds world began n host there =
       each_where script (Began script) IsSoundWhereBegun (λ world begun. begun) sound_kept world began n host there began
 
   -- ---- and every moment of a step
 
   module _ (start : MomentWithPast) (began : Began script start.world) where
-    in_step : (stepping : SteppingNode) → IsStepping script start.world stepping → (so_far : StepState) → LeadsInStep stepping (first_in_step stepping) so_far
-        → (n : ℕ) (host : Host) → tree.get (hosts_in_step stepping start.world so_far) n ≡ Some host → IsSoundNode host.node
-    in_step stepping is so_far leads n host there = ⊎_elim
-        (λ (own : (n ≡ stepping.n) × (host_with_node stepping.host so_far.node ≡ host)).
-        subst (λ (h : Host). IsSoundNode h.node) own.1
-        (sound_so_far start.world began stepping.n stepping.host is.there stepping.cause is.caused
-        (sound_in_worlds start.world began stepping.n stepping.host is.there) leads))
-        (λ (other : (n ≢ stepping.n) × (tree.get start.world.hosts n ≡ Some host)). sound_in_worlds start.world began n host other.1)
-        (get-insert_cases start.world.hosts stepping.n (host_with_node stepping.host so_far.node) n host there)
-
-    at_end : (event : Event) (made : EventOutcome) → step script event start.world ≡ Some made → (n : ℕ) (host : Host)
-        → tree.get made.world.hosts n ≡ Some host → IsSoundNode host.node
-    at_end event made happened = sound_in_worlds made.world (goes_on script event start.world made began happened)
-
     pub sound_after : {before after : MomentWithPast} → MomentChange script start before after → (n : ℕ) (host : Host)
         → tree.get after.world.hosts n ≡ Some host → IsSoundNode host.node
-    sound_after (moments.StepBegins stepping is by) n host there = in_step stepping is (first_in_step stepping) changes.Still n host there
-    sound_after (moments.StepGoesOn stepping so_far next is by within) n host there =
-        in_step stepping is next (changes.Then within.leads within.change) n host there
-    sound_after (moments.StepIsMade stepping is by) n host there =
-        in_step stepping is (last_in_step stepping) (step_chain (input_of_cause stepping.cause) stepping.host.node) n host there
-    sound_after (moments.LossIsUntold event made happened h) n host there = at_end event made happened n host there
-    sound_after (moments.DeliveryIsUnread event made happened h) n host there = at_end event made happened n host there
-    sound_after (moments.NodeIsLost event made happened h) n host there = at_end event made happened n host there
-    sound_after (moments.NodeLeaves event made happened h) n host there = at_end event made happened n host there
-    sound_after (moments.NodeIsReweighted event made happened h) n host there = at_end event made happened n host there
-    sound_after (moments.NodeJoins event made happened h) n host there = at_end event made happened n host there
-    sound_after (moments.NodeComesBack event made happened h) n host there = at_end event made happened n host there
-    sound_after (moments.PhaseEnds event made happened h) n host there = at_end event made happened n host there
+    sound_after change =
+        hosts_after script (λ (n : ℕ) (host : Host). IsSoundNode host.node) sound_in_worlds start began
+        (λ stepping is by so_far leads.
+        sound_so_far start.world began stepping.n stepping.host is.there stepping.cause is.caused
+        (sound_in_worlds start.world began stepping.n stepping.host is.there) leads) change

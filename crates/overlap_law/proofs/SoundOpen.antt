@@ -303,8 +303,8 @@ module _ (script : List Statement) (range : RunsAreInRange script) (world : Worl
             (told_ends script range world began refused are once req n host there up world write (ReplyComes name from rsp) vid reply among
             once on_it
             (check_does script (has_begun_check_write script req world write) req checks_it
-            (or_right (option_map_or (has_check_written req) (gateway_of script req world) false) (option_map_or (is_write_of req) write false)
-            by_write)))
+            (or_right (option_map_or (has_check_written req) (gateway_of script req world) false)
+            (option_map_or (is_write_of req) write false) by_write)))
 
         check_begun : Unended all → IsAtWork script came.hosts came.guests req vid
         check_begun unended =
@@ -392,7 +392,8 @@ module _ (script : List Statement) (range : RunsAreInRange script) (world : Worl
   origin event made (UnreadDelivery h) = subst OriginThen h.made_so (λ unended item. Had item)
   origin event made (NodeLoss h) = subst OriginThen h.made_so (λ unended item.
       let requests = filter (is_lost_write script world h.n h.host) (numbered_requests script) in
-      Had (quiet_had (writers_lost script world h.n (Some h.host)) (lost_none script vid (λ (q : ℕ). true) requests) (begins.lost_none req requests) item))
+      Had (quiet_had (writers_lost script world h.n (Some h.host)) (lost_none script vid (λ (q : ℕ). true) requests)
+      (begins.lost_none req requests) item))
   origin event made (NodeLeave h) = subst OriginThen h.made_so (λ unended item. Had item)
   origin event made (NodeReweight h) = subst OriginThen h.made_so (λ unended item. Had item)
   origin event made (NodeJoin h) = subst OriginThen h.made_so (λ unended item. Had item)

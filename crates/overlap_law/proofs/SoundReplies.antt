@@ -83,11 +83,16 @@ module _ (q : ℕ) where
   gone_keeps requests replies req reply (inr (rsp, among)) = inr (rsp, still_there (req, reply) replies (q, rsp) among)
   gone_keeps requests replies req reply (inl (was, got)) = ⊎_elim
       (λ (own : q ≡ req).
-      inr (reply, subst (λ (k : ℕ). Contains (replies_in_order (req, reply) replies) (k, reply)) (sym own) (put_there (req, reply) replies)))
+      inr (
+        reply,
+        subst (λ (k : ℕ). Contains (replies_in_order (req, reply) replies) (k, reply)) (sym own)
+            (put_there (req, reply) replies),
+      ))
       (λ (other : q ≢ req). inl (was, get-remove_other requests req q other ∙ got))
       (cases_eq q req)
 
-  ended_keeps : (session req : ℕ) (reply : GuestRsp) (so_far : StepState) → ThereSoFar so_far → ThereSoFar (request_ended session req reply so_far)
+  ended_keeps : (session req : ℕ) (reply : GuestRsp) (so_far : StepState) → ThereSoFar so_far
+      → ThereSoFar (request_ended session req reply so_far)
   unfolding request_ended
   ended_keeps session req reply so_far there = gone_keeps so_far.node.requests so_far.outputs.replies req reply there
 
@@ -124,7 +129,7 @@ module _ (q : ℕ) where
     next_keeps so_far session req asked lined (Again work course from next there request) = λ there. there
     next_keeps so_far session req asked lined (AgainAlone work from next there none) = λ there. there
 
-    change_keeps : (so_far next : StepState) → Change input node so_far next → ThereSoFar so_far → ThereSoFar next
+    pub change_keeps : (so_far next : StepState) → Change input node so_far next → ThereSoFar so_far → ThereSoFar next
     change_keeps so_far next (changes.Marks req number work attempt status learns over) there = there
     change_keeps so_far next (changes.Fails session req number work attempt status course ends done why) there = there
     change_keeps so_far next (changes.Stops session req number work attempt status course bytes ends over) there = there
@@ -154,7 +159,7 @@ module _ (q : ℕ) where
     change_keeps so_far next (changes.Recovers due) there = there
 
   -- what a step receives leaves the node's requests, as long as it doesn't come back
-  received_there : (cause : NodeCause) (node : Node) (request : Request) → tree.get node.requests q ≡ Some request
+  pub received_there : (cause : NodeCause) (node : Node) (request : Request) → tree.get node.requests q ≡ Some request
       → tree.get (input_received (input_of_cause cause) (at_first node)).node.requests q ≡ Some request
   unfolding entry_read on_request on_recover_tick
   received_there (GuestAsks session req ask) node request got = got
@@ -163,8 +168,8 @@ module _ (q : ℕ) where
       cond_either (λ (so_far : StepState). tree.get so_far.node.requests q ≡ Some request) (gateways.gateway_awaits rsp.number node.gateway)
       (at_first node) (recovery_stepped (recovery_steps.recovery_on_reply rsp (recovery_state_of node)) (at_first node)) got got
   received_there (LossIsTold name packet) node request got =
-      cond_either (λ (so_far : StepState). tree.get so_far.node.requests q ≡ Some request) (gateways.gateway_awaits name.number node.gateway)
-      (at_first node) (recovery_stepped (recovery_steps.recovery_on_loss name.number (recovery_state_of node)) (at_first node)) got got
+      cond_either (λ (so_far : StepState). tree.get so_far.node.requests q ≡ Some request)
+      (gateways.gateway_awaits name.number node.gateway) (at_first node) (recovery_stepped (recovery_steps.recovery_on_loss name.number (recovery_state_of node)) (at_first node)) got got
   received_there (EntryIsRead entry) node request got = got
   received_there (EntryIsPut entry) node request got = by_outbox node.outbox
     where
@@ -211,8 +216,8 @@ module _ (node : Node) (number req : ℕ) (ask : DiskAsk) where
       arrived : StepState
       arrived = with_queued_request number req ask (Some disk) (with_course number req (Waiting ask) (at_first node))
 
-      there : tree.get (with_queued_request number req ask (Some disk) (with_course number req (Waiting ask) (at_first node))).node.requests req
-          ≡ Some (record { session = number; course = Waiting ask })
+      there : tree.get (with_queued_request number req ask (Some disk)
+          (with_course number req (Waiting ask) (at_first node))).node.requests req ≡ Some (record { session = number; course = Waiting ask })
       there = get-insert_same node.requests req (record { session = number; course = Waiting ask })
 
   -- it is there behind the step, or is replied to

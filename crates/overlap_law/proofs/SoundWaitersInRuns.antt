@@ -51,7 +51,8 @@ module _ (script : List Statement) (range : RunsAreInRange script) (events : Lis
     (ran : run_with_past script events ≡ Some start) (trail : MomentTrail script start before)
     (change : MomentChange script start before after) (all : WaitersMadeNone before.world.hosts before.past.attempts) where
   module _ (n : ℕ) (host : Host) (at_host : tree.get after.world.hosts n ≡ Some host) (up : host.is_lost ≡ false) (req : ℕ)
-      (request : Request) (ask : DiskAsk) (there : tree.get host.node.requests req ≡ Some request) (waits : request.course ≡ Waiting ask) where
+      (request : Request) (ask : DiskAsk) (there : tree.get host.node.requests req ≡ Some request)
+      (waits : request.course ≡ Waiting ask) where
     -- an attempt that begins is of a request that has a work, so that doesn't wait
     opened_none : (now : AttemptRecord) → IsOpened script start after now → now.gateway.0 ≡ n → now.req ≡ req → ⊥
     opened_none now o gateway own =
@@ -74,7 +75,8 @@ module _ (script : List Statement) (range : RunsAreInRange script) (events : Lis
         let wanted : IsWorkWanted (inode_open (session_among request.session host.node.sessions).disk) request.course o.asked.work
         = subst (λ (r : Option Request). IsWantedAt host.node.sessions r o.asked.work) there
         (well.wanted req o.asked.work (inl (record o.asked { stage = Open (attempt_in o.asked o.lined.node) }, got, refl))) in
-        subst (λ (c : Course). IsWorkWanted (inode_open (session_among request.session host.node.sessions).disk) c o.asked.work) waits wanted
+        subst (λ (c : Course). IsWorkWanted (inode_open (session_among request.session host.node.sessions).disk) c o.asked.work) waits
+        wanted
       where
         well_numbered : (o : IsOpened script start after now) → o.next.node.me.0 ≡ o.stepping.n
         well_numbered o =

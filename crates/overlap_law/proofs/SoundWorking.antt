@@ -48,16 +48,16 @@ by_ask opened disk asked (disk_asks.Read offset size) is (inl (from, payload, wr
 by_ask opened disk asked (disk_asks.Read offset size) is (inr checks) of allowed = absurd (cc (checks, of))
 by_ask opened disk asked (disk_asks.Write offset payload) is writes of allowed = working_so opened disk is allowed
 
-by_course : (opened : Option Disk) (disk : Disk) (asked : Option Ask) (began : Option ℕ) (course : Course) → opened ≡ Some disk
+pub working_course : (opened : Option Disk) (disk : Disk) (asked : Option Ask) (began : Option ℕ) (course : Course) → opened ≡ Some disk
     → AsksToWrite asked → IsCourseOfAsk asked opened began course → IsAllowed (opened_as opened) course
     → ((op : Op) → course ≡ Commanding op → ⊥) → disk.snapshot ≡ false
-by_course opened disk asked began (Waiting ask) is writes of allowed plain = by_ask opened disk asked ask is writes of.0 allowed
-by_course opened disk asked began (Driving driver) is writes of allowed plain =
+working_course opened disk asked began (Waiting ask) is writes of allowed plain = by_ask opened disk asked ask is writes of.0 allowed
+working_course opened disk asked began (Driving driver) is writes of allowed plain =
     by_driver opened disk of.on.disk asked of.ask driver is writes of.of of.is allowed
-by_course opened disk asked began (Commanding op) is writes of allowed plain = absurd (plain op refl)
-by_course opened disk asked began (Checking check) is writes of allowed plain = working_so opened disk is (check.vid, allowed)
-by_course opened disk asked began (DoingWork work) is writes of allowed plain = absurd of
-by_course opened disk asked began (AwaitingDecision entry) is writes of allowed plain = absurd of
+working_course opened disk asked began (Commanding op) is writes of allowed plain = absurd (plain op refl)
+working_course opened disk asked began (Checking check) is writes of allowed plain = working_so opened disk is (check.vid, allowed)
+working_course opened disk asked began (DoingWork work) is writes of allowed plain = absurd of
+working_course opened disk asked began (AwaitingDecision entry) is writes of allowed plain = absurd of
 
 module _ (script : List Statement) (range : RunsAreInRange script) (world : World) (began : Began script world) (n : ℕ) (host : Host)
     (there : tree.get world.hosts n ≡ Some host) (req : ℕ) (request : Request) (got : tree.get host.node.requests req ≡ Some request)
@@ -69,5 +69,5 @@ module _ (script : List Statement) (range : RunsAreInRange script) (world : Worl
       (requests_placed script range world began n host there req) in
       let allowed : IsAllowed (opened_by (session_among request.session host.node.sessions)) request.course
       = subst (IsSeen opened_by IsAllowed host.node.sessions) got ((well_in_world script range world began n host there).allowed req) in
-      by_course (session_among request.session host.node.sessions).disk open_disk.disk (asked_by script req) start request.course
+      working_course (session_among request.session host.node.sessions).disk open_disk.disk (asked_by script req) start request.course
       open_disk.opened (asks_to_write script range world began n host there req request got writer writer) course allowed open_disk.plain

@@ -54,7 +54,7 @@ check_off_disk None is = absurd (cc (is))
 check_off_disk (Some (lines.Check session)) is = refl
 check_off_disk (Some s) is = absurd (cc (is))
 
-check_no_write : (o : Option Statement) → option_map_or is_check o false ≡ true → option_map_or is_write o false ≡ false
+pub check_no_write : (o : Option Statement) → option_map_or is_check o false ≡ true → option_map_or is_write o false ≡ false
 check_no_write None is = absurd (cc (is))
 check_no_write (Some (lines.Check session)) is = refl
 check_no_write (Some s) is = absurd (cc (is))
@@ -83,7 +83,7 @@ module _ (req vid block : ℕ) where
   one_calm (WriterLost other) ends begins = ends
   one_calm (Read disk at bytes) ends begins = refl
 
-  all_calm : (events : List HistEvent) → list_any (ends_write_of req) events ≡ false
+  pub all_calm : (events : List HistEvent) → list_any (ends_write_of req) events ≡ false
       → list_any (begins_by_others vid (λ (other : ℕ). other == req)) events ≡ false
       → list_any (disturbs req (λ (other : ℕ). other == req) vid block) events ≡ false
   all_calm [] ends begins = refl
@@ -96,7 +96,7 @@ module _ (req vid block : ℕ) where
       λ i. first i || rest i
 
 module _ (script : List Statement) (range : RunsAreInRange script) (req : ℕ) (checks : is_check_at script req ≡ true) where
-  writer : IsWriterAt script req
+  pub writer : IsWriterAt script req
   writer = inr checks
 
   module _ (world : World) (began : Began script world) (n : ℕ) (host : Host) (there : tree.get world.hosts n ≡ Some host)
@@ -120,7 +120,7 @@ module _ (script : List Statement) (range : RunsAreInRange script) (req : ℕ) (
         same_Some host other (sym there ∙ ap (tree.get world.hosts) node ∙ found)
 
     -- so only the check begins writes on the disk that its session has open
-    only_own : host.is_lost ≡ false → (disk : Disk) → (session_among request.session host.node.sessions).disk ≡ Some disk
+    pub only_own : host.is_lost ≡ false → (disk : Disk) → (session_among request.session host.node.sessions).disk ≡ Some disk
         → disk.snapshot ≡ false → (event : Event) (made : EventOutcome) → step script event world ≡ Some made
         → list_any (begins_by_others disk.inode.vid (λ (other : ℕ). other == req)) made.grown ≡ false
     only_own up disk opened working =
@@ -150,12 +150,12 @@ module _ (script : List Statement) (range : RunsAreInRange script) (req : ℕ) (
         eq-eqb write.req req (same_Some write.req req (sym named ∙ own)))
 
   -- what began on the disk, on a block that it has, stands
-  abbrev StandsOn : List Entry → List HistEvent → ℕ → Type 0
+  abbrev pub StandsOn : List Entry → List HistEvent → ℕ → Type 0
   StandsOn log history vid = (block : ℕ) (coded : Bool) (bytes : List ℕ) → Contains history (WriteStart req vid block coded bytes)
       → has_block ((ledger_of history).disks vid) block ≡ true
       → Stands req (λ (other : ℕ). other == req) bytes (items_in ((ledger_of history).disks vid) block)
 
-  stands_keeps : IsKeptOnHeld script range req writer StandsOn
+  pub stands_keeps : IsKeptOnHeld script range req writer StandsOn
   stands_keeps world began event made happened grows n host there up request got disk opened working others ends history was
       block coded bytes there_is has =
       kept_then req disk.inode.vid block coded bytes (Stands req (λ (other : ℕ). other == req) bytes)
@@ -167,7 +167,7 @@ module _ (script : List Statement) (range : RunsAreInRange script) (req : ℕ) (
       (only_own world began n host there request got up disk opened working event made happened))
       has (was block coded bytes) there_is
 
-  stands_starts : HoldsAtBegin script range req writer StandsOn
+  pub stands_starts : HoldsAtBegin script range req writer StandsOn
   stands_starts world began n host there session other ask caused own request got disk opened working others ends history unbegun
       block coded bytes there_is has = absurd (⊎_elim
       (λ (old : Contains history (WriteStart req disk.inode.vid block coded bytes)).

@@ -1,6 +1,7 @@
 -- What of an event's addition to the history doesn't disturb a write's item in a block: requests of its session begin that wait for it, and
 -- none of these is done.
-use Rattle.std.proofs.Common.{◌≡◌, ◌≢◌, ⊎_elim, ℕ, zero, suc, ◌+◌, ◌/◌, ◌<◌, ◌==◌, Bool, true, false, not, ◌&&◌, ◌||◌, cond, List, [], ◌∷◌, filter, map, length, Contains, Option, Some, None, refl, sym, ap, ◌∙◌, arith}
+use Rattle.std.proofs.Common.{◌≡◌, ◌≢◌, ⊎_elim, ℕ, zero, suc, ◌+◌, ◌/◌, ◌<◌, ◌==◌, Bool, true, false, not, ◌&&◌, ◌||◌, List, [], ◌∷◌, map}
+use Rattle.std.proofs.Common.{length, Contains, Option, Some, None, refl, sym, ap, ◌∙◌, arith}
 use Rattle.std.specs.Prelude.{flat_map, nat_le, nat_lt}
 use Rattle.std.specs.List.{list_any, range_with_len}
 use Rattle.std.specs.Option.{option_map_or}
@@ -10,29 +11,24 @@ use Rattle.object_id.specs.declared.limits.TheConstants.{BLOCK_BYTES}
 use Rattle.object_id.specs.declared.oid.Kind.TheVariants.{Block}
 use Rattle.gf256.specs.Part.{is_in_strips}
 use Rattle.object_id.specs.declared.entry.Entry.{Entry}
-use Rattle.object_id.specs.declared.entry.Entry.TheVariants as entries
-use Rattle.object_id.specs.declared.oid.Vid.{Vid}
-use Rattle.vdi_directory.specs.declared.decision.Decision.{Decision}
-use Rattle.vdi_directory.specs.declared.decision.Decision.TheVariants as decisions
-use Rattle.vdi_directory.specs.declared.header.Header.{Header}
-use Rattle.vdi_directory.specs.Decisions.{decision_after}
 use Rattle.disk_history.specs.declared.event.HistEvent.{HistEvent}
-use Rattle.disk_history.specs.declared.event.HistEvent.TheVariants.{Create, Copy, Delete, WriteStart, WriteDone, WriteRefused, WriterLost, Read}
+use Rattle.disk_history.specs.declared.event.HistEvent.TheVariants.{Create, Copy, Delete, WriteStart, WriteDone, WriteRefused, WriterLost}
+use Rattle.disk_history.specs.declared.event.HistEvent.TheVariants.{Read}
 use Rattle.cluster_script.specs.declared.statement.Statement.{Statement}
 use Rattle.cluster_script.specs.declared.statement.Statement.TheVariants as lines
 use Rattle.cluster_script.specs.NumberedRequests.{payload_of, request_at}
 use Rattle.cluster_script.specs.Statements.{is_check}
 use Rattle.guest_driver.specs.declared.disk.Disk.{Disk}
 use Rattle.peer_proto.specs.declared.guest.GuestRsp.{GuestRsp}
-use Rattle.peer_proto.specs.declared.guest.GuestRsp.TheVariants as answers
 use Rattle.sheep_node.specs.declared.check_write.CheckWrite.{CheckWrite}
-use Rattle.sheep_world.specs.Granted.{granted_header, disk_cloned, disk_made, granted_adds, decided_adds, entry_adds}
-use Rattle.sheep_world.specs.HistoryAdditions.{added_by, begins_on, block_checked, block_in, block_written, blocks_read, check_write_adds, check_write_grown, disk_of, has_begun_check_write, is_on_disk, reply_adds, reply_grown, write_ended}
+use Rattle.sheep_world.specs.Granted.{entry_adds}
+use Rattle.sheep_world.specs.HistoryAdditions.{begins_on, block_in, check_write_grown, reply_grown}
 use Rattle.sheep_world.specs.World.{World}
 use Rattle.overlap_law.specs.DiskEvents.{begins_by_others, ends_write_of, is_asked_in}
 use Rattle.overlap_law.specs.PastWords.{is_refusal}
 use Rattle.overlap_law.proofs.BlockItems.{apart_back}
-use Rattle.overlap_law.proofs.DiskEventsOfHolders.{HasNone, flat_none, flat_none_in, map_none, map_none_in}
+use Rattle.overlap_law.proofs.ClosedAdditions.{none_of, check_adds, replies_add, end_so, entry_add}
+use Rattle.overlap_law.proofs.DiskEventsOfHolders.{HasNone, map_none_in}
 use Rattle.overlap_law.proofs.StandingBefore.{disturbs}
 use Rattle.overlap_law.proofs.StandingMeets.{touches, waits_for}
 
@@ -151,52 +147,17 @@ module _ (script : List Statement) (req session block : ℕ) where
       by_statement (Some (lines.Check number)) is = refl
       by_statement (Some s) is = absurd (cc (is))
 
+  abbrev Calm : HistEvent → Type 0
+  Calm event = strays event ≡ false
+
   pub check_calm : (write : Option CheckWrite) → HasNone strays (option_map_or (check_write_grown script) write [])
   check_calm None = refl
-  check_calm (Some write) = by_check (option_map_or is_check (request_at script write.req) false) refl
-    where
-      by_check : (b : Bool) → option_map_or is_check (request_at script write.req) false ≡ b
-          → HasNone strays (cond b (check_write_adds write) [])
-      by_check false is = refl
-      by_check true is =
-          flat_none strays (block_checked write)
-          (λ place.
-          let start = starts_here write.req (block_written write place) (λ same. checks_touch write.req is) in
-          λ i. false || (start i || false))
-          (filter (is_on_disk write) (range_with_len 0 (length write.value / BLOCK_BYTES)))
+  check_calm (Some write) =
+      none_of strays (check_write_grown script write)
+      (check_adds Calm (λ disk at bytes. refl) script write
+      (λ at coded bytes is. starts_here write.req at (λ same. checks_touch write.req is)))
 
   -- ---- what replies add
-
-  ended_calm : (other : ℕ) (rsp : GuestRsp) → (other == req) ≡ false → (is_refusal rsp ≡ false → waiting other ≡ false)
-      → HasNone strays (write_ended other rsp ∷ [])
-  ended_calm other answers.Done apart calm = let done = calm refl in λ i. (apart i || done i) || false
-  ended_calm other (answers.Piece bytes) apart calm = let done = calm refl in λ i. (apart i || done i) || false
-  ended_calm other (answers.Refused cause) apart calm = λ i. apart i || false
-  ended_calm other (answers.Granted id) apart calm = let done = calm refl in λ i. (apart i || done i) || false
-  ended_calm other (answers.Checked found) apart calm = let done = calm refl in λ i. (apart i || done i) || false
-
-  read_calm : (disk offset : ℕ) (rsp : GuestRsp) → HasNone strays (blocks_read disk offset rsp)
-  read_calm disk offset answers.Done = refl
-  read_calm disk offset (answers.Piece bytes) =
-      map_none strays (λ (place : ℕ). Read disk (offset / BLOCK_BYTES + place) (block_in bytes place)) (λ place. refl)
-      (range_with_len 0 (length bytes / BLOCK_BYTES))
-  read_calm disk offset (answers.Refused cause) = refl
-  read_calm disk offset (answers.Granted id) = refl
-  read_calm disk offset (answers.Checked found) = refl
-
-  adds_calm : (written : Bool) (other : ℕ) (rsp : GuestRsp) (disk : ℕ) (s : Statement) → (other == req) ≡ false
-      → (is_refusal rsp ≡ false → waiting other ≡ false) → HasNone strays (reply_adds written other rsp disk s)
-  adds_calm written other rsp disk (lines.Read number offset size) apart calm = read_calm disk offset rsp
-  adds_calm written other rsp disk (lines.Write number offset size pattern) apart calm = ended_calm other rsp apart calm
-  adds_calm true other rsp disk (lines.Check number) apart calm = ended_calm other rsp apart calm
-  adds_calm false other rsp disk (lines.Check number) apart calm = refl
-  adds_calm written other rsp disk s apart calm = refl
-
-  added_calm : (written : Bool) (other : ℕ) (rsp : GuestRsp) (disk : Option ℕ) (s : Option Statement) → (other == req) ≡ false
-      → (is_refusal rsp ≡ false → waiting other ≡ false) → HasNone strays (added_by written other rsp disk s)
-  added_calm written other rsp None s apart calm = refl
-  added_calm written other rsp (Some disk) None apart calm = refl
-  added_calm written other rsp (Some disk) (Some s) apart calm = adds_calm written other rsp disk s apart calm
 
   -- replies to others, none of which says that one that waits is done
   abbrev pub AreCalm : List (ℕ × GuestRsp) → Type 0
@@ -206,38 +167,17 @@ module _ (script : List Statement) (req session block : ℕ) where
   pub replies_calm : (found : World) (write : Option CheckWrite) (replies : List (ℕ × GuestRsp)) → AreCalm replies
       → HasNone strays (flat_map (reply_grown script found write) replies)
   replies_calm found write replies calm =
-      flat_none_in strays (reply_grown script found write) replies
+      none_of strays (flat_map (reply_grown script found write) replies)
+      (replies_add Calm (λ disk at bytes. refl) script found write replies
       (λ reply among.
-      added_calm (has_begun_check_write script reply.0 found write) reply.0 reply.1 (disk_of script reply.0 found)
-      (request_at script reply.0) (ne_eqb reply.0 req (calm reply among).0) (calm reply among).1)
+      let apart = ne_eqb reply.0 req (calm reply among).0 in
+      end_so Calm reply.0 reply.1 (λ is. let done = (calm reply among).1 is in λ i. apart i || done i) apart))
 
   -- ---- what else an event adds
 
-  granted_calm : (log : List Entry) (id : Vid) (entry : Entry) → HasNone strays (granted_adds log id entry)
-  granted_calm log id (entries.Publish by of) = by_header (granted_header log id)
-    where
-      by_header : (header : Option Header) → HasNone strays (option_map_or (disk_made id) header [])
-      by_header None = refl
-      by_header (Some header) = refl
-  granted_calm log id (entries.Clone by of) = by_header (granted_header log id)
-    where
-      by_parent : (parent : Option Vid) → HasNone strays (option_map_or (λ (parent : Vid). Copy parent.0 id.0 ∷ []) parent [])
-      by_parent None = refl
-      by_parent (Some parent) = refl
-
-      by_header : (header : Option Header) → HasNone strays (option_map_or (disk_cloned id) header [])
-      by_header None = refl
-      by_header (Some header) = by_parent header.parent
-  granted_calm log id entry = refl
-
   pub entry_calm : (log : List Entry) (entry : Entry) → HasNone strays (entry_adds log entry)
-  unfolding entry_adds
-  entry_calm log entry = by_decision (decision_after log entry)
-    where
-      by_decision : (decision : Decision) → HasNone strays (decided_adds log entry decision)
-      by_decision decisions.None = refl
-      by_decision (decisions.Granted id) = granted_calm log id entry
-      by_decision (decisions.Refused cause) = refl
+  entry_calm log entry =
+      none_of strays (entry_adds log entry) (entry_add Calm (λ disk blocks. refl) (λ old new. refl) (λ disk. refl) log entry)
 
   pub lost_calm : (requests : List (ℕ × Statement))
       → HasNone (ends_write_of req) (map (λ (request : ℕ × Statement). WriterLost request.0) requests)

@@ -93,7 +93,7 @@ module _ (shift offset size block : ℕ) (first : offset ≤ 512 * block) (last 
 -- ---- what a queue has for a write covers
 
 -- the objects of its pieces
-pieces_cover : (shift offset size : ℕ) (queued : Queued) → All (CoversPiece queued) (pieces shift offset size) → (k : ℕ)
+pub pieces_cover : (shift offset size : ℕ) (queued : Queued) → All (CoversPiece queued) (pieces shift offset size) → (k : ℕ)
     → first_index shift offset ≤ k → k ≤ last_index shift offset size → Covers queued k
 unfolding pieces
 pieces_cover shift offset size queued all k low high =

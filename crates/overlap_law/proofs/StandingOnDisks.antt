@@ -26,12 +26,12 @@ module _ (req : ℕ) (waits : ℕ → Bool) (vid block : ℕ) (bytes : List ℕ)
     both = fold-append ledger_after empty_ledger history grown
 
     -- a disk that is there then was there, with as many blocks
-    record WasThere (disk : histories.Disk) : Type 0 where
-      old : histories.Disk
-      there : (ledger_of history).disks vid ≡ Some old
-      many : old.blocks ≡ disk.blocks
+    pub record WasThere (disk : histories.Disk) : Type 0 where
+      pub old : histories.Disk
+      pub there : (ledger_of history).disks vid ≡ Some old
+      pub many : old.blocks ≡ disk.blocks
 
-    was : (disk : histories.Disk) → (ledger_of (history ++ grown)).disks vid ≡ Some disk → WasThere disk
+    pub was : (disk : histories.Disk) → (ledger_of (history ++ grown)).disks vid ≡ Some disk → WasThere disk
     was disk at =
         by_found ((ledger_of history).disks vid) refl
         (sym (ap blocks_in at) ∙ ap (λ (ledger : Ledger). blocks_in (ledger.disks vid)) both

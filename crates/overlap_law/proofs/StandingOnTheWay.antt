@@ -45,7 +45,7 @@ module _ (script : List Statement) (range : RunsAreInRange script) (events : Lis
   module _ (on : SteppingNode) (is : IsStepping script start.world on) (by : StepsByChanges on.cause) (so_far : StepState)
       (leads : LeadsInStep on (first_in_step on) so_far) (well : HaveWellWorks (hosts_in_step on start.world so_far)) where
     -- each request there is at a place that its statement allows
-    placed_there : (q : ℕ) (now : Host) → tree.get (hosts_in_step on start.world so_far) q ≡ Some now → (req : ℕ)
+    pub placed_there : (q : ℕ) (now : Host) → tree.get (hosts_in_step on start.world so_far) q ≡ Some now → (req : ℕ)
         → IsPlacedIn (asked_by script) (BeganOn script (progress_at_cause on.cause start.world)) req now.node.sessions
         (tree.get now.node.requests req)
     placed_there q now at req = ⊎_elim

@@ -32,7 +32,7 @@ use Rattle.sheep_node.proofs.SoleParts.{CommandsAre, IsFreeFor, command_is_free}
 use Rattle.overlap_law.specs.PastWords.{is_refusal}
 use Rattle.overlap_law.proofs.CoveredCourses.{CoveredSoFar, course_covered}
 use Rattle.overlap_law.proofs.RepliesOfChanges.{steps_silent, comes_silent}
-use Rattle.overlap_law.proofs.RequestsInSteps.{replies-in_order}
+use Rattle.overlap_law.proofs.RequestsInSteps.{is_disk_ask, replies-in_order}
 
 -- a request is there in its session, or a guest asks it in it
 abbrev pub IsAsking : Input → StepState → ℕ → ℕ → Type 0
@@ -46,45 +46,61 @@ pub data MayAnswer (input : Input) (so_far : StepState) (req : ℕ) : Type 0 whe
       → MayAnswer input so_far req
   Alone : (session : ℕ) → IsAsking input so_far session req → IsFreeFor session req so_far.node.requests → MayAnswer input so_far req
 
+-- it may run, or is alone in its session, where it is there or begins now as no read or write
+pub data Answers (input : Input) (so_far : StepState) (req : ℕ) : Type 0 where
+  RanThere : (session : ℕ) (course : Course) → HasRequest session req course so_far → is_disk_course course ≡ true
+      → may_run req (session_in session so_far).queue ≡ true → Answers input so_far req
+  AloneThere : (session : ℕ) (course : Course) → HasRequest session req course so_far → IsFreeFor session req so_far.node.requests
+      → Answers input so_far req
+  BeginsNow : (session : ℕ) (ask : Ask) → input ≡ inputs.Guest req session ask → is_disk_ask ask ≡ false
+      → IsFreeFor session req so_far.node.requests → Answers input so_far req
+
+may_answer : {input : Input} {so_far : StepState} {req : ℕ} → Answers input so_far req → MayAnswer input so_far req
+may_answer (RanThere session course there disk runs) = Ran session course there disk runs
+may_answer (AloneThere session course there free) = Alone session (inl (course, there)) free
+may_answer (BeginsNow session ask from off free) = Alone session (inr (ask, from)) free
+
 module _ (input : Input) (node : Node) (may : May input node) (queued : QueuesAreDiskRequests node) (sole : CommandsAreAlone node) where
   -- a request that has begun
   course_answers : (so_far : StepState) (session req : ℕ) (course : Course) → HasRequest session req course so_far → CommandsAre so_far
-      → CoveredSoFar so_far → ((ask : DiskAsk) → course ≡ Waiting ask → ⊥) → MayAnswer input so_far req
+      → CoveredSoFar so_far → ((ask : DiskAsk) → course ≡ Waiting ask → ⊥) → Answers input so_far req
   course_answers so_far session req (Waiting ask) there alone covered begun = absurd (begun ask refl)
   course_answers so_far session req (Driving driver) there alone covered begun =
-      Ran session (Driving driver) there refl (course_covered session req (Driving driver) so_far there covered).0
+      RanThere session (Driving driver) there refl (course_covered session req (Driving driver) so_far there covered).0
   course_answers so_far session req (Commanding op) there alone covered begun =
-      Alone session (inl (Commanding op, there)) (command_is_free session req (Commanding op) so_far there refl alone)
+      AloneThere session (Commanding op) there (command_is_free session req (Commanding op) so_far there refl alone)
   course_answers so_far session req (Checking check) there alone covered begun =
-      Alone session (inl (Checking check, there)) (command_is_free session req (Checking check) so_far there refl alone)
+      AloneThere session (Checking check) there (command_is_free session req (Checking check) so_far there refl alone)
   course_answers so_far session req (DoingWork work) there alone covered begun =
-      Alone session (inl (DoingWork work, there)) (command_is_free session req (DoingWork work) so_far there refl alone)
+      AloneThere session (DoingWork work) there (command_is_free session req (DoingWork work) so_far there refl alone)
   course_answers so_far session req (AwaitingDecision entry) there alone covered begun =
-      Alone session (inl (AwaitingDecision entry, there)) (command_is_free session req (AwaitingDecision entry) so_far there refl alone)
+      AloneThere session (AwaitingDecision entry) there (command_is_free session req (AwaitingDecision entry) so_far there refl alone)
 
   -- a request that takes a step
   steps_answers : (so_far : StepState) (session req : ℕ) (next : Outcome) (moved : StepState)
-      → RequestSteps input node so_far session req next moved → CommandsAre so_far → CoveredSoFar so_far → MayAnswer input so_far req
-  steps_answers so_far session req next moved (DiskBegins ask disk there on runs) alone covered = Ran session (Waiting ask) there refl runs
+      → RequestSteps input node so_far session req next moved → CommandsAre so_far → CoveredSoFar so_far → Answers input so_far req
+  steps_answers so_far session req next moved (DiskBegins ask disk there on runs) alone covered =
+      RanThere session (Waiting ask) there refl runs
   steps_answers so_far session req next moved (DiskGoesOn number work attempt status bytes driver disk step ends on is) alone covered =
       course_answers so_far session req (Driving driver) ends.ends.request alone covered (λ ask same. cc (same))
   steps_answers so_far session req next moved (CommandBegins ask step arrival is) alone covered =
-      Alone session (inr (asks.Vdi ask, arrival.from)) (free may queued sole so_far session req (asks.Vdi ask) None arrival refl)
+      BeginsNow session (asks.Vdi ask) arrival.from refl (free may queued sole so_far session req (asks.Vdi ask) None arrival refl)
   steps_answers so_far session req next moved (CommandGoesOn number work attempt status bytes op step ends is) alone covered =
       course_answers so_far session req (Commanding op) ends.ends.request alone covered (λ ask same. cc (same))
   steps_answers so_far session req next moved (CommandDecided entry op step from read there waits is) alone covered =
       course_answers so_far session req (Commanding op) there alone covered (λ ask same. cc (same))
   steps_answers so_far session req next moved (CheckBegins inode arrival on) alone covered =
-      Alone session (inr (asks.Vdi disk_commands.Check, arrival.from))
+      BeginsNow session (asks.Vdi disk_commands.Check) arrival.from refl
       (free may queued sole so_far session req (asks.Vdi disk_commands.Check) None arrival refl)
   steps_answers so_far session req next moved (CheckGoesOn number work attempt status bytes check step ends is) alone covered =
       course_answers so_far session req (Checking check) ends.ends.request alone covered (λ ask same. cc (same))
   steps_answers so_far session req next moved (ObjectBegins asked arrival) alone covered =
-      Alone session (inr (asks.Object asked, arrival.from)) (free may queued sole so_far session req (asks.Object asked) None arrival refl)
+      BeginsNow session (asks.Object asked) arrival.from refl
+      (free may queued sole so_far session req (asks.Object asked) None arrival refl)
   steps_answers so_far session req next moved (ObjectIsDone number work attempt status bytes asked ends) alone covered =
       course_answers so_far session req (DoingWork asked) ends.ends.request alone covered (λ ask same. cc (same))
   steps_answers so_far session req next moved (EntryBegins entry arrival) alone covered =
-      Alone session (inr (asks.Entry entry, arrival.from)) (free may queued sole so_far session req (asks.Entry entry) None arrival refl)
+      BeginsNow session (asks.Entry entry) arrival.from refl (free may queued sole so_far session req (asks.Entry entry) None arrival refl)
   steps_answers so_far session req next moved (EntryDecided entry wanted from read there waits) alone covered =
       course_answers so_far session req (AwaitingDecision wanted) there alone covered (λ ask same. cc (same))
 
@@ -94,28 +110,28 @@ module _ (input : Input) (node : Node) (may : May input node) (queued : QueuesAr
     -- each reply that refuses nothing was there, or is to one that may be answered
     abbrev AreFrom : StepState → Type 0
     AreFrom next = (reply : ℕ × GuestRsp) → Contains next.outputs.replies reply → is_refusal reply.1 ≡ false
-        → Contains so_far.outputs.replies reply ⊎ MayAnswer input so_far reply.0
+        → Contains so_far.outputs.replies reply ⊎ Answers input so_far reply.0
 
     silent : (next : StepState) → next.outputs.replies ≡ so_far.outputs.replies → AreFrom next
     silent next same reply among fine = inl (subst (λ (list : List (ℕ × GuestRsp)). Contains list reply) same among)
 
-    ended : (req : ℕ) → MayAnswer input so_far req → (session : ℕ) (rsp : GuestRsp) (moved : StepState) → AreFrom moved
+    ended : (req : ℕ) → Answers input so_far req → (session : ℕ) (rsp : GuestRsp) (moved : StepState) → AreFrom moved
         → AreFrom (request_ended session req rsp moved)
     unfolding request_ended
     ended req answers session rsp moved before reply among fine = ⊎_elim
-        (λ (new : (req, rsp) ≡ reply). inr (subst (λ (r : ℕ × GuestRsp). MayAnswer input so_far r.0) new answers))
+        (λ (new : (req, rsp) ≡ reply). inr (subst (λ (r : ℕ × GuestRsp). Answers input so_far r.0) new answers))
         (λ (old : Contains moved.outputs.replies reply). before reply old fine)
         (replies-in_order (req, rsp) moved.outputs.replies reply among)
 
     -- a request is refused for its work
-    answers : (session req : ℕ) (course : Course) → HasRequest session req course so_far ⊎ MayAnswer input so_far req
-        → ((ask : DiskAsk) → course ≡ Waiting ask → ⊥) → MayAnswer input so_far req
+    answers : (session req : ℕ) (course : Course) → HasRequest session req course so_far ⊎ Answers input so_far req
+        → ((ask : DiskAsk) → course ≡ Waiting ask → ⊥) → Answers input so_far req
     answers session req course known begun = ⊎_elim
         (λ (there : HasRequest session req course so_far). course_answers so_far session req course there alone covered begun)
-        (λ (may_answer : MayAnswer input so_far req). may_answer)
+        (λ (known_so : Answers input so_far req). known_so)
         known
 
-    refused : (session req : ℕ) (cause : Cause) (course : Course) → HasRequest session req course so_far ⊎ MayAnswer input so_far req
+    refused : (session req : ℕ) (cause : Cause) (course : Course) → HasRequest session req course so_far ⊎ Answers input so_far req
         → (moved : StepState) → AreFrom moved → AreFrom (course_refused session req cause course moved)
     refused session req cause (Waiting ask) known moved before = before
     refused session req cause (Driving driver) known moved before =
@@ -135,26 +151,26 @@ module _ (input : Input) (node : Node) (may : May input node) (queued : QueuesAr
     -- a work's turn has come, and its request is there
     next_known : (session req : ℕ) (asked : Work) (lined : StepState) → WorkIsNext input node so_far session req asked lined
         → (request : Request) → tree.get lined.node.requests req ≡ Some request
-        → HasRequest request.session req request.course so_far ⊎ MayAnswer input so_far req
+        → HasRequest request.session req request.course so_far ⊎ Answers input so_far req
     next_known session req asked lined (AtOnce work moved steps begins) request there =
         inr (steps_answers so_far session req (ToWork work) moved steps alone covered)
     next_known session req asked lined (InTurn work later none is) request there = inl there
     next_known session req asked lined (Again work course from next got found) request there = inl there
     next_known session req asked lined (AgainAlone work from next got none) request there = inl there
 
-    pub comes_from : (next : StepState) → Change input node so_far next → (reply : ℕ × GuestRsp) → Contains next.outputs.replies reply
-        → is_refusal reply.1 ≡ false → Contains so_far.outputs.replies reply ⊎ MayAnswer input so_far reply.0
-    comes_from next (changes.Marks req number work attempt status learns over) = silent next refl
-    comes_from next (changes.Fails session req number work attempt status course ends done why) = silent next refl
-    comes_from next (changes.Stops session req number work attempt status course bytes ends over) = silent next refl
-    comes_from next (changes.Refuses session req number work attempt status course cause ends done why) =
+    pub answers_from : (next : StepState) → Change input node so_far next → (reply : ℕ × GuestRsp) → Contains next.outputs.replies reply
+        → is_refusal reply.1 ≡ false → Contains so_far.outputs.replies reply ⊎ Answers input so_far reply.0
+    answers_from next (changes.Marks req number work attempt status learns over) = silent next refl
+    answers_from next (changes.Fails session req number work attempt status course ends done why) = silent next refl
+    answers_from next (changes.Stops session req number work attempt status course bytes ends over) = silent next refl
+    answers_from next (changes.Refuses session req number work attempt status course cause ends done why) =
         refused session req cause course (inl ends.request) (without_ended_work session req work status so_far)
         (silent (without_ended_work session req work status so_far) refl)
-    comes_from next (changes.Opens session req asked lined comes enough) =
+    answers_from next (changes.Opens session req asked lined comes enough) =
         silent next (comes_silent input node so_far session req asked lined comes)
-    comes_from next (changes.Holds session req asked lined comes short touched) =
+    answers_from next (changes.Holds session req asked lined comes short touched) =
         silent next (comes_silent input node so_far session req asked lined comes)
-    comes_from next (changes.Denies session req asked lined request comes short untouched there own) = by_request request there
+    answers_from next (changes.Denies session req asked lined request comes short untouched there own) = by_request request there
       where
         moved : StepState
         moved = without_denied_work session req asked lined
@@ -168,19 +184,26 @@ module _ (input : Input) (node : Node) (may : May input node) (queued : QueuesAr
             refused request.session req (Halt (zones_of_members lined.node) (zones_for asked.work)) request.course
             (next_known session req asked lined comes request got) moved
             (silent moved (comes_silent input node so_far session req asked lined comes))
-    comes_from next (changes.Strays req work gateway there none apart) = silent next refl
-    comes_from next (changes.Lines session req work moved steps waits) =
+    answers_from next (changes.Strays req work gateway there none apart) = silent next refl
+    answers_from next (changes.Lines session req work moved steps waits) =
         silent next (steps_silent input node so_far session req (ToWork work) moved steps)
-    comes_from next (changes.Appends session req entry moved steps) =
+    answers_from next (changes.Appends session req entry moved steps) =
         silent next (steps_silent input node so_far session req (ToEntry entry) moved steps)
-    comes_from next (changes.Replies session req rsp moved steps) =
+    answers_from next (changes.Replies session req rsp moved steps) =
         ended req (steps_answers so_far session req (ToReply rsp) moved steps alone covered) session rsp moved
         (silent moved (steps_silent input node so_far session req (ToReply rsp) moved steps))
-    comes_from next (changes.Arrives session req ask disk arrival on) = silent next refl
-    comes_from next (changes.Rejects session req ask cause arrival) = λ reply among fine. ⊎_elim
+    answers_from next (changes.Arrives session req ask disk arrival on) = silent next refl
+    answers_from next (changes.Rejects session req ask cause arrival) = λ reply among fine. ⊎_elim
         (λ (new : (req, replies.Refused cause) ≡ reply).
         let refuses : is_refusal reply.1 ≡ true = ap (λ (r : ℕ × GuestRsp). is_refusal r.1) (sym new) in
         absurd (cc (refuses, fine)))
         (λ (old : Contains so_far.outputs.replies reply). inl old)
         (replies-in_order (req, replies.Refused cause) so_far.outputs.replies reply among)
-    comes_from next (changes.Recovers due) = silent next refl
+    answers_from next (changes.Recovers due) = silent next refl
+
+    pub comes_from : (next : StepState) → Change input node so_far next → (reply : ℕ × GuestRsp) → Contains next.outputs.replies reply
+        → is_refusal reply.1 ≡ false → Contains so_far.outputs.replies reply ⊎ MayAnswer input so_far reply.0
+    comes_from next change reply among fine = ⊎_elim
+        (λ (old : Contains so_far.outputs.replies reply). inl old)
+        (λ (new : Answers input so_far reply.0). inr (may_answer new))
+        (answers_from next change reply among fine)

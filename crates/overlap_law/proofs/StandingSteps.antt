@@ -100,7 +100,7 @@ module _ (script : List Statement) (range : RunsAreInRange script) (world : Worl
       queues_then script range world began n host there up cause not_served caused
       (covered_in_world script range world began n host there) so_far leads
 
-  alone : (so_far : StepState) → LeadsTo so_far → CommandsAre so_far
+  pub alone : (so_far : StepState) → LeadsTo so_far → CommandsAre so_far
   alone so_far leads =
       let here = sound_here script range world began n host there up in
       kept_by_chain CommandsAre (change_keeps_alone may here.queues here.sole_commands) leads

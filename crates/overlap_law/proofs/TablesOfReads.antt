@@ -85,7 +85,7 @@ module _ (script : List Statement) (range : RunsAreInRange script) (start : Mome
   reading_along Still = reading_in_world script range start.world began
   reading_along (Then trail change) = reading_after script range start began change
 
-  disks_along : {moment : MomentWithPast} → MomentTrail script start moment → OpenDisksAreMade moment.world.log moment.world.hosts
+  pub disks_along : {moment : MomentWithPast} → MomentTrail script start moment → OpenDisksAreMade moment.world.log moment.world.hosts
   disks_along Still = made_in_world script range start.world began
   disks_along (Then trail change) = disks_after script range start began change
 

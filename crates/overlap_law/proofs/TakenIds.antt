@@ -1,17 +1,16 @@
--- Few entries can take an id from the session that may write it: the leave of its node, a snapshot of the disk, a publication of the id by its
--- node, and its own unlock.
-use Rattle.std.proofs.Common.{◌≡◌, ℕ, ◌==◌, Bool, true, false, ◌&&◌, ◌||◌, cond, List, Option, Some, None, Result, Ok, Err, is_some, refl, sym, ap, ◌∙◌}
+-- Few entries can take an id from the session that may write it: the leave of its node, a snapshot of the disk, a publication of the id by
+-- its node, and its own unlock.
+use Rattle.std.proofs.Common.{◌≡◌, ℕ, ◌==◌, Bool, true, false, ◌&&◌, ◌||◌, cond, List, Option, Some, None, Result, Ok, Err, is_some, refl}
+use Rattle.std.proofs.Common.{sym, ap, ◌∙◌}
 use Rattle.std.proofs.lemmas.Bool.{eqb-true, eq-eqb, both_ways, and_from, and_parts, or_parts}
 use Rattle.std.specs.Option.{option_map_or}
 use Rattle.std.proofs.lemmas.Option.{same_Some}
 use Rattle.proof_tools.proofs.Booleans.{cond_either}
 use Rattle.object_id.specs.declared.cause.Cause.{Cause}
-use Rattle.object_id.specs.declared.cause.Cause.TheVariants as causes
 use Rattle.object_id.specs.declared.entry.Entry.{Entry}
-use Rattle.object_id.specs.declared.entry.Entry.TheVariants.{Format, Join, Leave, Reweight, Recovered, Reserve, Publish, Clone, Snapshot, Delete, Lock, Unlock}
+use Rattle.object_id.specs.declared.entry.Entry.TheVariants.{Format, Join, Leave, Reweight, Recovered, Reserve, Publish, Clone, Snapshot}
+use Rattle.object_id.specs.declared.entry.Entry.TheVariants.{Delete, Lock, Unlock}
 use Rattle.object_id.specs.declared.entry.Origin.{Origin}
-use Rattle.object_id.specs.declared.entry.Origin.TheVariants.{Fresh, SnapshotOf, CloneOf}
-use Rattle.object_id.specs.declared.entry.VdiSpec.{VdiSpec}
 use Rattle.object_id.specs.declared.node.NodeId.{NodeId}
 use Rattle.object_id.specs.declared.oid.Vid.{Vid}
 use Rattle.disk_lock.specs.declared.holder.Holder.{Holder}
@@ -20,17 +19,15 @@ use Rattle.vdi_directory.specs.declared.effect.Effect.{Effect}
 use Rattle.vdi_directory.specs.declared.effect.Effect.TheVariants as effects
 use Rattle.vdi_directory.specs.declared.effect.Reservation.{Reservation}
 use Rattle.vdi_directory.specs.declared.effect.Source.{Source}
-use Rattle.vdi_directory.specs.declared.effect.Source.TheVariants as sources
-use Rattle.vdi_directory.specs.declared.header.Header.{Header}
-use Rattle.vdi_directory.specs.Decisions.{nothing, silent_outcome, grant_outcome, refusal_outcome, is_held_by, is_reserved_by, is_taken, grant_of, or_full, reservation_outcome, with_spec, held_disk, reserved_snapshot, reserved_clone, reserve_outcome, publication, replacement, snapshot_outcome, target, deletion, lock, outcome, log_effects}
-use Rattle.vdi_directory.specs.Effects.{is_used, header_of, name_of, reservations_of, reservation_on, holder_of}
-use Rattle.vdi_directory.specs.Names.{snapshot_with_tag, is_live_name}
+use Rattle.vdi_directory.specs.Decisions.{nothing, silent_outcome, grant_outcome, is_held_by, is_reserved_by, reserve_outcome, publication}
+use Rattle.vdi_directory.specs.Decisions.{replacement, snapshot_outcome, target, deletion, lock, outcome, log_effects}
+use Rattle.vdi_directory.specs.Effects.{reservations_of, reservation_on, holder_of}
 use Rattle.vdi_directory.specs.Sources.{is_for, tag_for}
 use Rattle.vdi_directory.specs.Sound.{IsSound}
 use Rattle.vdi_directory.specs.States.{Working, state_of}
-use Rattle.vdi_directory.specs.Vids.{free_id}
 use Rattle.vdi_directory.proofs.LawfulEntries.{in-find, sound-log_effects}
 use Rattle.overlap_law.specs.Grants.{reserver, writer_of, takes_writer, may_take_writer}
+use Rattle.overlap_law.proofs.ClosedReservations.{reserves_so}
 use Rattle.overlap_law.proofs.WriterChanges.{writer-by}
 
 module _ (before : List Effect) (sound : IsSound before) (vid : ℕ) (writer : Holder) (is : writer_of before vid ≡ Some writer) where
@@ -43,39 +40,8 @@ module _ (before : List Effect) (sound : IsSound before) (vid : ℕ) (writer : H
 
   -- ---- what reserves, deletes, locks or refuses
 
-  module _ (by : NodeId) (session : ℕ) (name : List ℕ) (source : Source) (parent : Option Vid) where
-    keeps-full : (spec : VdiSpec) (free : Option ℕ) → Keeps (or_full free (grant_of before by session name source parent spec))
-    keeps-full spec None = refl
-    keeps-full spec (Some vid) = refl
-
-    keeps-spec : (header : Option Header) → Keeps (with_spec header (reservation_outcome before by session name source parent))
-    keeps-spec None = refl
-    keeps-spec (Some header) = keeps-full header.spec (free_id name (is_used before))
-
-  module _ (by : NodeId) (session : ℕ) (name : List ℕ) where
-    keeps-snapshot : (tag : List ℕ) (old : Option Vid) → Keeps (reserved_snapshot before by session name tag old)
-    keeps-snapshot tag None = refl
-    keeps-snapshot tag (Some old) =
-        cond_either Keeps (is_some (snapshot_with_tag tag (name_of before name))) (refusal_outcome causes.VdiExist)
-        (with_spec (header_of before old.0) (reservation_outcome before by session name (sources.Snapshot old tag) (Some old)))
-        refl (keeps-spec by session name (sources.Snapshot old tag) (Some old) (header_of before old.0))
-
-    keeps-clone : (base : Option Vid) → Keeps (reserved_clone before by session name base)
-    keeps-clone None = refl
-    keeps-clone (Some base) =
-        cond_either Keeps (is_taken before name) (refusal_outcome causes.VdiExist)
-        (with_spec (header_of before base.0) (reservation_outcome before by session name sources.Clone (Some base)))
-        refl (keeps-spec by session name sources.Clone (Some base) (header_of before base.0))
-
-    keeps-reserve : (origin : Origin) → Keeps (reserve_outcome before by session name origin)
-    keeps-reserve (Fresh spec) =
-        cond_either Keeps (is_taken before name) (refusal_outcome causes.VdiExist)
-        (reservation_outcome before by session name sources.Fresh None spec)
-        refl (keeps-full by session name sources.Fresh None spec (free_id name (is_used before)))
-    keeps-reserve (SnapshotOf tag) = keeps-snapshot tag (held_disk before by session (name_of before name).working)
-    keeps-reserve (CloneOf base tag) =
-        cond_either Keeps (is_live_name (name_of before base)) (reserved_clone before by session name (snapshot_with_tag tag (name_of before base)))
-        (refusal_outcome causes.NoBaseVdi) (keeps-clone (snapshot_with_tag tag (name_of before base))) refl
+  keeps-reserve : (by : NodeId) (session : ℕ) (name : List ℕ) (origin : Origin) → Keeps (reserve_outcome before by session name origin)
+  keeps-reserve by session name = reserves_so before by session name Keeps (λ cause is. refl) refl (λ source parent spec id. refl)
 
   keeps-deletion : (name : List ℕ) (of : Result Vid Cause) → Keeps (deletion name of)
   keeps-deletion name (Err cause) = refl
@@ -92,7 +58,8 @@ module _ (before : List Effect) (sound : IsSound before) (vid : ℕ) (writer : H
   abbrev writer_by : Option Reservation → Option Holder
   writer_by o = option_map_or (λ (reservation : Reservation). Some (reserver reservation)) o (holder_of before vid)
 
-  by_reservation : (reservation : Reservation) → reservation_on id (reservations_of before) ≡ Some reservation → reserver reservation ≡ writer
+  by_reservation : (reservation : Reservation) → reservation_on id (reservations_of before) ≡ Some reservation
+      → reserver reservation ≡ writer
   by_reservation reservation found =
       same_Some (reserver reservation) writer (sym (ap writer_by found) ∙ sym (writer-by before vid) ∙ is)
 
@@ -103,7 +70,8 @@ module _ (before : List Effect) (sound : IsSound before) (vid : ℕ) (writer : H
   abbrev IsApart : NodeId → Vid → Type 0
   IsApart by of = (of.0 == vid && by.0 == writer.node.0) ≡ false
 
-  apart_id : (by : NodeId) (of : Vid) → IsApart by of → (reservation : Reservation) → reservation_on of (reservations_of before) ≡ Some reservation
+  apart_id : (by : NodeId) (of : Vid) → IsApart by of → (reservation : Reservation)
+      → reservation_on of (reservations_of before) ≡ Some reservation
       → (reservation.by.0 == by.0) ≡ true → (reservation.vid.0 == vid) ≡ false
   apart_id by of apart reservation found own = by_test (reservation.vid.0 == vid) refl
     where
@@ -135,7 +103,8 @@ module _ (before : List Effect) (sound : IsSound before) (vid : ℕ) (writer : H
   keeps-snap by old of other apart None found = refl
   keeps-snap by old of other apart (Some reservation) found = by_test (reservation.by.0 == by.0) refl
     where
-      by_tag : (reservation.vid.0 == vid) ≡ false → (tag : Option (List ℕ)) (holder : Option Holder) → Keeps (replacement reservation old tag holder)
+      by_tag : (reservation.vid.0 == vid) ≡ false → (tag : Option (List ℕ)) (holder : Option Holder)
+          → Keeps (replacement reservation old tag holder)
       by_tag away None holder = refl
       by_tag away (Some tag) None = refl
       by_tag away (Some tag) (Some holder) = λ i. other i || away i
@@ -164,7 +133,8 @@ module _ (before : List Effect) (sound : IsSound before) (vid : ℕ) (writer : H
   keeps-release : (by : NodeId) (session : ℕ) (of : Vid) → (of.0 == vid && is_held_by by session (Some writer)) ≡ false
       → Keeps (outcome before (Unlock by session of))
   keeps-release by session of apart =
-      by_test (is_held_by by session (holder_of before of.0)) (is_reserved_by by session (reservation_on of (reservations_of before))) refl refl
+      by_test (is_held_by by session (holder_of before of.0)) (is_reserved_by by session (reservation_on of (reservations_of before))) refl
+      refl
     where
       not_both : (of.0 == vid) ≡ true → is_held_by by session (Some writer) ≡ true → ⊥
       not_both same own = both_ways (of.0 == vid && is_held_by by session (Some writer)) apart
@@ -186,13 +156,15 @@ module _ (before : List Effect) (sound : IsSound before) (vid : ℕ) (writer : H
           (ap (λ (k : ℕ). is_held_by by session (holder_of before k)) (sym (eqb-true of.0 vid same)) ∙ own)))
       not_freed own false other = other
 
-      not_withdrawn : is_reserved_by by session (reservation_on of (reservations_of before)) ≡ true → (b : Bool) → (of.0 == vid) ≡ b → (of.0 == vid) ≡ false
+      not_withdrawn : is_reserved_by by session (reservation_on of (reservations_of before)) ≡ true → (b : Bool) → (of.0 == vid) ≡ b
+          → (of.0 == vid) ≡ false
       not_withdrawn own true same =
           absurd (not_both same (reserved_by (reservation_on id (reservations_of before)) refl
           (ap (λ (v : Vid). is_reserved_by by session (reservation_on v (reservations_of before))) (sym (same_id of same)) ∙ own)))
       not_withdrawn own false other = other
 
-      by_test : (b c : Bool) → is_held_by by session (holder_of before of.0) ≡ b → is_reserved_by by session (reservation_on of (reservations_of before)) ≡ c
+      by_test : (b c : Bool) → is_held_by by session (holder_of before of.0) ≡ b
+          → is_reserved_by by session (reservation_on of (reservations_of before)) ≡ c
           → Keeps (cond b (silent_outcome (effects.Freed of)) (cond c (silent_outcome (effects.Withdrawn of)) nothing))
       by_test true c own other = not_freed own (of.0 == vid) refl
       by_test false true unheld own = not_withdrawn own (of.0 == vid) refl

@@ -1,6 +1,6 @@
 -- A read that has told all of its pieces tells of each block what may be read of it: the blocks that its reply adds to the history are
 -- those of its pieces.
-use Rattle.std.proofs.Common.{◌≡◌, ◌⊎◌, inl, inr, ⊎_elim, arith, ℕ, zero, suc, ◌+◌, ◌*◌, ◌-◌, ◌/◌, ◌^◌, ◌<◌, ◌≤◌, min, max, Bool, true, false, List, length, take, drop, map, pow-add, refl, sym, ap, subst, ◌∙◌}
+use Rattle.std.proofs.Common.{◌≡◌, ◌⊎◌, inl, inr, ⊎_elim, arith, ℕ, zero, suc, ◌+◌, ◌*◌, ◌-◌, ◌/◌, ◌^◌, ◌<◌, ◌≤◌, min, max, Bool, true, false, List, [], ◌∷◌, length, take, drop, map, Some, pow-add, refl, sym, ap, subst, ◌∙◌}
 use Rattle.std.specs.List.{range_with_len}
 use Rattle.std.proofs.lemmas.Bool.{cases_lt}
 use Rattle.std.proofs.lemmas.List.{length-drop, length-take}
@@ -8,9 +8,11 @@ use Rattle.std.proofs.lemmas.Nat.{pow_pos}
 use Rattle.std.proofs.Math.Nat.{max-eq_left, max-eq_right, min-eq_left, min-eq_right, lt-div-mul-add, div-mul-le_self, le-div_iff_mul-le}
 use Rattle.object_id.specs.declared.limits.TheConstants.{BLOCK_BYTES}
 use Rattle.inode.specs.Layout.{Content}
+use Rattle.disk_history.specs.declared.event.HistEvent.{HistEvent}
+use Rattle.disk_history.specs.declared.event.HistEvent.TheVariants.{Create, Copy, Delete, WriteStart, WriteDone, WriteRefused, WriterLost}
 use Rattle.disk_history.specs.declared.event.HistEvent.TheVariants.{Read}
+use Rattle.disk_history.specs.Ledger as histories
 use Rattle.disk_history.specs.Ledger.{Ledger}
-use Rattle.disk_history.specs.Legal.{is_torn}
 use Rattle.vdi_directory.specs.declared.effect.Effect.{Effect}
 use Rattle.peer_proto.specs.declared.guest.GuestRsp.TheVariants as answers
 use Rattle.guest_driver.specs.declared.extent.Extent.{Extent}
@@ -18,8 +20,8 @@ use Rattle.guest_driver.specs.Extent.{IsExtent, first_index_of, last_index_of, p
 use Rattle.guest_driver.proofs.ExtentLemmas.{place_at-past}
 use Rattle.sheep_world.specs.HistoryAdditions.{block_in, blocks_read}
 use Rattle.overlap_law.specs.Pieces.{IsInPiece, bytes_for}
-use Rattle.overlap_law.specs.ToldReads.{MayBeToldOf, WhatIsToldMayBeRead, extent_on, MayBeReadAs, IsReadUpTo, IsDiskOf}
-use Rattle.overlap_law.specs.WrittenBlocks.{blocks_per_object, items_at, is_allowed}
+use Rattle.overlap_law.specs.ToldReads.{WhatIsToldMayBeRead, extent_on, MayBeReadAs, Reading, IsReadUpTo, IsDiskOf}
+use Rattle.overlap_law.specs.WrittenBlocks.{blocks_per_object, items_at}
 
 -- ---- where a block stands
 
@@ -70,12 +72,35 @@ stands offset size low high p b above below behind before so = ⊎_elim
     (cases_lt high (offset + size)))
     (cases_lt offset low)
 
-module _ (ledger : Ledger) (effects : List Effect) (good_id : ℕ → Bool) (inode : Content) (offset size : ℕ) where
+-- what is told of a block of a disk is as asked, or the disk was deleted
+pub record IsToldAs (May_be : Reading) (ledger : Ledger) (vid block : ℕ) (bytes : List ℕ) : Type 0 where
+  pub disk : histories.Disk
+  pub there : ledger.disks vid ≡ Some disk
+  pub within : block < disk.blocks
+  pub whole : length bytes ≡ BLOCK_BYTES
+  pub given : (disk.deleted ≡ true) ⊎ May_be (disk.items block) bytes
+
+-- so it is of each block that some events read of good disks
+abbrev pub IsReadAs : Reading → Ledger → (ℕ → Bool) → HistEvent → Type 0
+IsReadAs May_be ledger good_id (Create disk blocks) = Unit {0}
+IsReadAs May_be ledger good_id (Copy old new) = Unit {0}
+IsReadAs May_be ledger good_id (Delete disk) = Unit {0}
+IsReadAs May_be ledger good_id (WriteStart req disk at coded bytes) = Unit {0}
+IsReadAs May_be ledger good_id (WriteDone req) = Unit {0}
+IsReadAs May_be ledger good_id (WriteRefused req) = Unit {0}
+IsReadAs May_be ledger good_id (WriterLost req) = Unit {0}
+IsReadAs May_be ledger good_id (Read disk block bytes) = good_id disk ≡ true → IsToldAs May_be ledger disk block bytes
+
+abbrev pub AreReadAs : Reading → Ledger → (ℕ → Bool) → List HistEvent → Type 0
+AreReadAs May_be ledger good_id [] = Unit {0}
+AreReadAs May_be ledger good_id (event ∷ events) = IsReadAs May_be ledger good_id event × AreReadAs May_be ledger good_id events
+
+module _ (May_be : Reading) (ledger : Ledger) (effects : List Effect) (good_id : ℕ → Bool) (inode : Content) (offset size : ℕ) where
   abbrev extent : Extent
   extent = extent_on inode offset size
 
   module _ (is : IsExtent extent) (within : offset + size ≤ inode.spec.size) (of : IsDiskOf ledger effects inode) (told : List ℕ)
-      (up : IsReadUpTo MayBeReadAs ledger effects good_id inode extent (last_index_of extent + 1) told) where
+      (up : IsReadUpTo May_be ledger effects good_id inode extent (last_index_of extent + 1) told) where
     long : length told ≡ size
     long = up.long ∙ place_at-past extent is
 
@@ -172,14 +197,13 @@ module _ (ledger : Ledger) (effects : List Effect) (good_id : ℕ → Bool) (ino
           let whole = is.blocks.0 in
           omega (arith, large, whole, within, less)
 
-      given : (of.disk.deleted ≡ true) ⊎ ((is_torn (of.disk.items (offset / BLOCK_BYTES + j)) ≡ true)
-          ⊎ (is_allowed (of.disk.items (offset / BLOCK_BYTES + j)) (block_in told j) ≡ true))
+      given : (of.disk.deleted ≡ true) ⊎ May_be (of.disk.items (offset / BLOCK_BYTES + j)) (block_in told j)
       given = by_deleted of.disk.deleted refl
         where
-          may : of.disk.deleted ≡ false → MayBeReadAs (of.disk.items (offset / BLOCK_BYTES + j)) (block_in told j)
+          may : of.disk.deleted ≡ false → May_be (of.disk.items (offset / BLOCK_BYTES + j)) (block_in told j)
           may kept =
-              subst (λ (block : ℕ). MayBeReadAs (of.disk.items block) (block_in told j)) number
-              (subst (MayBeReadAs (items_at of.disk inode.spec k unit)) bytes_so
+              subst (λ (block : ℕ). May_be (of.disk.items block) (block_in told j)) number
+              (subst (May_be (items_at of.disk inode.spec k unit)) bytes_so
               (up.each k unit of.disk first last in_piece (record {
                 there = of.there;
                 kept = kept;
@@ -192,12 +216,11 @@ module _ (ledger : Ledger) (effects : List Effect) (good_id : ℕ → Bool) (ino
               })))
 
           by_deleted : (b : Bool) → of.disk.deleted ≡ b
-              → (of.disk.deleted ≡ true) ⊎ ((is_torn (of.disk.items (offset / BLOCK_BYTES + j)) ≡ true)
-              ⊎ (is_allowed (of.disk.items (offset / BLOCK_BYTES + j)) (block_in told j) ≡ true))
+              → (of.disk.deleted ≡ true) ⊎ May_be (of.disk.items (offset / BLOCK_BYTES + j)) (block_in told j)
           by_deleted true gone = inl gone
           by_deleted false kept = inr (may kept)
 
-      pub one_told : MayBeToldOf ledger inode.vid (offset / BLOCK_BYTES + j) (block_in told j)
+      pub one_told : IsToldAs May_be ledger inode.vid (offset / BLOCK_BYTES + j) (block_in told j)
       one_told = record {
         disk = of.disk;
         there = of.there;
@@ -209,14 +232,30 @@ module _ (ledger : Ledger) (effects : List Effect) (good_id : ℕ → Bool) (ino
         given = given;
       }
 
-    each_told : (n from : ℕ) → from + n ≤ size / BLOCK_BYTES
-        → WhatIsToldMayBeRead good_id ledger
+    each_read : (n from : ℕ) → from + n ≤ size / BLOCK_BYTES
+        → AreReadAs May_be ledger good_id
         (map (λ (place : ℕ). Read inode.vid (offset / BLOCK_BYTES + place) (block_in told place)) (range_with_len from n))
-    each_told zero from most = tt
-    each_told (suc n) from most = (
+    each_read zero from most = tt
+    each_read (suc n) from most = (
       λ good. one_told good from (omega (arith, most)),
-      each_told n (from + 1) (omega (arith, most)),
+      each_read n (from + 1) (omega (arith, most)),
     )
 
-    pub all_told : WhatIsToldMayBeRead good_id ledger (blocks_read inode.vid offset (answers.Piece told))
-    all_told = each_told (length told / BLOCK_BYTES) 0 (omega (arith, long))
+    pub all_read : AreReadAs May_be ledger good_id (blocks_read inode.vid offset (answers.Piece told))
+    all_read = each_read (length told / BLOCK_BYTES) 0 (omega (arith, long))
+
+module _ (ledger : Ledger) (effects : List Effect) (good_id : ℕ → Bool) (inode : Content) (offset size : ℕ)
+    (is : IsExtent (extent_on inode offset size)) (within : offset + size ≤ inode.spec.size) (of : IsDiskOf ledger effects inode)
+    (told : List ℕ)
+    (up : IsReadUpTo MayBeReadAs ledger effects good_id inode (extent_on inode offset size)
+    (last_index_of (extent_on inode offset size) + 1) told) where
+  each_told : (n from : ℕ) → from + n ≤ size / BLOCK_BYTES
+      → WhatIsToldMayBeRead good_id ledger
+      (map (λ (place : ℕ). Read inode.vid (offset / BLOCK_BYTES + place) (block_in told place)) (range_with_len from n))
+  each_told zero from most = tt
+  each_told (suc n) from most = (
+    λ good.
+        let one = one_told MayBeReadAs ledger effects good_id inode offset size is within of told up good from (omega (arith, most)) in
+        record { disk = one.disk; there = one.there; within = one.within; whole = one.whole; given = one.given },
+    each_told n (from + 1) (omega (arith, most)),
+  )

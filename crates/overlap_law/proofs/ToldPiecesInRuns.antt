@@ -42,7 +42,7 @@ take-whole [] = refl
 take-whole (byte ∷ bytes) = ap (λ (xs : List ℕ). byte ∷ xs) (take-whole bytes)
 
 -- nothing is owed of it
-none_owed : (policy : Policy) (oid : ℕ) (hosts : Hosts) (attempts : List AttemptRecord) (node : NodeId) (index epoch offset : ℕ)
+pub none_owed : (policy : Policy) (oid : ℕ) (hosts : Hosts) (attempts : List AttemptRecord) (node : NodeId) (index epoch offset : ℕ)
     (bytes : List ℕ) → ((j : ℕ) (attempt : AttemptRecord) → slice_get attempts j ≡ Some attempt → object_of attempt ≡ oid → ⊥)
     → IsPieceSince policy oid hosts attempts node index epoch offset bytes
 none_owed policy oid hosts attempts node index epoch offset bytes none =

@@ -1,5 +1,6 @@
 -- Writers take turns over each change of a moment; so there is one writer of each id, in every run in range.
-use Rattle.std.proofs.Common.{◌≡◌, inl, inr, ⊎_elim, ℕ, suc, ◌+◌, ◌-◌, ◌≤◌, ◌<◌, true, false, List, [], ◌∷◌, ◌++◌, length, Some, refl, sym, ap, subst, ◌∙◌, arith, not}
+use Rattle.std.proofs.Common.{◌≡◌, inl, inr, ⊎_elim, ℕ, suc, ◌+◌, ◌-◌, ◌≤◌, ◌<◌, true, false, List, [], ◌∷◌, ◌++◌, length, Some, refl, sym}
+use Rattle.std.proofs.Common.{ap, subst, ◌∙◌, arith, not}
 use Rattle.std.specs.List.{slice_get}
 use Rattle.std.specs.FinMap as tree
 use Rattle.std.proofs.lemmas.Bool.{and_parts, both_ways, cases_lt, eqb-true, not-true}
@@ -18,7 +19,8 @@ use Rattle.sheep_node.specs.May.{has_numbers}
 use Rattle.sheep_node.proofs.LogLaws.{epoch_more}
 use Rattle.sheep_world.specs.Began.{Began}
 use Rattle.sheep_world.specs.MembershipChanges.{join_of, last_weight}
-use Rattle.sheep_world.specs.NodeCauses.{NodeCause, GuestAsks, RequestComes, ReplyComes, LossIsTold, EntryIsRead, EntryIsPut, RecoveryTicks, WorkIsRetried, IsCause, host_with_node, log_after_cause}
+use Rattle.sheep_world.specs.NodeCauses.{NodeCause, GuestAsks, RequestComes, ReplyComes, LossIsTold, EntryIsRead, EntryIsPut, RecoveryTicks}
+use Rattle.sheep_world.specs.NodeCauses.{WorkIsRetried, IsCause, host_with_node, log_after_cause}
 use Rattle.sheep_world.specs.Step.{EventOutcome}
 use Rattle.sheep_world.specs.World.{Host, is_host_up}
 use Rattle.overlap_law.specs.Attempts.{AttemptRecord, object_of}
@@ -34,7 +36,7 @@ use Rattle.overlap_law.proofs.AwaitedInMoments.{change_awaited, awaited_kept}
 use Rattle.overlap_law.proofs.EpochsOfAttempts.{change_begun}
 use Rattle.overlap_law.proofs.GoneInRuns.{at_end, at_push, all_fenced}
 use Rattle.overlap_law.proofs.LeavesOfLog.{leaves_own}
-use Rattle.overlap_law.proofs.LogsOfMoments.{log-by_changes}
+use Rattle.overlap_law.proofs.LogsOfMoments.{log-by_changes, log_or_start}
 use Rattle.overlap_law.proofs.NewAttempts.{WasAttempt, IsOpened, come_from}
 use Rattle.overlap_law.proofs.ReadInMoments.{hosts_after_sound}
 use Rattle.overlap_law.proofs.RunsByChanges.{on_the_way}
@@ -75,7 +77,8 @@ module _ (before after : MomentWithPast) where
   spares_all last nothing j attempt got under takes =
       absurd (both_ways (may_take_writer (vid_of (object_of attempt)) (session_holder attempt.gateway.0 attempt.session) last)
       (nothing (vid_of (object_of attempt)) (session_holder attempt.gateway.0 attempt.session))
-      (taken_by_entry before.world.log last (vid_of (object_of attempt)) (session_holder attempt.gateway.0 attempt.session) under.writer takes))
+      (taken_by_entry before.world.log last (vid_of (object_of attempt)) (session_holder attempt.gateway.0 attempt.session) under.writer
+      takes))
 
 module _ (script : List Statement) (range : RunsAreInRange script) (start : MomentWithPast) (began : Began script start.world) where
   -- ---- a leave
@@ -85,7 +88,8 @@ module _ (script : List Statement) (range : RunsAreInRange script) (start : Mome
     abbrev leave : Entry
     leave = entries.Leave (record { 0 = n })
 
-    leaves_now : leave_of (start.world.log ++ entries.Leave (record { 0 = n }) ∷ []) n host.incarnation ≡ Some (epoch_of start.world.log + 1)
+    leaves_now : leave_of (start.world.log ++ entries.Leave (record { 0 = n }) ∷ []) n host.incarnation
+        ≡ Some (epoch_of start.world.log + 1)
     leaves_now =
         let place : host.incarnation - 1 ≡ length (leaves_of start.world.log n) = omega (arith, counted) in
         ap (slice_get (leaves_of (start.world.log ++ leave ∷ []) n)) place
@@ -94,7 +98,8 @@ module _ (script : List Statement) (range : RunsAreInRange script) (start : Mome
 
     leave_ends : EndAll start (entries.Leave (record { 0 = n }))
     leave_ends j attempt got under takes =
-        let may = taken_by_entry start.world.log leave (vid_of (object_of attempt)) (session_holder attempt.gateway.0 attempt.session) under.writer takes in
+        let may = taken_by_entry start.world.log leave (vid_of (object_of attempt)) (session_holder attempt.gateway.0 attempt.session)
+        under.writer takes in
         let gateway : attempt.gateway.0 ≡ n = eqb-true attempt.gateway.0 n may in
         let at : tree.get start.world.hosts attempt.gateway.0 ≡ Some host = ap (tree.get start.world.hosts) gateway ∙ there in
         let most = tied.incarnations.began j attempt got host at in
@@ -132,9 +137,11 @@ module _ (script : List Statement) (range : RunsAreInRange script) (start : Mome
 
   ends : {before after : MomentWithPast} → MomentChange script start before after → IsTied before
       → PacketsAreOfOpenWorks before.world.hosts before.world.wire before.past.attempts → EndAtEntries before after
-  ends {before} {after} (moments.StepBegins stepping is by) tied awaited = none_put before after (log-by_changes stepping.cause start.world.log by)
+  ends {before} {after} (moments.StepBegins stepping is by) tied awaited =
+      none_put before after (log-by_changes stepping.cause start.world.log by)
   ends {before} {after} (moments.StepGoesOn stepping so_far next is by within) tied awaited = none_put before after refl
-  ends (moments.StepIsMade stepping is by) tied awaited = stepped_ends awaited stepping.n stepping.host is.there is.up stepping.cause is.caused
+  ends (moments.StepIsMade stepping is by) tied awaited =
+      stepped_ends awaited stepping.n stepping.host is.there is.up stepping.cause is.caused
   ends {before} {after} (moments.LossIsUntold event made happened h) tied awaited =
       none_put before after (ap (λ (m : EventOutcome). m.world.log) (sym h.made_so))
   ends {before} {after} (moments.DeliveryIsUnread event made happened h) tied awaited =
@@ -159,27 +166,23 @@ module _ (script : List Statement) (range : RunsAreInRange script) (start : Mome
   -- where the log is as the event began with, it was so before the change
   log_before : {before after : MomentWithPast} → MomentChange script start before after → after.world.log ≡ start.world.log
       → after.world.log ≡ before.world.log
-  log_before (moments.StepBegins stepping is by) same = same
-  log_before (moments.StepGoesOn stepping so_far next is by within) same = refl
-  log_before (moments.StepIsMade stepping is by) same = same
-  log_before (moments.LossIsUntold event made happened h) same = same
-  log_before (moments.DeliveryIsUnread event made happened h) same = same
-  log_before (moments.NodeIsLost event made happened h) same = same
-  log_before (moments.NodeLeaves event made happened h) same = same
-  log_before (moments.NodeIsReweighted event made happened h) same = same
-  log_before (moments.NodeJoins event made happened h) same = same
-  log_before (moments.NodeComesBack event made happened h) same = same
-  log_before (moments.PhaseEnds event made happened h) same = same
+  log_before {before} {after} change same = ⊎_elim
+      (λ (stays : after.world.log ≡ before.world.log). stays)
+      (λ (first : before ≡ start). same ∙ ap (λ (m : MomentWithPast). m.world.log) (sym first))
+      (log_or_start script change)
 
   -- ---- an attempt that begins
 
   module _ {before after : MomentWithPast} (change : MomentChange script start before after) where
-    pub opened_writes : (attempt : AttemptRecord) → IsOpened script start after attempt → IsUnderTheGrant after.world.log attempt (vid_of (object_of attempt))
+    pub opened_writes : (attempt : AttemptRecord) → IsOpened script start after attempt
+        → IsUnderTheGrant after.world.log attempt (vid_of (object_of attempt))
     opened_writes attempt o =
         let then = host_with_node o.stepping.host o.next.node in
         let at : tree.get after.world.hosts o.stepping.n ≡ Some then
-        = ap (λ (m : MomentWithPast). tree.get m.world.hosts o.stepping.n) o.moment_so ∙ get-insert_same start.world.hosts o.stepping.n then in
-        let w = (works_may-after script range start began change).each o.stepping.n then at (up_not_lost o.stepping.host o.is.up) o.req _ o.at_gateway o.making in
+        = ap (λ (m : MomentWithPast). tree.get m.world.hosts o.stepping.n) o.moment_so
+        ∙ get-insert_same start.world.hosts o.stepping.n then in
+        let w = (works_may-after script range start began change).each o.stepping.n then at (up_not_lost o.stepping.host o.is.up) o.req _
+        o.at_gateway o.making in
         let read = ((hosts_after_sound script range start began change).each o.stepping.n then at).read in
         let same : w.request ≡ o.request
         = same_Some w.request o.request (sym w.there ∙ ap (λ requests. tree.get requests o.req) o.requests_so ∙ o.there) in
@@ -192,7 +195,8 @@ module _ (script : List Statement) (range : RunsAreInRange script) (start : Mome
           since = omega (arith, since, epoch);
         })
 
-    pub opened_at : (attempt : AttemptRecord) → after.past.attempts ≡ before.past.attempts ++ attempt ∷ [] → IsOpened script start after attempt
+    pub opened_at : (attempt : AttemptRecord) → after.past.attempts ≡ before.past.attempts ++ attempt ∷ []
+        → IsOpened script start after attempt
     opened_at attempt more = ⊎_elim
         (λ (was : WasAttempt before (length before.past.attempts) attempt).
         let some = was.at in

@@ -1,15 +1,10 @@
--- The unanswered messages of a node that isn't lost, over a change of a moment: each stays unanswered, or the step was told what came of it, and
--- so it has left the wire.
-use Rattle.std.proofs.Common.{◌≡◌, ◌≢◌, ◌⊎◌, inl, inr, ⊎_elim, arith, ℕ, ◌+◌, ◌≤◌, ◌<◌, ◌++◌, true, false, List, fold, Option, Some, None, is_some, slice_get, refl, sym, ap, subst, ◌∙◌}
-use Rattle.std.specs.Ordering.{nat_cmp}
+-- The unanswered messages of a node that isn't lost, over a change of a moment: each stays unanswered, or the step was told what came of
+-- it, and so it has left the wire.
+use Rattle.std.proofs.Common.{◌≡◌, ◌⊎◌, inl, inr, ⊎_elim, arith, ℕ, ◌+◌, ◌≤◌, ◌<◌, ◌++◌, true, false, List, fold, Option, Some, None}
+use Rattle.std.proofs.Common.{is_some, slice_get, refl, sym, ap, subst, ◌∙◌}
 use Rattle.std.specs.FinMap as tree
-use Rattle.std.proofs.lemmas.Option.{same_Some}
-use Rattle.proof_tools.proofs.FiniteMaps.{get-insert_same, get-insert_cases, insert-insert}
-use Rattle.proof_tools.proofs.Lists.{Contains-nil}
-use Rattle.object_id.specs.declared.entry.Entry.{Entry}
 use Rattle.object_id.specs.declared.node.NodeId.{NodeId}
 use Rattle.cluster_script.specs.declared.statement.Statement.{Statement}
-use Rattle.cluster_script.specs.declared.statement.Statement.TheVariants as lines
 use Rattle.peer_proto.specs.declared.ask.PeerReq.{PeerReq}
 use Rattle.gateway.specs.Outcomes.{AreNumberedFrom}
 use Rattle.gateway.specs.declared.message.Message.{Message}
@@ -21,28 +16,17 @@ use Rattle.gateway.specs.State.{Work, Gateway, is_touched}
 use Rattle.message_wire.specs.declared.name.MessageName.{MessageName}
 use Rattle.message_wire.specs.declared.packet.Packet.{Packet}
 use Rattle.message_wire.specs.Message.{message_name}
-use Rattle.sheep_node.specs.declared.course.Request.{Request}
-use Rattle.sheep_node.specs.declared.input.Input.TheVariants as inputs
-use Rattle.sheep_node.specs.State.{Node}
-use Rattle.sheep_node.specs.LogReading.{on_back}
-use Rattle.sheep_node.specs.Step.{node_step}
 use Rattle.sheep_node.specs.StepState.{StepState}
 use Rattle.sheep_node.specs.Changes as changes
 use Rattle.sheep_node.specs.Changes.{IsTold}
 use Rattle.sheep_node.proofs.AwaitedWorks.{Works}
 use Rattle.sheep_node.proofs.MessageNumbers.{numbers_within}
 use Rattle.sheep_node.proofs.NumberChanges.{both_in_chain}
-use Rattle.sheep_node.proofs.StepChain.{kept_by_chain, step_chain}
-use Rattle.sheep_node.proofs.StepResults.{me_received, step_me}
-use Rattle.sheep_world.specs.World.{Host, World, next_control}
-use Rattle.sheep_world.specs.Step.{EventOutcome}
+use Rattle.sheep_world.specs.World.{Host, World}
 use Rattle.sheep_world.specs.NodeSteps.{wire_with_request}
-use Rattle.sheep_world.specs.MembershipChanges.{lost_host}
-use Rattle.sheep_world.specs.NodeCauses.{NodeCause, GuestAsks, RequestComes, ReplyComes, LossIsTold, EntryIsRead, EntryIsPut, RecoveryTicks, WorkIsRetried, input_of_cause, event_of_cause, IsCause, wire_at_cause, host_with_node}
-use Rattle.sheep_world.specs.EventKinds.{log_after_return}
-use Rattle.sheep_world.specs.HostChanges.{host_after_return, joined_host}
+use Rattle.sheep_world.specs.NodeCauses.{NodeCause, GuestAsks, RequestComes, ReplyComes, LossIsTold, EntryIsRead, EntryIsPut, RecoveryTicks}
+use Rattle.sheep_world.specs.NodeCauses.{WorkIsRetried, input_of_cause, event_of_cause, IsCause, wire_at_cause, host_with_node}
 use Rattle.sheep_world.specs.Began.{Began}
-use Rattle.sheep_world.proofs.ControlLaws.{next_fits}
 use Rattle.sheep_world.proofs.NodeConditions.{reply_numbered}
 use Rattle.sheep_world.proofs.SenderMatch.{packets_of}
 use Rattle.sheep_world.proofs.StepsByCause.{IsReady}
@@ -51,23 +35,22 @@ use Rattle.overlap_law.specs.Attempts.{AttemptRecord, attempts_begun_by}
 use Rattle.overlap_law.specs.Past.{MomentWithPast}
 use Rattle.overlap_law.specs.PastWords.{messages_lost_by}
 use Rattle.overlap_law.specs.Packets.{Wire, is_name_in_wire}
-use Rattle.overlap_law.specs.Reached.{Hosts}
-use Rattle.overlap_law.specs.StepMoments.{SteppingNode, IsStepping, StepsByChanges, first_in_step, last_in_step, LeadsInStep, IsWithinStep, moment_in_step, attempts_at_cause}
-use Rattle.overlap_law.specs.MomentChanges as moments
+use Rattle.overlap_law.specs.StepMoments.{SteppingNode, IsStepping, StepsByChanges, first_in_step, LeadsInStep, IsWithinStep}
+use Rattle.overlap_law.specs.StepMoments.{moment_in_step, attempts_at_cause}
 use Rattle.overlap_law.specs.MomentChanges.{MomentChange, RunsAreInRange}
 use Rattle.overlap_law.proofs.AttemptsInSteps.{attempts-in_step}
-use Rattle.overlap_law.proofs.HostsInMoments.{none_there}
 use Rattle.overlap_law.proofs.KnownFates.{got_either, begun_above}
 use Rattle.overlap_law.proofs.LostMessages.{lost_in_step}
-use Rattle.overlap_law.proofs.KnownSteps.{IsKnownStep, together, known_step}
-use Rattle.overlap_law.proofs.OpenInMoments.{received_gateway, made_gateway, same_node}
+use Rattle.overlap_law.proofs.KnownSteps.{IsKnownStep, known_step}
+use Rattle.overlap_law.proofs.OpenInMoments.{same_node}
 use Rattle.overlap_law.proofs.OpeningTraffic.{me_so_far}
-use Rattle.overlap_law.proofs.RequestsInSteps.{KnownIn, change_known}
 use Rattle.overlap_law.proofs.SendsOfChanges.{in_order_so_far}
 use Rattle.overlap_law.proofs.TrafficOfChanges.{wire-in_step}
 use Rattle.overlap_law.proofs.UnansweredMessages.{IsUnanswered, StaysUnanswered, IsHeardOf}
 use Rattle.overlap_law.proofs.UnansweredStay.{change_goes}
 use Rattle.overlap_law.proofs.WireLemmas.{gone_at}
+use Rattle.overlap_law.proofs.ClosedHosts.{each_host}
+pub use Rattle.overlap_law.proofs.ClosedHosts.{IsNewer}
 
 -- ---- what a step is told of has left the wire
 
@@ -88,7 +71,8 @@ left_wire name wire sends low numbers below = by_packet (tree.get (fold wire_wit
         (λ (old : tree.get (tree.remove wire name) name ≡ Some packet). let none = gone_at wire name in absurd (cc (old, none)))
         (got_sent sends (tree.remove wire name) name packet is)
 
-module _ (script : List Statement) (world : World) (n : ℕ) (host : Host) (ready : IsReady script world n host) (sends : List (NodeId × PeerReq))
+module _ (script : List Statement) (world : World) (n : ℕ) (host : Host) (ready : IsReady script world n host)
+    (sends : List (NodeId × PeerReq))
     (numbers : AreNumberedFrom host.node.sends sends) where
   told_of : (name : MessageName) (number : ℕ) → name.sender.0 ≡ n → name.number ≡ number → number < host.node.sends
       → is_name_in_wire (fold wire_with_request (tree.remove world.wire name) sends) (message_name n number) ≡ false
@@ -97,8 +81,10 @@ module _ (script : List Statement) (world : World) (n : ℕ) (host : Host) (read
       subst (λ (q : MessageName). is_name_in_wire (fold wire_with_request (tree.remove world.wire name) sends) q ≡ false) named
       (left_wire name world.wire sends host.node.sends numbers (subst (λ (k : ℕ). k < host.node.sends) (sym same) below))
 
-  told_left : (cause : NodeCause) → IsCause script world n host cause → (number : ℕ) (status : Status) → IsTold (input_of_cause cause) number status
-      → number < host.node.sends → is_name_in_wire (fold wire_with_request (wire_at_cause cause world.wire) sends) (message_name n number) ≡ false
+  told_left : (cause : NodeCause) → IsCause script world n host cause → (number : ℕ) (status : Status)
+      → IsTold (input_of_cause cause) number status
+      → number < host.node.sends
+      → is_name_in_wire (fold wire_with_request (wire_at_cause cause world.wire) sends) (message_name n number) ≡ false
   told_left (GuestAsks session req ask) so number status told below = absurd told
   told_left (RequestComes name to request) so number status told below = absurd told
   told_left (ReplyComes name from rsp) so number status told below =
@@ -112,17 +98,6 @@ module _ (script : List Statement) (world : World) (n : ℕ) (host : Host) (read
   told_left WorkIsRetried so number status told below = absurd told
 
 -- ---- the nodes that aren't lost
-
--- a node that comes back has no request
-pub back_empty : (log : List Entry) (node : Node) (req : ℕ) (request : Request) → tree.get (node_step (inputs.Back log) node).node.requests req ≡ Some request → ⊥
-unfolding on_back
-back_empty log node =
-    (kept_by_chain (KnownIn (λ req session disk. ⊥)) (change_known (λ req session disk. ⊥) (inputs.Back log) node (λ req session ask from. absurd (cc (from))))
-    (step_chain (inputs.Back log) node)
-    (record {
-      asked = λ req request got. let none = tree.get-empty {X = Request} nat_cmp req in absurd (cc (none, got));
-      replied = λ one there. absurd (Contains-nil one there);
-    })).asked
 
 -- what is unanswered stays so
 pub stays_unanswered : (works : Works) (req : ℕ) (work : Work) (current : gateways.Attempt) (place : ℕ) (message : Message)
@@ -140,7 +115,8 @@ stays_unanswered works req work current place message m = record {
 
 -- a node steps in a moment's event, and is told what came of a message: it has left the wire, and where that touches its request, the
 -- request is touched, or is no more
-pub record HasHeard (script : List Statement) (start before after : MomentWithPast) (n : ℕ) (host : Host) (req : ℕ) (work : Work) (number : ℕ) : Type 0 where
+pub record HasHeard (script : List Statement) (start before after : MomentWithPast) (n : ℕ) (host : Host) (req : ℕ) (work : Work)
+    (number : ℕ) : Type 0 where
   pub stepping : SteppingNode
   pub is : IsStepping script start.world stepping
   pub by : StepsByChanges stepping.cause
@@ -151,7 +127,8 @@ pub record HasHeard (script : List Statement) (start before after : MomentWithPa
   pub touches : is_making work.work ≡ true → may_be_made status ≡ true
       → (is_touched req host.node.gateway ≡ true) ⊎ (tree.contains_key host.node.requests req ≡ false)
   pub origin : (j : ℕ) (was : AttemptRecord) → slice_get before.past.attempts j ≡ Some was
-      → (slice_get (attempts_at_cause stepping.host.node stepping.cause start.past.attempts) j ≡ Some was) ⊎ (stepping.host.node.sends ≤ was.first)
+      → (slice_get (attempts_at_cause stepping.host.node stepping.cause start.past.attempts) j ≡ Some was)
+      ⊎ (stepping.host.node.sends ≤ was.first)
   pub lost_so : after.past.lost ≡ start.past.lost ++ messages_lost_by (event_of_cause stepping.n stepping.cause)
 
 -- a node that isn't lost wasn't lost before, and its unanswered messages stay so, or it has heard of them
@@ -160,13 +137,9 @@ pub record WasUp (script : List Statement) (start before after : MomentWithPast)
   pub there : tree.get before.world.hosts n ≡ Some old
   pub up : old.is_lost ≡ false
   pub me : host.node.me ≡ old.node.me
-  pub goes : (req : ℕ) (work : Work) (current : gateways.Attempt) (place : ℕ) (message : Message) → IsUnanswered old.node.gateway.works req work current place message
+  pub goes : (req : ℕ) (work : Work) (current : gateways.Attempt) (place : ℕ) (message : Message)
+      → IsUnanswered old.node.gateway.works req work current place message
       → StaysUnanswered host.node.gateway.works req work current place ⊎ HasHeard script start before after n host req work message.number
-
--- or is there in a later incarnation, and has no request yet
-pub record IsNewer (before : MomentWithPast) (n : ℕ) (host : Host) : Type 0 where
-  pub later : (old : Host) → tree.get before.world.hosts n ≡ Some old → old.incarnation < host.incarnation
-  pub none : (req : ℕ) (request : Request) → tree.get host.node.requests req ≡ Some request → ⊥
 
 module _ (script : List Statement) (start : MomentWithPast) where
   abbrev pub EachWasUpOrIsNewer : MomentWithPast → MomentWithPast → Type 0
@@ -186,75 +159,52 @@ module _ (script : List Statement) (start : MomentWithPast) where
         (stays_unanswered old.node.gateway.works req work current place message m));
   }
 
-  same_hosts : (before after : MomentWithPast) → after.world.hosts ≡ before.world.hosts → EachWasUpOrIsNewer before after
-  same_hosts before after same n host there up =
-      inl (same_gateway before after n host host (ap (λ (held : Hosts). tree.get held n) (sym same) ∙ there) up refl refl)
-
-  one_host : (before after : MomentWithPast) (k : ℕ) (new : Host) → after.world.hosts ≡ tree.insert before.world.hosts k new
-      → (new.is_lost ≡ false → WasUp script start before after k new ⊎ IsNewer before k new) → EachWasUpOrIsNewer before after
-  one_host before after k new hosts own n host there up = ⊎_elim
-      (λ (here : (n ≡ k) × (new ≡ host)).
-      subst (λ (q : ℕ). WasUp script start before after q host ⊎ IsNewer before q host) (sym here.0)
-      (subst (λ (h : Host). WasUp script start before after k h ⊎ IsNewer before k h) here.1 (own (ap (λ (h : Host). h.is_lost) here.1 ∙ up))))
-      (λ (other : (n ≢ k) × (tree.get before.world.hosts n ≡ Some host)). inl (same_gateway before after n host host other.1 up refl refl))
-      (get-insert_cases before.world.hosts k new n host (ap (λ (held : Hosts). tree.get held n) (sym hosts) ∙ there))
-
 -- ---- every change
 
 module _ (script : List Statement) (range : RunsAreInRange script) (start : MomentWithPast) (began : Began script start.world) where
   -- what a step is told of isn't in the wire any more
-  pub told_gone : (stepping : SteppingNode) → IsKnownStep script start.world stepping → IsStepping script start.world stepping → StepsByChanges stepping.cause
-      → (so_far : StepState) → LeadsInStep stepping (first_in_step stepping) so_far → (number : ℕ) (status : Status) → IsTold (input_of_cause stepping.cause) number status
+  pub told_gone : (stepping : SteppingNode) → IsKnownStep script start.world stepping → IsStepping script start.world stepping
+      → StepsByChanges stepping.cause
+      → (so_far : StepState) → LeadsInStep stepping (first_in_step stepping) so_far → (number : ℕ) (status : Status)
+      → IsTold (input_of_cause stepping.cause) number status
       → is_name_in_wire (moment_in_step script stepping start so_far).world.wire (message_name stepping.n number) ≡ false
   told_gone stepping known is by so_far leads number status told =
-      subst (λ (wire : Wire). is_name_in_wire wire (message_name stepping.n number) ≡ false) (sym (wire-in_step script range start began stepping by so_far))
-      (told_left script start.world stepping.n stepping.host known.ready so_far.outputs.sends (in_order_so_far so_far leads).numbers stepping.cause is.caused
-      number status told (known.given number status told))
-
-  -- a node that joins, and one that comes back
-  pub newer_joined : (n : ℕ) → next_control start.world ≡ Some (lines.Join n) → IsNewer start n (joined_host script n)
-  newer_joined n control = record {
-    later = λ old there. none_there (tree.get start.world.hosts n) old
-        (next_fits script start.world (lines.Join n) control (together script range start.world began).fit).1 there;
-    none = λ req request got.
-        let empty : tree.get (joined_host script n).node.requests req ≡ None = tree.get-empty {X = Request} nat_cmp req in absurd (cc (empty, got));
-  }
-
-  pub newer_returned : (n : ℕ) (host : Host) → tree.get start.world.hosts n ≡ Some host → IsNewer start n (host_after_return (log_after_return script n start.world) host)
-  newer_returned n host was = record {
-    later = λ old there.
-        let same : host.incarnation ≡ old.incarnation = ap (λ (host : Host). host.incarnation) (same_Some host old (sym was ∙ there)) in
-        let rises : old.incarnation < host.incarnation + 1 = omega (arith, same) in
-        rises;
-    none = back_empty (log_after_return script n start.world) host.node;
-  }
+      subst (λ (wire : Wire). is_name_in_wire wire (message_name stepping.n number) ≡ false)
+      (sym (wire-in_step script range start began stepping by so_far))
+      (told_left script start.world stepping.n stepping.host known.ready so_far.outputs.sends (in_order_so_far so_far leads).numbers
+      stepping.cause is.caused number status told (known.given number status told))
 
   -- an attempt in the middle of a step was there before, or has numbers that were given in it
-  pub origin_so_far : (stepping : SteppingNode) (so_far : StepState) → IsStepping script start.world stepping → StepsByChanges stepping.cause
+  pub origin_so_far : (stepping : SteppingNode) (so_far : StepState) → IsStepping script start.world stepping
+      → StepsByChanges stepping.cause
       → (j : ℕ) (was : AttemptRecord) → slice_get (moment_in_step script stepping start so_far).past.attempts j ≡ Some was
-      → (slice_get (attempts_at_cause stepping.host.node stepping.cause start.past.attempts) j ≡ Some was) ⊎ (stepping.host.node.sends ≤ was.first)
+      → (slice_get (attempts_at_cause stepping.host.node stepping.cause start.past.attempts) j ≡ Some was)
+      ⊎ (stepping.host.node.sends ≤ was.first)
   origin_so_far stepping so_far is by j was at =
       let told = attempts_at_cause stepping.host.node stepping.cause start.past.attempts in
       let new = host_with_node stepping.host so_far.node in
       ⊎_elim
       (λ (old : slice_get told j ≡ Some was). inl old)
-      (λ (begun : (k : ℕ) × (slice_get (attempts_begun_by stepping.host new) k ≡ Some was)). inr (begun_above stepping.host new begun.0 was begun.1).0)
-      (got_either told (attempts_begun_by stepping.host new) j was
+      (λ (begun : (k : ℕ) × (slice_get (attempts_begun_by stepping.host new) k ≡ Some was)). inr
+      (begun_above stepping.host new begun.0 was begun.1).0) (got_either told (attempts_begun_by stepping.host new) j was
       (ap (λ (all : List AttemptRecord). slice_get all j) (sym (attempts-in_step script start stepping is by so_far)) ∙ at))
 
+  abbrev WasUpOrIsNewer : MomentWithPast → MomentWithPast → ℕ → Host → Type 0
+  WasUpOrIsNewer before after n host = WasUp script start before after n host ⊎ IsNewer before n host
+
   goes_on_up : (stepping : SteppingNode) (so_far next : StepState) → IsStepping script start.world stepping → StepsByChanges stepping.cause
-      → IsWithinStep stepping so_far next → EachWasUpOrIsNewer script start (moment_in_step script stepping start so_far) (moment_in_step script stepping start next)
-  goes_on_up stepping so_far next is by within =
+      → IsWithinStep stepping so_far next
+      → tree.get (moment_in_step script stepping start so_far).world.hosts stepping.n ≡ Some (host_with_node stepping.host so_far.node)
+      → stepping.host.is_lost ≡ false
+      → WasUpOrIsNewer (moment_in_step script stepping start so_far) (moment_in_step script stepping start next) stepping.n
+      (host_with_node stepping.host next.node)
+  goes_on_up stepping so_far next is by within there up =
       let known = known_step script range start.world began stepping is in
-      let was = host_with_node stepping.host so_far.node in
-      let now = host_with_node stepping.host next.node in
       let good = (both_in_chain (input_of_cause stepping.cause) stepping.host.node known.sound so_far within.leads).0 in
       let leads = changes.Then within.leads within.change in
-      one_host script start (moment_in_step script stepping start so_far) (moment_in_step script stepping start next) stepping.n now
-      (sym (insert-insert start.world.hosts stepping.n was now))
-      (λ up. inl (record {
-        old = was;
-        there = get-insert_same start.world.hosts stepping.n was;
+      inl (record {
+        old = host_with_node stepping.host so_far.node;
+        there = there;
         up = up;
         me = same_node next.node.me so_far.node.me stepping.n (me_so_far script start.world stepping known next leads)
             (me_so_far script start.world stepping known so_far within.leads);
@@ -273,33 +223,12 @@ module _ (script : List Statement) (range : RunsAreInRange script) (start : Mome
               origin = origin_so_far stepping so_far is by;
               lost_so = lost_in_step script stepping start next;
             }))
-            (change_goes (input_of_cause stepping.cause) stepping.host.node known.sound so_far good req work current place message m next within.change);
-      }))
+            (change_goes (input_of_cause stepping.cause) stepping.host.node known.sound so_far good req work current place message m next
+            within.change);
+      })
 
   pub each_was_up : {before after : MomentWithPast} → MomentChange script start before after → EachWasUpOrIsNewer script start before after
-  each_was_up (moments.StepBegins stepping is by) =
-      let now = host_with_node stepping.host (first_in_step stepping).node in
-      let after = moment_in_step script stepping start (first_in_step stepping) in
-      one_host script start start after stepping.n now refl
-      (λ up. inl (same_gateway script start start after stepping.n stepping.host now is.there up (me_received (input_of_cause stepping.cause) stepping.host.node)
-      (received_gateway stepping.cause stepping.host.node by)))
-  each_was_up (moments.StepGoesOn stepping so_far next is by within) = goes_on_up stepping so_far next is by within
-  each_was_up (moments.StepIsMade stepping is by) =
-      let now = host_with_node stepping.host (last_in_step stepping).node in
-      let after = moment_in_step script stepping start (last_in_step stepping) in
-      one_host script start start after stepping.n now refl
-      (λ up. inl (same_gateway script start start after stepping.n stepping.host now is.there up (step_me (input_of_cause stepping.cause) stepping.host.node)
-      (made_gateway stepping.cause stepping.host.node by)))
-  each_was_up {before} {after} (moments.LossIsUntold event made happened h) = same_hosts script start before after (ap (λ (m : EventOutcome). m.world.hosts) (sym h.made_so))
-  each_was_up {before} {after} (moments.DeliveryIsUnread event made happened h) = same_hosts script start before after (ap (λ (m : EventOutcome). m.world.hosts) (sym h.made_so))
-  each_was_up {before} {after} (moments.NodeIsLost event made happened h) =
-      one_host script start before after h.n (lost_host h.host) (ap (λ (m : EventOutcome). m.world.hosts) (sym h.made_so)) (λ up. absurd (cc (up)))
-  each_was_up {before} {after} (moments.NodeLeaves event made happened h) = same_hosts script start before after (ap (λ (m : EventOutcome). m.world.hosts) (sym h.made_so))
-  each_was_up {before} {after} (moments.NodeIsReweighted event made happened h) = same_hosts script start before after (ap (λ (m : EventOutcome). m.world.hosts) (sym h.made_so))
-  each_was_up {before} {after} (moments.NodeJoins event made happened h) =
-      one_host script start before after h.n (joined_host script h.n) (ap (λ (m : EventOutcome). m.world.hosts) (sym h.made_so))
-      (λ up. inr (newer_joined h.n h.control))
-  each_was_up {before} {after} (moments.NodeComesBack event made happened h) =
-      one_host script start before after h.n (host_after_return (log_after_return script h.n start.world) h.host) (ap (λ (m : EventOutcome). m.world.hosts) (sym h.made_so))
-      (λ up. inr (newer_returned h.n h.host h.there))
-  each_was_up {before} {after} (moments.PhaseEnds event made happened h) = same_hosts script start before after (ap (λ (m : EventOutcome). m.world.hosts) (sym h.made_so))
+  each_was_up change =
+      each_host script range start began WasUpOrIsNewer
+      (λ before after n old host there up me asked. inl (same_gateway script start before after n old host there up me asked.0))
+      goes_on_up (λ before after n host newer none. inr newer) change

@@ -1,17 +1,15 @@
--- In each world of a run in range, and at each moment on the way of its events, the works of a node are those that its requests wait for, each
--- with what its session may have open for it.
-use Rattle.std.proofs.Common.{◌≡◌, ◌≢◌, ⊎_elim, ℕ, List, [], All, Some, subst, arith}
+-- In each world of a run in range, and at each moment on the way of its events, the works of a node are those that its requests wait for,
+-- each with what its session may have open for it.
+use Rattle.std.proofs.Common.{◌≡◌, ℕ, List, [], All, Some, subst, arith}
 use Rattle.std.specs.FinMap as tree
 use Rattle.std.proofs.lemmas.Bool.{le-leb}
-use Rattle.proof_tools.proofs.FiniteMaps.{get-insert_same, get-insert_cases}
+use Rattle.proof_tools.proofs.FiniteMaps.{get-insert_same}
 use Rattle.epoch_log.specs.Appending.{IsReservable}
 use Rattle.cluster_script.specs.declared.statement.Statement.{Statement}
 use Rattle.cluster_script.specs.Settings.{tries_of}
 use Rattle.peer_service.specs.State.{effects_of}
-use Rattle.sheep_node.specs.declared.event.Event.{Event}
 use Rattle.sheep_node.specs.declared.input.Input.TheVariants as inputs
 use Rattle.sheep_node.specs.declared.limits.TheConstants.{SENDS_MAX}
-use Rattle.sheep_node.specs.Changes as changes
 use Rattle.sheep_node.specs.State as nodes
 use Rattle.sheep_node.specs.StepState.{StepState}
 use Rattle.sheep_node.proofs.NumberChanges.{one_work_at_opening}
@@ -23,18 +21,16 @@ use Rattle.sheep_node.proofs.ValidLaws.{valid_disks_stay, valid_disks_at_opening
 use Rattle.sheep_world.specs.Began.{Began}
 use Rattle.sheep_world.specs.EventKinds.{log_after_return, world_after_return, outcome_of_step}
 use Rattle.sheep_world.specs.HostChanges.{HostsKeep, host_after_return}
-use Rattle.sheep_world.specs.NodeCauses.{input_of_cause, event_of_cause, host_with_node, world_after_cause}
+use Rattle.sheep_world.specs.NodeCauses.{input_of_cause, event_of_cause, world_after_cause}
 use Rattle.sheep_world.specs.Opening.{format_entry, initial_world}
-use Rattle.sheep_world.specs.Step.{EventOutcome, step}
 use Rattle.sheep_world.specs.World.{Host, World}
 use Rattle.sheep_world.proofs.BegunWorlds.{each_where, goes_on}
 use Rattle.sheep_world.proofs.LogAtOpening.{opens_log, nodes-valid}
 use Rattle.sheep_world.proofs.ValidNodes.{first_may}
-use Rattle.overlap_law.specs.MomentChanges as moments
 use Rattle.overlap_law.specs.MomentChanges.{MomentChange, MomentTrail, RunsAreInRange}
 use Rattle.overlap_law.specs.Past.{MomentWithPast}
 use Rattle.overlap_law.specs.Reached.{Hosts}
-use Rattle.overlap_law.specs.StepMoments.{SteppingNode, IsStepping, StepsByChanges, first_in_step, LeadsInStep, hosts_in_step}
+use Rattle.overlap_law.specs.StepMoments.{SteppingNode, IsStepping, StepsByChanges, first_in_step, LeadsInStep}
 use Rattle.overlap_law.proofs.AllowedCourses.{none_allowed, allowed_in_chain}
 use Rattle.overlap_law.proofs.CausedWorks.{HasWellWorks, IsPlaced, back_allowed, by_changes, few_from, own_then, step_allowed, well_then}
 use Rattle.overlap_law.proofs.KnownDiskSteps.{none_known}
@@ -42,6 +38,7 @@ use Rattle.overlap_law.proofs.KnownDisksInRuns.{nodes_know}
 use Rattle.overlap_law.proofs.KnownSteps.{together}
 use Rattle.overlap_law.proofs.OwnMakingChanges.{none_own, own_in_chain}
 use Rattle.overlap_law.proofs.RoomOfSessions.{guests_sound}
+use Rattle.overlap_law.proofs.ClosedWorlds.{hosts_after, hosts_along}
 
 -- each node has its works so
 abbrev pub HaveWellWorks : Hosts → Type 0
@@ -61,9 +58,12 @@ module _ (script : List Statement) (range : RunsAreInRange script) where
         let reservable = subst (All IsReservable) (step_reads input new)
         (valid_disks_stay input new tt (valid_disks_at_opening member.node (tries_of script))).read in (
           allowed_in_chain input new
-              (record { numbers = le-leb 0 SENDS_MAX (omega arith); condition = first_may (format_entry script) [] (opens_log script range.is_script).log })
-              none_queued (commands_alone_at_opening member.node (tries_of script)) (λ req session work from. absurd (cc (from))) none_allowed _
-              (step_chain input new),
+              (record {
+                numbers = le-leb 0 SENDS_MAX (omega arith);
+                condition = first_may (format_entry script) [] (opens_log script range.is_script).log;
+              })
+              none_queued (commands_alone_at_opening member.node (tries_of script)) (λ req session work from. absurd (cc (from)))
+              none_allowed _ (step_chain input new),
           own_in_chain input new (tt, one) (few_from input new reservable tt (none_known (effects_of new.peer))) none_own _
               (step_chain input new),
         );
@@ -78,7 +78,8 @@ module _ (script : List Statement) (range : RunsAreInRange script) where
         let input = inputs.Back log in
         let after = host_after_return log host in
         let reservable = subst (All IsReservable) (step_reads input host.node)
-        (nodes-valid script range.is_script range.room (world_after_return script n host world) next n after (get-insert_same world.hosts n after)).read in (
+        (nodes-valid script range.is_script range.room (world_after_return script n host world) next n after
+        (get-insert_same world.hosts n after)).read in (
           back_allowed log host.node,
           own_in_chain input host.node (tt, (together script range world began).driven n host there)
               (few_from input host.node reservable tt (nodes_know script range world began n host there)) (so began).1 _
@@ -104,9 +105,6 @@ module _ (script : List Statement) (range : RunsAreInRange script) where
   -- ---- along trails
 
   module _ (start : MomentWithPast) (began : Began script start.world) where
-    abbrev end_of : SteppingNode → World
-    end_of stepping = world_after_cause script stepping.n stepping.host stepping.cause start.world
-
     has_ended : (stepping : SteppingNode) → IsStepping script start.world stepping
         → Began script (world_after_cause script stepping.n stepping.host stepping.cause start.world)
     has_ended stepping is =
@@ -114,32 +112,14 @@ module _ (script : List Statement) (range : RunsAreInRange script) where
         (outcome_of_step script stepping.n stepping.host stepping.cause start.world) began is.made
 
     in_step : (stepping : SteppingNode) → IsStepping script start.world stepping → StepsByChanges stepping.cause → (so_far : StepState)
-        → LeadsInStep stepping (first_in_step stepping) so_far → HaveWellWorks (hosts_in_step stepping start.world so_far)
-    in_step stepping is by so_far leads q other at = ⊎_elim
-        (λ (own : (q ≡ stepping.n) × (host_with_node stepping.host so_far.node ≡ other)).
-        subst (λ (h : Host). HasWellWorks h.node) own.1
-        (let before = well_in_world start.world began stepping.n stepping.host is.there in
+        → LeadsInStep stepping (first_in_step stepping) so_far → HasWellWorks so_far.node
+    in_step stepping is by so_far leads =
+        let before = well_in_world start.world began stepping.n stepping.host is.there in
         well_then script range start.world began stepping.n stepping.host is.there is.up stepping.cause is.caused (has_ended stepping is)
-        (before.allowed, before.own) (by_changes stepping.cause by) so_far leads))
-        (λ (apart : (q ≢ stepping.n) × (tree.get start.world.hosts q ≡ Some other)). well_in_world start.world began q other apart.1)
-        (get-insert_cases start.world.hosts stepping.n (host_with_node stepping.host so_far.node) q other at)
-
-    at_end : (event : Event) (made : EventOutcome) → step script event start.world ≡ Some made → HaveWellWorks made.world.hosts
-    at_end event made happened = well_in_world made.world (goes_on script event start.world made began happened)
+        (before.allowed, before.own) (by_changes stepping.cause by) so_far leads
 
     pub well_after : {before after : MomentWithPast} → MomentChange script start before after → HaveWellWorks after.world.hosts
-    well_after (moments.StepBegins stepping is by) = in_step stepping is by (first_in_step stepping) changes.Still
-    well_after (moments.StepGoesOn stepping so_far next is by within) = in_step stepping is by next (changes.Then within.leads within.change)
-    well_after (moments.StepIsMade stepping is by) = well_in_world (end_of stepping) (has_ended stepping is)
-    well_after (moments.LossIsUntold event made happened h) = at_end event made happened
-    well_after (moments.DeliveryIsUnread event made happened h) = at_end event made happened
-    well_after (moments.NodeIsLost event made happened h) = at_end event made happened
-    well_after (moments.NodeLeaves event made happened h) = at_end event made happened
-    well_after (moments.NodeIsReweighted event made happened h) = at_end event made happened
-    well_after (moments.NodeJoins event made happened h) = at_end event made happened
-    well_after (moments.NodeComesBack event made happened h) = at_end event made happened
-    well_after (moments.PhaseEnds event made happened h) = at_end event made happened
+    well_after change = hosts_after script (λ (n : ℕ) (host : Host). HasWellWorks host.node) well_in_world start began in_step change
 
     pub well_along : {moment : MomentWithPast} → MomentTrail script start moment → HaveWellWorks moment.world.hosts
-    well_along moments.Still = well_in_world start.world began
-    well_along (moments.Then trail change) = well_after change
+    well_along trail = hosts_along script (λ (n : ℕ) (host : Host). HasWellWorks host.node) well_in_world start began in_step trail

@@ -1,29 +1,23 @@
 -- At each moment on the way of an event each work that is open is what its request waits for, on the disk that the session has open, where
 -- the request's statement allows that.
-use Rattle.std.proofs.Common.{◌≡◌, ◌≢◌, inl, ⊎_elim, ℕ, true, List, Option, Some, None, IfSome, refl, ap, subst}
+use Rattle.std.proofs.Common.{◌≡◌, inl, ℕ, true, List, Option, Some, None, IfSome, refl, ap, subst}
 use Rattle.std.specs.FinMap as tree
-use Rattle.proof_tools.proofs.FiniteMaps.{get-insert_cases, get-insert_same}
+use Rattle.proof_tools.proofs.FiniteMaps.{get-insert_same}
 use Rattle.cluster_script.specs.declared.statement.Statement.{Statement}
 use Rattle.gateway.specs.State.{Work}
 use Rattle.peer_proto.specs.declared.work.ObjWork.{ObjWork}
 use Rattle.sheep_node.specs.declared.course.Request.{Request}
-use Rattle.sheep_node.specs.declared.event.Event.{Event}
 use Rattle.sheep_node.specs.OneWork.{may_work_at}
 use Rattle.sheep_node.specs.SessionQueues.{session_among}
 use Rattle.sheep_node.specs.State.{Node}
 use Rattle.sheep_node.specs.StepState.{StepState}
-use Rattle.sheep_node.specs.Changes as changes
 use Rattle.sheep_world.specs.World.{Host, World}
 use Rattle.sheep_world.specs.Began.{Began}
-use Rattle.sheep_world.specs.EventKinds.{outcome_of_step}
-use Rattle.sheep_world.specs.NodeCauses.{input_of_cause, event_of_cause, host_with_node, progress_at_cause}
-use Rattle.sheep_world.specs.Step.{EventOutcome, step}
-use Rattle.sheep_world.proofs.BegunWorlds.{goes_on}
-use Rattle.overlap_law.specs.MomentChanges as moments
+use Rattle.sheep_world.specs.NodeCauses.{input_of_cause, host_with_node, progress_at_cause}
 use Rattle.overlap_law.specs.MomentChanges.{MomentChange, RunsAreInRange}
-use Rattle.overlap_law.specs.Past.{MomentWithPast, moment_after}
+use Rattle.overlap_law.specs.Past.{MomentWithPast}
 use Rattle.overlap_law.specs.RequestsOfScript.{IsCourseOfAsk}
-use Rattle.overlap_law.specs.StepMoments.{SteppingNode, IsStepping, StepsByChanges, LeadsInStep, first_in_step, moment_in_step}
+use Rattle.overlap_law.specs.StepMoments.{SteppingNode, IsStepping, StepsByChanges, LeadsInStep, first_in_step}
 use Rattle.overlap_law.specs.Words.{Hosts}
 use Rattle.overlap_law.proofs.CausedWorks.{by_changes}
 use Rattle.overlap_law.proofs.CoursesAtChanges.{placed_in_chain}
@@ -35,6 +29,7 @@ use Rattle.overlap_law.proofs.WaitedInRuns.{works_wait, works_waited}
 use Rattle.overlap_law.proofs.WaitedSteps.{Waits}
 use Rattle.overlap_law.proofs.WholeInRuns.{may_change, sound_here}
 use Rattle.overlap_law.proofs.WorksAtCourses.{HaveAt}
+use Rattle.overlap_law.proofs.ClosedWorlds.{hosts_after}
 
 module _ (script : List Statement) where
   -- a request of a node waits for this work, at a place that its statement allows
@@ -87,12 +82,9 @@ module _ (script : List Statement) where
     module _ (start : MomentWithPast) (began : Began script start.world) where
       -- in the middle of a step
       works_in_step : (stepping : SteppingNode) → IsStepping script start.world stepping → StepsByChanges stepping.cause
-          → (so_far : StepState) → LeadsInStep stepping (first_in_step stepping) so_far
-          → AllWorksAreSo (moment_in_step script stepping start so_far).world.hosts
-      works_in_step stepping is by so_far leads n host there = ⊎_elim
-          (λ (here : (n ≡ stepping.n) × (host_with_node stepping.host so_far.node ≡ host)).
-          subst (λ (h : Host). OpenWorksAreSo h.node) here.1
-          (works_so so_far.node (BeganOn script (progress_at_cause stepping.cause start.world))
+          → (so_far : StepState) → LeadsInStep stepping (first_in_step stepping) so_far → OpenWorksAreSo so_far.node
+      works_in_step stepping is by so_far leads =
+          works_so so_far.node (BeganOn script (progress_at_cause stepping.cause start.world))
           (λ req work got.
           (driven_at script range start began stepping is so_far leads stepping.n (host_with_node stepping.host so_far.node)
           (get-insert_same start.world.hosts stepping.n (host_with_node stepping.host so_far.node))).open_works req work got)
@@ -107,29 +99,9 @@ module _ (script : List Statement) where
           (brings script start.world stepping.n stepping.host stepping.cause is.there is.caused)
           (placed_found script range start.world began stepping.n stepping.host stepping.cause stepping.host.node
           (requests_placed script range start.world began stepping.n stepping.host is.there))
-          so_far leads)))
-          (λ (other : (n ≢ stepping.n) × (tree.get start.world.hosts n ≡ Some host)).
-          works_in_world start.world began n host other.1)
-          (get-insert_cases start.world.hosts stepping.n (host_with_node stepping.host so_far.node) n host there)
-
-      works_then : (event : Event) (made : EventOutcome) → step script event start.world ≡ Some made
-          → AllWorksAreSo (moment_after script event start made).world.hosts
-      works_then event made happened = works_in_world made.world (goes_on script event start.world made began happened)
+          so_far leads)
 
       -- behind each change
       pub works_after : {before after : MomentWithPast} → MomentChange script start before after → AllWorksAreSo after.world.hosts
-      works_after (moments.StepBegins stepping is by) =
-          works_in_step stepping is by (first_in_step stepping) changes.Still
-      works_after (moments.StepGoesOn stepping so_far next is by within) =
-          works_in_step stepping is by next (changes.Then within.leads within.change)
-      works_after (moments.StepIsMade stepping is by) =
-          works_then (event_of_cause stepping.n stepping.cause)
-          (outcome_of_step script stepping.n stepping.host stepping.cause start.world) is.made
-      works_after (moments.LossIsUntold event made happened h) = works_then event made happened
-      works_after (moments.DeliveryIsUnread event made happened h) = works_then event made happened
-      works_after (moments.NodeIsLost event made happened h) = works_then event made happened
-      works_after (moments.NodeLeaves event made happened h) = works_then event made happened
-      works_after (moments.NodeIsReweighted event made happened h) = works_then event made happened
-      works_after (moments.NodeJoins event made happened h) = works_then event made happened
-      works_after (moments.NodeComesBack event made happened h) = works_then event made happened
-      works_after (moments.PhaseEnds event made happened h) = works_then event made happened
+      works_after change =
+          hosts_after script (λ (n : ℕ) (host : Host). OpenWorksAreSo host.node) works_in_world start began works_in_step change

@@ -24,34 +24,28 @@ use Rattle.guest_driver.specs.Driver.{Driver, Writes, DriverStage, DriverStep, I
 use Rattle.guest_driver.specs.Driver.{begin_driver}
 use Rattle.guest_driver.specs.PieceWorks.{object_bytes, write_piece}
 use Rattle.guest_driver.specs.Pieces.{Piece, pieces}
-use Rattle.sheep_node.specs.declared.course.Course.{Course}
-use Rattle.sheep_node.specs.declared.course.Course.TheVariants.{Waiting, Driving, Commanding}
+use Rattle.sheep_node.specs.declared.course.Course.TheVariants.{Waiting, Driving}
 use Rattle.sheep_node.specs.declared.course.Request.{Request}
 use Rattle.sheep_node.specs.declared.event.Event.{Event}
 use Rattle.sheep_node.specs.declared.input.Input.{Input}
-use Rattle.sheep_node.specs.declared.session.Session.{Session}
-use Rattle.sheep_node.specs.Changes.{EndsWork, Outcome, RequestSteps, DiskBegins, DiskGoesOn, CommandBegins, CommandGoesOn, CommandDecided}
-use Rattle.sheep_node.specs.Changes.{CheckBegins, CheckGoesOn, ObjectBegins, ObjectIsDone, EntryBegins, EntryDecided}
+use Rattle.sheep_node.specs.Changes.{EndsWork}
 use Rattle.sheep_node.specs.Courses.{inode_open}
 use Rattle.sheep_node.specs.May.{is_disk_course}
 use Rattle.sheep_node.specs.SessionQueues.{session_among}
-use Rattle.sheep_node.specs.StepState.{StepState, session_in}
+use Rattle.sheep_node.specs.StepState.{StepState}
 use Rattle.sheep_node.specs.WantedWorks.{IsWantedAt, IsWorkWanted, IsWorkOfWrite}
-use Rattle.sheep_node.proofs.QueueChanges.{same_view}
-use Rattle.sheep_node.proofs.WantedSteps.{driver_goes_on-wanted}
 use Rattle.sheep_world.specs.Began.{Began}
 use Rattle.sheep_world.specs.NodeCauses.{input_of_cause, host_with_node}
 use Rattle.sheep_world.specs.World.{Host}
 use Rattle.overlap_law.specs.MomentChanges as moments
 use Rattle.overlap_law.specs.MomentChanges.{MomentChange, MomentTrail, RunsAreInRange}
-use Rattle.overlap_law.specs.OpenedTables.{OpensNow, ByWork, ByEntry, ReadsIt, WroteIt}
 use Rattle.overlap_law.specs.Past.{MomentWithPast, run_with_past}
 use Rattle.overlap_law.specs.StepMoments.{SteppingNode, IsStepping, StepsByChanges, IsWithinStep, moment_in_step}
 use Rattle.overlap_law.specs.WrittenPieces.{HasPiece, IsWrittenAlone, HasBehind, WhatIsWrittenStaysAlone, CreatesHavePieces}
+use Rattle.overlap_law.proofs.AloneDisks.{had_disk}
 use Rattle.overlap_law.proofs.AnswersInMoments.{not_lost}
 use Rattle.overlap_law.proofs.CausedWorks.{HasWellWorks}
-use Rattle.overlap_law.proofs.CoursesCome.{StepsNow, courses_come}
-use Rattle.overlap_law.proofs.DisksAfter.{DiskAfter, Stayed, Drove, Opened, disk_from}
+use Rattle.overlap_law.proofs.ClosedDrivers.{DriverCame, Remained, Started, Stepped, driver_came}
 use Rattle.overlap_law.proofs.DrivenPieces.{has_in_place, begin_comes, CameFrom, Fetched, Created, Wrote, Entered, came_from}
 use Rattle.overlap_law.proofs.EntryWorks.{known_disk}
 use Rattle.overlap_law.proofs.KnownDisks.{FewAt, kind-of_object}
@@ -102,63 +96,6 @@ module _ (script : List Statement) (range : RunsAreInRange script) (events : Lis
 
   well : HasWellWorks so_far.node
   well = well_along script range start began trail on.n was was_there
-
-  -- the disk under a read or write has another table at most
-  record IsSameDisk (old disk : Disk) : Type 0 where
-    vid : disk.inode.vid ≡ old.inode.vid
-    spec : disk.inode.spec ≡ old.inode.spec
-
-  module _ (number req : ℕ) (course : Course) (there : tree.get so_far.node.requests req ≡ Some
-      (record { session = number; course = course }))
-      (off : is_disk_course course ≡ true) where
-    no_command : (q : ℕ) (command : Course) → tree.get so_far.node.requests q ≡ Some (record { session = number; course = command })
-        → is_disk_course command ≡ false → ⊥
-    no_command q command there_too is =
-        let same : req ≡ q
-        = well.alone.alone number q req (record { session = number; course = course })
-        (well.alone.named q (record { session = number; course = command }) there_too is) there refl in
-        let one : ◌≡◌ {A = Request} (record { session = number; course = course }) (record { session = number; course = command })
-        = same_Some (record { session = number; course = course }) (record { session = number; course = command })
-        (sym there ∙ ap (tree.get so_far.node.requests) same ∙ there_too) in
-        let both : true ≡ false = sym off ∙ ap (λ (r : Request). is_disk_course r.course) one ∙ is in
-        cc (both)
-
-    opens_none : (disk : Disk) → OpensNow (input_of_cause on.cause) on.host.node so_far number disk → ⊥
-    opens_none disk (ByWork (ReadsIt q k work current status bytes op vid ids header ends stage same)) =
-        no_command q (Commanding op) ends.ends.request refl
-    opens_none disk (ByWork (WroteIt q k work current status bytes op vid inode ends stage same)) =
-        no_command q (Commanding op) ends.ends.request refl
-    opens_none disk (ByEntry q op entry inode there_too stage same) = no_command q (Commanding op) there_too refl
-
-    same_disk : (old disk : Disk) → (session_among number so_far.node.sessions).disk ≡ Some old
-        → (session_among number next.node.sessions).disk ≡ Some disk → IsSameDisk old disk
-    same_disk old disk opened opened_then =
-        by_origin (disk_from number disk (input_of_cause on.cause) on.host.node so_far next within.change opened_then)
-      where
-        by_origin : DiskAfter (input_of_cause on.cause) on.host.node so_far number disk → IsSameDisk old disk
-        by_origin (Stayed same) =
-            let one : disk ≡ old = same_Some disk old (sym same ∙ opened) in
-            record { vid = ap (λ (d : Disk). d.inode.vid) one; spec = ap (λ (d : Disk). d.inode.spec) one }
-        by_origin (Drove found q k work current status bytes driver step ends at goes then) =
-            let one : found ≡ old = same_Some found old (sym at ∙ opened) in
-            let wanted = driver_goes_on-wanted found.inode bytes driver step goes in
-            record {
-              vid = ap (λ (d : Disk). d.inode.vid) then ∙ wanted.vid ∙ ap (λ (d : Disk). d.inode.vid) one;
-              spec = ap (λ (d : Disk). d.inode.spec) then ∙ wanted.spec ∙ ap (λ (d : Disk). d.inode.spec) one;
-            }
-        by_origin (Opened now_open) = absurd (opens_none disk now_open)
-
-    -- and was open
-    was_open : (disk : Disk) → (session_among number next.node.sessions).disk ≡ Some disk
-        → (old : Disk) × ((session_among number so_far.node.sessions).disk ≡ Some old)
-    was_open disk opened_then =
-        by_origin (disk_from number disk (input_of_cause on.cause) on.host.node so_far next within.change opened_then)
-      where
-        by_origin : DiskAfter (input_of_cause on.cause) on.host.node so_far number disk
-            → (old : Disk) × ((session_among number so_far.node.sessions).disk ≡ Some old)
-        by_origin (Stayed same) = (disk, same)
-        by_origin (Drove found q k work current status bytes driver step ends at goes then) = (found, at)
-        by_origin (Opened now_open) = absurd (opens_none disk now_open)
 
   -- a piece that is done now
   module _ (number req k : ℕ) (work : Work) (current : gateways.Attempt) (status : Status) (bytes : List ℕ) (payload : List ℕ)
@@ -225,60 +162,29 @@ module _ (script : List Statement) (range : RunsAreInRange script) (events : Lis
     was_so : tree.get so_far.node.requests req ≡ Some request → Has
     was_so had =
         let off : is_disk_course request.course ≡ true = ap is_disk_course course in
-        let (old, opened_here) = was_open request.session req request.course had off opened at in
-        let same = same_disk request.session req request.course had off old opened opened_here at in
+        let d = had_disk script range events start ran on is by so_far next within trail request.session req request.course had off opened
+        at in
         kept script range events start here later ran trail change on.n now now_there up req request there opened at payload stage piece
-        rest
-        course old same.vid same.spec
-        (all.each on.n was was_there up req request old payload stage piece rest had opened_here course)
+        rest course d.old d.vid d.spec (all.each on.n was was_there up req request d.old payload stage piece rest had d.opened course)
 
-    own : (session : ℕ) (other : Course)
-        → tree.get (tree.insert so_far.node.requests req (record { session = session; course = other })) req ≡ Some request
-        → record { session = session; course = other } ≡ request
-    own session other got =
-        same_Some (record { session = session; course = other }) request
-        (sym (get-insert_same so_far.node.requests req (record { session = session; course = other })) ∙ got)
-
-    -- another course is none of a write
-    not_driving : (session : ℕ) (other : Course) → ((driver : Driver) → other ≢ Driving driver)
-        → tree.get (tree.insert so_far.node.requests req (record { session = session; course = other })) req ≡ Some request → Has
-    not_driving session other apart got =
-        absurd (apart (Writes payload stage piece rest) (ap (λ (r : Request). r.course) (own session other got) ∙ course))
-
-    -- its driver has come to it now
-    module _ (session : ℕ) (driver : Driver)
-        (got : tree.get (tree.insert so_far.node.requests req (record { session = session; course = Driving driver })) req ≡ Some request)
-      where
-        driver_so : driver ≡ Writes payload stage piece rest
-        driver_so =
-            let both : Driving driver ≡ Driving (Writes payload stage piece rest)
-            = ap (λ (r : Request). r.course) (own session (Driving driver) got) ∙ course in
-            cc (both)
-
-        at_then : (session_among session next.node.sessions).disk ≡ Some opened
-        at_then =
-            ap (λ (k : ℕ). (session_among k next.node.sessions).disk)
-            (ap (λ (r : Request). r.session) (own session (Driving driver) got)) ∙ at
-
-    begins : (session : ℕ) (ask : DiskAsk) (disk : Disk)
-        → tree.get so_far.node.requests req ≡ Some (record { session = session; course = Waiting ask })
-        → (session_in session so_far).disk ≡ Some disk
-        → tree.get (tree.insert so_far.node.requests req
-        (record { session = session; course = Driving (begin_driver disk ask).driver })) req ≡ Some request → Has
-    begins session ask disk had on_disk got =
-        let same = same_disk session req (Waiting ask) had refl disk opened on_disk (at_then session (begin_driver disk ask).driver got) in
-        let (offset, cut, apart) = begin_comes payload stage piece rest disk ask (driver_so session (begin_driver disk ask).driver got) in
+    begins : (ask : DiskAsk) (disk : Disk)
+        → tree.get so_far.node.requests req ≡ Some (record { session = request.session; course = Waiting ask })
+        → (session_among request.session so_far.node.sessions).disk ≡ Some disk
+        → (begin_driver disk ask).driver ≡ Writes payload stage piece rest → Has
+    begins ask disk had on_disk driver_so =
+        let d = had_disk script range events start ran on is by so_far next within trail request.session req (Waiting ask) had refl opened
+        at in
+        let same : d.old ≡ disk = same_Some d.old disk (sym d.opened ∙ on_disk) in
+        let (offset, cut, apart) = begin_comes payload stage piece rest disk ask driver_so in
         has_then script range events start here later ran trail change on.n now now_there up req request there opened at payload stage piece
-        rest course disk same.vid same.spec offset [] cut (λ one among. absurd (Contains-nil one among))
-        (λ entering. absurd (apart entering))
+        rest course disk (d.vid ∙ ap (λ (k : Disk). k.inode.vid) same) (d.spec ∙ ap (λ (k : Disk). k.inode.spec) same) offset [] cut
+        (λ one among. absurd (Contains-nil one among)) (λ entering. absurd (apart entering))
 
-    module _ (session number : ℕ) (work : Work) (attempt : gateways.Attempt) (status : Status) (bytes : List ℕ) (driver : Driver)
-        (disk : Disk) (step : DriverStep)
-        (ends : EndsWork (input_of_cause on.cause) on.host.node so_far session req number work attempt status (Driving driver) bytes)
-        (open_here : (session_among session so_far.node.sessions).disk ≡ Some disk)
-        (goes : driver_on_done disk.inode bytes driver ≡ Some step)
-        (got : tree.get (tree.insert so_far.node.requests req (record { session = session; course = Driving step.driver })) req
-        ≡ Some request) where
+    module _ (number : ℕ) (work : Work) (attempt : gateways.Attempt) (status : Status) (bytes : List ℕ) (driver : Driver) (disk : Disk)
+        (step : DriverStep)
+        (ends : EndsWork (input_of_cause on.cause) on.host.node so_far request.session req number work attempt status (Driving driver)
+        bytes) (open_here : (session_among request.session so_far.node.sessions).disk ≡ Some disk)
+        (goes : driver_on_done disk.inode bytes driver ≡ Some step) (driver_so : step.driver ≡ Writes payload stage piece rest) where
       abbrev Was : Piece → Type 0
       Was one = IsWrittenAlone (moment_in_step script on start so_far).past.attempts disk.inode.vid payload one
 
@@ -286,24 +192,26 @@ module _ (script : List Statement) (range : RunsAreInRange script) (events : Lis
       had : (now_at : DriverStage) (one : Piece) (left : List Piece) → driver ≡ Writes payload now_at one left
           → HasBehind (moment_in_step script on start so_far).past.attempts disk.inode.vid disk.inode.spec.shift payload now_at one left
       had now_at one left same =
-          all.each on.n was was_there up req (record { session = session; course = Driving driver }) disk payload now_at one left
+          all.each on.n was was_there up req (record { session = request.session; course = Driving driver }) disk payload now_at one left
           ends.ends.request open_here (ap (λ (d : Driver). Driving d) same)
 
       ends_so : (now_at : DriverStage) (one : Piece) (left : List Piece) → driver ≡ Writes payload now_at one left
-          → EndsWork (input_of_cause on.cause) on.host.node so_far session req number work attempt status
+          → EndsWork (input_of_cause on.cause) on.host.node so_far request.session req number work attempt status
           (Driving (Writes payload now_at one left)) bytes
       ends_so now_at one left same =
-          subst (λ (d : Driver). EndsWork (input_of_cause on.cause) on.host.node so_far session req number work attempt status (Driving d)
+          subst (λ (d : Driver). EndsWork (input_of_cause on.cause) on.host.node so_far request.session req number work attempt status
+          (Driving d)
           bytes) same ends
 
       gives : (offset : ℕ) (front : List Piece) → pieces disk.inode.spec.shift offset (length payload) ≡ front ++ piece ∷ rest
           → ((one : Piece) → Contains front one → Was one) → (stage ≡ Entering → Was piece) → Has
       gives offset front cut each entered =
-          let same = same_disk session req (Driving driver) ends.ends.request refl disk opened open_here
-          (at_then session step.driver got) in
+          let d = had_disk script range events start ran on is by so_far next within trail request.session req (Driving driver)
+          ends.ends.request refl opened at in
+          let same : d.old ≡ disk = same_Some d.old disk (sym d.opened ∙ open_here) in
           has_then script range events start here later ran trail change on.n now now_there up req request there opened at payload stage
-          piece
-          rest course disk same.vid same.spec offset front cut each entered
+          piece rest course disk (d.vid ∙ ap (λ (k : Disk). k.inode.vid) same) (d.spec ∙ ap (λ (k : Disk). k.inode.spec) same) offset front
+          cut each entered
 
       -- the piece before is done
       one_more : (now_at : DriverStage) (one : Piece) → driver ≡ Writes payload now_at one (piece ∷ rest) → Was one → stage ≢ Entering → Has
@@ -322,45 +230,26 @@ module _ (script : List Statement) (range : RunsAreInRange script) (events : Lis
       by_origin (Created same entered) =
           let h = had Creating piece rest same in
           gives h.offset h.before h.cut h.each
-          (λ entering. created_now session req number work attempt status bytes payload Creating piece rest disk
+          (λ entering. created_now request.session req number work attempt status bytes payload Creating piece rest disk
           (ends_so Creating piece rest same) open_here refl)
       by_origin (Wrote one same apart) =
           one_more InPlace one same
-          (wrote_now session req number work attempt status bytes payload InPlace one (piece ∷ rest) disk
+          (wrote_now request.session req number work attempt status bytes payload InPlace one (piece ∷ rest) disk
           (ends_so InPlace one (piece ∷ rest) same) open_here refl) apart
       by_origin (Entered one same apart) =
           one_more Entering one same ((had Entering one (piece ∷ rest) same).entered refl) apart
 
       goes_on : Has
-      goes_on = by_origin (came_from payload stage piece rest disk.inode bytes driver step goes (driver_so session step.driver got))
-
-    by_steps : (session : ℕ) (outcome : Outcome) (moved : StepState)
-        → RequestSteps (input_of_cause on.cause) on.host.node so_far session req outcome moved
-        → tree.get moved.node.requests req ≡ Some request → Has
-    by_steps session outcome moved (DiskBegins ask disk had on_disk may) got = begins session ask disk had on_disk got
-    by_steps session outcome moved (DiskGoesOn number work attempt status bytes driver disk step ends on_disk goes) got =
-        goes_on session number work attempt status bytes driver disk step ends
-        (sym (same_view (λ (s : Session). s.disk) so_far.node.sessions session _ refl session) ∙ on_disk) goes got
-    by_steps session outcome moved (CommandBegins ask step arrival goes) got = not_driving session _ (λ d same. cc (same)) got
-    by_steps session outcome moved (CommandGoesOn number work attempt status bytes op step ends goes) got =
-        not_driving session _ (λ d same. cc (same)) got
-    by_steps session outcome moved (CommandDecided entry op step from read had waits goes) got =
-        not_driving session _ (λ d same. cc (same)) got
-    by_steps session outcome moved (CheckBegins inode arrival on_disk) got = not_driving session _ (λ d same. cc (same)) got
-    by_steps session outcome moved (CheckGoesOn number work attempt status bytes check step ends goes) got =
-        not_driving session _ (λ d same. cc (same)) got
-    by_steps session outcome moved (ObjectBegins asked arrival) got = not_driving session _ (λ d same. cc (same)) got
-    by_steps session outcome moved (ObjectIsDone number work attempt status bytes asked ends) got = was_so got
-    by_steps session outcome moved (EntryBegins entry arrival) got = not_driving session _ (λ d same. cc (same)) got
-    by_steps session outcome moved (EntryDecided entry awaited from read had waits) got = was_so got
+      goes_on = by_origin (came_from payload stage piece rest disk.inode bytes driver step goes driver_so)
 
     has_now : Has
-    has_now = ⊎_elim
-        (λ (had : tree.get so_far.node.requests req ≡ Some request). was_so had)
-        (⊎_elim
-        (λ (s : StepsNow (input_of_cause on.cause) on.host.node so_far req request). by_steps s.session s.next s.moved s.steps s.there)
-        (λ (waits : (ask : DiskAsk) × (request.course ≡ Waiting ask)). let both = sym waits.1 ∙ course in absurd (cc (both))))
-        (courses_come req (input_of_cause on.cause) on.host.node so_far next within.change request there)
+    has_now = by_case (driver_came so_far next within.change req request there (Writes payload stage piece rest) course)
+      where
+        by_case : DriverCame (input_of_cause on.cause) on.host.node so_far req request (Writes payload stage piece rest) → Has
+        by_case (Remained had) = was_so had
+        by_case (Started ask disk had on_disk driver_so) = begins ask disk had on_disk driver_so
+        by_case (Stepped number work attempt status bytes driver disk step ends open_here goes driver_so) =
+            goes_on number work attempt status bytes driver disk step ends open_here goes driver_so
 
   pub goes_on_alone : WhatIsWrittenStaysAlone (moment_in_step script on start next).world.hosts
       (moment_in_step script on start next).past.attempts

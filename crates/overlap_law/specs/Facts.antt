@@ -14,7 +14,6 @@ use Rattle.object_id.specs.Spec.{objects_of}
 use Rattle.disk_lock.specs.declared.holder.Holder.{Holder}
 use Rattle.epoch_log.specs.Epochs.{epoch_of, settled_of}
 use Rattle.vdi_directory.specs.declared.effect.Effect.{Effect}
-use Rattle.vdi_directory.specs.Dead.{is_dead}
 use Rattle.vdi_directory.specs.Decisions.{log_effects}
 use Rattle.guest_driver.specs.declared.disk.Disk.{Disk}
 use Rattle.sheep_node.specs.declared.session.Session.{Session}
@@ -31,7 +30,7 @@ use Rattle.message_wire.specs.Message.{name_cmp}
 use Rattle.sheep_world.specs.World.{World}
 use Rattle.overlap_law.specs.Attempts.{MessageFate, Flying, Served, Doomed, AttemptRecord, object_of, attempts_on}
 use Rattle.overlap_law.specs.Words.{Hosts, is_made, covers_unit, row_bytes_at, last_of, base_of, own_base_of}
-use Rattle.overlap_law.specs.Holders.{targets_by, creates, is_object_among, IsGood, IsGoodId}
+use Rattle.overlap_law.specs.Holders.{targets_by, creates, is_object_among, IsGood}
 use Rattle.overlap_law.specs.Each.{Placing, EachHost, EachUp, EachAttempt, EachRowOf, end_of_row, holds_level}
 use Rattle.overlap_law.specs.Grants.{leave_of, writer_of, granted_in}
 use Rattle.overlap_law.specs.Tables.{entry_unit, IsEntryOpen, IsYetOf}
@@ -161,6 +160,6 @@ pub record MeetsFacts (world : World) (past : Past) : Type 0 where
   pub fenced : LostGatewaysAreFenced world.log world.hosts world.wire past.attempts
   pub entries : (vid : ℕ) → IsVid vid → IsGood world.log past.attempts past.unavailable (inode_number vid)
       → EntriesNameMadeObjects world.hosts vid past.attempts
-  -- the last one's second half in full, of disks that were available at every state so far: their tables are read from their chains
-  pub tables : (vid : ℕ) → IsVid vid → IsGoodId world.log past.unavailable vid → is_dead (log_effects world.log) vid ≡ false
+  -- the last one's second half in full, of the same inodes, whether or not what their disks were cloned from was available
+  pub tables : (vid : ℕ) → IsVid vid → IsGood world.log past.attempts past.unavailable (inode_number vid)
       → CopiesHaveTheTable (log_effects world.log) world.hosts vid past.attempts

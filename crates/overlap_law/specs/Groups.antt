@@ -30,7 +30,8 @@ use Rattle.overlap_law.specs.Searches.{SearchesAreOfTheFirst, LevelsAreAsked, To
 use Rattle.overlap_law.specs.Searches.{PassedLevelsLackRows, TheMadeIsNotMissing, ToldCopiesAreOfAttempts}
 use Rattle.overlap_law.specs.Tables.{EntriesAreMade, OwnEntriesAreMade, TablesAreOfTheChain, PublishedInodesAreMade, TablesAreTheInodes}
 use Rattle.overlap_law.specs.Tables.{every_id, SnapshotsAreFrozen, TablesAreMade}
-use Rattle.overlap_law.specs.WrittenBlocks.{BlocksAreWritten, StripsAreSound}
+use Rattle.overlap_law.specs.WrittenBlocks.{BlocksAreWritten}
+use Rattle.overlap_law.specs.SoundUnwritten.{StripsAreSoundUnlessWritten}
 use Rattle.overlap_law.specs.Drafts.{ReservedInodesAreDrawn, WhatIsPublishedIsCreated}
 use Rattle.overlap_law.specs.ToDo.{WorksNameWhatIsMade, WorksMayBeMade}
 use Rattle.overlap_law.specs.Checks.{ChecksHaveItems}
@@ -136,7 +137,7 @@ pub record TablesAreKept (log : List Entry) (effects : List Effect) (live good_i
 pub record WrittenIsKept (ledger : Ledger) (effects : List Effect) (good_id : ℕ
     → Bool) (hosts : Hosts) (attempts : List AttemptRecord) : Type 0 where
   pub written : BlocksAreWritten ledger effects good_id hosts attempts
-  pub sound : StripsAreSound ledger effects good_id hosts attempts
+  pub sound : StripsAreSoundUnlessWritten ledger effects good_id attempts
 
 -- reads and writes that are under way, against the history
 pub record PiecesAreKept (ledger : Ledger) (effects : List Effect) (good_id : ℕ

@@ -27,6 +27,7 @@ use Rattle.overlap_law.specs.Holders.{is_object_among}
 use Rattle.overlap_law.specs.Each.{EachAttempt}
 use Rattle.overlap_law.specs.Past.{Past, MomentWithPast, run_with_past}
 use Rattle.overlap_law.specs.RunsWithAsks.{run_with_asks_and_past}
+use Rattle.overlap_law.specs.NamedAsks.{AsksNameObjects}
 
 -- the replies are one legal history, where the reads of disks that weren't available up to there are left out. A block that is
 -- torn, since a gateway was lost within a coded write, may be read as anything until its next acknowledged write
@@ -95,8 +96,8 @@ abbrev pub Headline : List Statement → Type 0
 Headline script = IsScript script → (events : List Event) (moment : MomentWithPast) → run_with_past script events ≡ Some moment
     → KeepsHeadline script moment
 
--- The headline of runs in which a client also reads objects between the events: all of it holds at the end of those too. What the client
--- is told is no part of the history; that it is what the disks have is another claim, of whoever asks.
+-- The headline of runs in which a client also reads objects, by their ids, between the events: all of it holds at the end of those too.
+-- What the client is told is no part of the history; that it is what the disks have is another claim, of whoever asks.
 abbrev pub HeadlineWithAsks : List Statement → Type 0
-HeadlineWithAsks script = IsScript script → (moves : List Move) (moment : MomentWithPast)
+HeadlineWithAsks script = IsScript script → (moves : List Move) (moment : MomentWithPast) → AsksNameObjects moves
     → run_with_asks_and_past script moves ≡ Some moment → KeepsHeadline script moment

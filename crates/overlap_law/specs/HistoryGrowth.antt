@@ -71,13 +71,3 @@ pub data HistoryGrows (script : List Statement) (world : World) (log : List Entr
   -- a node is lost, and leaves its writers without reply
   WritersAreLost : (n : ℕ) (host : Host) → log ≡ world.log
       → HistoryGrows script world log history (history ++ writers_lost script world n (Some host))
-
--- what is added
-abbrev pub added_in : {script : List Statement} {world : World} {log : List Entry} {history later : List HistEvent}
-    → HistoryGrows script world log history later → List HistEvent
-added_in {script} {world} {log} {history} (NothingIsAdded same) = []
-added_in {script} {world} {log} {history} (WritesBegin cause same) = added_at_cause script world cause
-added_in {script} {world} {log} {history} (RequestIsReplied cause reply front back same parts apart) =
-    added_by_reply script world cause reply
-added_in {script} {world} {log} {history} (EntryAdds entry longer) = entry_adds world.log entry
-added_in {script} {world} {log} {history} (WritersAreLost n host same) = writers_lost script world n (Some host)

@@ -106,7 +106,3 @@ is_of_chain before vid oid = vid_of oid == vid || is_above before (vid_of oid) v
 -- a disk is available up to here where no object of it or of its parent chain is among those that were once not available
 unfoldable pub is_available_disk : List Entry → List ℕ → ℕ → Bool
 is_available_disk log unavailable vid = not (list_any (is_of_chain (log_effects log) vid) unavailable)
-
--- an id is good where its disk is available up to here
-abbrev pub IsGoodId : List Entry → List ℕ → ℕ → Type 0
-IsGoodId log unavailable vid = IsTrue (is_available_disk log unavailable vid)

@@ -28,7 +28,6 @@ use Rattle.vdi_ops.specs.Op.{WritingBack, Working, Op}
 use Rattle.vdi_ops.specs.TaskWorks.{IsWrittenBack}
 use Rattle.sheep_node.specs.declared.course.Course.TheVariants.{Driving, Commanding}
 use Rattle.sheep_node.specs.declared.course.Request.{Request}
-use Rattle.sheep_node.specs.declared.event.Event.{Event}
 use Rattle.sheep_node.specs.State.{session_at}
 use Rattle.sheep_node.specs.StepState.{StepState}
 use Rattle.sheep_world.specs.Granted.{entry_adds}
@@ -38,12 +37,10 @@ use Rattle.overlap_law.specs.CreatedPieces.{anything, CreatesPiece}
 use Rattle.overlap_law.specs.Each.{EachUp}
 use Rattle.overlap_law.specs.Headline.{ledger_of}
 use Rattle.overlap_law.specs.NamedWorks.{HasEntry}
-use Rattle.overlap_law.specs.Holders.{is_available_disk}
-use Rattle.overlap_law.specs.MomentChanges.{MomentChange, MomentTrail, TrailLeft}
-use Rattle.overlap_law.specs.Past.{MomentWithPast, next_moment, run_with_past}
+use Rattle.overlap_law.specs.Past.{MomentWithPast}
 use Rattle.overlap_law.specs.PastWords.{is_refusal}
 use Rattle.overlap_law.specs.Pieces.{IsInPiece, HasItem, WritesHaveItems}
-use Rattle.overlap_law.specs.StayingBlocks.{IsBlockOfAnyDisk, MayStay, HasEntryOf, IsAloneWhereWritten, AllKeepBlocks, BlocksStayWritten}
+use Rattle.overlap_law.specs.StayingBlocks.{IsBlockOfAnyDisk, MayStay, HasEntryOf, IsAloneWhereWritten, AllKeepBlocks}
 use Rattle.overlap_law.specs.StepMoments.{SteppingNode, IsStepping, StepsByChanges, IsWithinStep, moment_in_step}
 use Rattle.overlap_law.specs.Tables.{entry_by}
 use Rattle.overlap_law.specs.ToCome.{IsEntryToCome}
@@ -121,23 +118,3 @@ pub record KeepsHistory (script : List Statement) (good_id : ℕ → Bool) (star
   pub written : WritesHaveItems (ledger_of after.past.history) after.world.hosts
   pub checked : CheckedValuesHaveItems (ledger_of after.past.history) after.world.hosts
   pub creates : CreatesMayStay (ledger_of after.past.history) (log_effects after.world.log) good_id after.world.hosts after.past.attempts
-
--- what has still to hold of a change on the way of an event in a run, so that it does: what commands write, and what is created of holes
--- and of whole copies, may come and may be read anyway
-pub record KeepsWhatIsWritten (script : List Statement) (good_id : ℕ → Bool) (start before after : MomentWithPast) : Type 0 where
-  pub entries : EntriesKeepBlocks good_id before after
-  pub replies : RepliesAreAlone script good_id start before after
-  pub written : WritesHaveItems (ledger_of after.past.history) after.world.hosts
-  pub checked : CheckedValuesHaveItems (ledger_of after.past.history) after.world.hosts
-  pub strips : StripCopiesMayStay (ledger_of after.past.history) (log_effects after.world.log) good_id after.world.hosts
-      after.past.attempts
-
--- each change on the way of whatever event in a run is so, for the disks that are available as the event ends, where what a block may come
--- to be read as may be read of it before the change
-abbrev pub HistoriesAreKept : List Statement → Type 0
-HistoriesAreKept script = (events : List Event) (event : Event) (start end before after : MomentWithPast)
-    → run_with_past script events ≡ Some start → next_moment script event start ≡ Some end → MomentTrail script start before
-    → MomentChange script start before after → TrailLeft script start after end
-    → BlocksStayWritten (ledger_of before.past.history) (log_effects before.world.log)
-    (is_available_disk end.world.log end.past.unavailable) before.world.hosts before.past.attempts
-    → KeepsWhatIsWritten script (is_available_disk end.world.log end.past.unavailable) start before after

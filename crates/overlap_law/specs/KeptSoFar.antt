@@ -23,7 +23,8 @@ use Rattle.overlap_law.specs.Since.{CopiesAreOfAttempts}
 use Rattle.overlap_law.specs.Searches.{SearchesAreOfTheFirst, ToldRowsAreTrue, ToldCopiesAreOfAttempts, NoRowIsTrue, LevelsAreAsked, PassedLevelsLackRows}
 use Rattle.overlap_law.specs.NoObjects.{NothingIsLacked}
 use Rattle.overlap_law.specs.ToDo.{WorksNameWhatIsMade}
-use Rattle.overlap_law.specs.Headline.{OtherEpochsChangeNothing, RefusedHaveNoItems, RefusedMakeNothing}
+use Rattle.overlap_law.specs.Pieces.{WritesHaveItems, WhatIsWrittenIsAlone}
+use Rattle.overlap_law.specs.Headline.{OtherEpochsChangeNothing, RefusedHaveNoItems, RefusedMakeNothing, ledger_of}
 
 -- the groups of the wire, of the writers and of epochs, what of the attempts, of commands, of rows and of recoveries, and the headline's
 -- parts on refused requests and on peers of another epoch
@@ -81,7 +82,7 @@ pub record IsKeptSoFar (script : List Statement) (moment : MomentWithPast) : Typ
   pub peers : OtherEpochsChangeNothing script moment.world
 
 -- the whole groups of the attempts, of the rows, of the recoveries, of the tables and of requests and commands, that what works name is
--- made, that nothing is lacked, and the six facts
+-- made, that what a write has still to write has its items and what it has behind it is alone, that nothing is lacked, and the six facts
 pub record KeepsFacts (moment : MomentWithPast) : Type 0 where
   pub attempts : AttemptsAreKept (targets_by moment.world.log) moment.world.log moment.world.hosts moment.world.wire
       moment.past.refused moment.past.lost moment.past.attempts
@@ -97,6 +98,9 @@ pub record KeepsFacts (moment : MomentWithPast) : Type 0 where
       moment.world.hosts moment.past.attempts
   pub named : WorksNameWhatIsMade (log_effects moment.world.log) (is_available_disk moment.world.log moment.past.unavailable)
       moment.world.hosts moment.past.attempts
+  pub to_write : WritesHaveItems (ledger_of moment.past.history) moment.world.hosts
+  pub alone : WhatIsWrittenIsAlone (ledger_of moment.past.history) (log_effects moment.world.log)
+      (is_available_disk moment.world.log moment.past.unavailable) moment.world.hosts moment.past.attempts
   pub lacked : NothingIsLacked (log_effects moment.world.log) (is_available_disk moment.world.log moment.past.unavailable)
       moment.world.hosts moment.world.wire
   pub facts : MeetsFacts moment.world moment.past

@@ -84,18 +84,6 @@ EntriesReadAreKept script good_id start before = (stepping : SteppingNode) (so_f
     → is_dead (log_effects before.world.log) vid.0 ≡ false → index < objects_of header.spec
     → kept_entry ids (u32_at (INODE_HEADER_BYTES + 4 * index) bytes) ≡ u32_at (INODE_HEADER_BYTES + 4 * index) bytes
 
--- where a snapshot is opened, each entry that was read is all that may come of it, wherever such a reading ends in the middle of a step
-abbrev pub SnapshotReadsAreAlone : List Statement → (ℕ → Bool) → MomentWithPast → MomentWithPast → Type 0
-SnapshotReadsAreAlone script good_id start before = (stepping : SteppingNode) (so_far : StepState) → IsStepping script start.world stepping
-    → StepsByChanges stepping.cause → LeadsInStep stepping (first_in_step stepping) so_far
-    → before ≡ moment_in_step script stepping start so_far → (session req number : ℕ) (work : Work) (attempt : Attempt) (status : Status)
-    (op : Op) (bytes : List ℕ) (vid : Vid) (ids : List ℕ) (header : Header) (index : ℕ)
-    → EndsWork (input_of_cause stepping.cause) stepping.host.node so_far session req number work attempt status (Commanding op) bytes
-    → op.stage ≡ Working vid (Opening true ids header) → good_id vid.0 ≡ true
-    → is_dead (log_effects before.world.log) vid.0 ≡ false → index < objects_of header.spec → (j : ℕ) (one : AttemptRecord)
-    → IsEntryToCome before.world.hosts before.past.attempts vid.0 index j one
-    → entry_by index one ≡ u32_at (INODE_HEADER_BYTES + 4 * index) bytes
-
 -- a work gives an inode the entry of an index that the table has
 pub record GivesEntry (inode : Content) (index : ℕ) (work : ObjWork) : Type 0 where
   pub entry : entry_made index work ≡ slice_index inode.table index

@@ -1,17 +1,11 @@
--- The invariant of the epoch overlap: the whole of it, over the parts of a moment; and what is owed of it.
+-- The invariant of the epoch overlap: the whole of it, over the parts of a moment; and what it gives.
 use Rattle.std.specs.Prelude.{◌≡◌, ℕ, Bool, true, List, Some}
-use Rattle.object_id.specs.declared.node.NodeId.{NodeId}
 use Rattle.vdi_directory.specs.Decisions.{log_effects}
 use Rattle.cluster_script.specs.declared.statement.Statement.{Statement}
 use Rattle.sheep_node.specs.declared.event.Event.{Event}
-use Rattle.sheep_node.specs.declared.ask.Ask.{Ask}
 use Rattle.sheep_world.specs.Step.{EventOutcome, step}
-use Rattle.sheep_world.specs.World.{World}
-use Rattle.sheep_world.specs.RunsWithAsks.{Asks, BeganWithAsks}
-use Rattle.sheep_world.specs.Began.{Began}
 use Rattle.overlap_law.specs.Holders.{targets_by, is_live_object, is_good, is_available_disk}
-use Rattle.overlap_law.specs.Past.{MomentWithPast, next_moment, run_with_past}
-use Rattle.overlap_law.specs.RunsWithAsks.{next_move_with_past}
+use Rattle.overlap_law.specs.Past.{MomentWithPast, run_with_past}
 use Rattle.overlap_law.specs.MomentChanges.{RunsAreInRange}
 use Rattle.overlap_law.specs.Facts.{MeetsFacts}
 use Rattle.overlap_law.specs.Headline.{IsLegalWhereAvailable, RefusedHaveNoItems, RefusedMakeNothing, ledger_of}
@@ -64,24 +58,6 @@ pub record OverlapOf (script : List Statement) (moment : MomentWithPast) : Type 
 abbrev pub OverlapByTests : MomentWithPast → MomentWithPast → Type 0
 OverlapByTests other moment = OverlapAt (is_live_object other.world.log other.past.attempts)
     (is_good other.world.log other.past.attempts other.past.unavailable) (is_available_disk other.world.log other.past.unavailable) moment
-
--- an event that may happen in a world of these keeps it
-abbrev pub KeepsOverlapFrom : (World → Type 0) → List Statement → Event → Type 0
-KeepsOverlapFrom Worlds script event = (before after : MomentWithPast) → Worlds before.world → OverlapOf script before
-    → next_moment script event before ≡ Some after → OverlapOf script after
-
--- owed: every event keeps it that may happen in a world of a run
-abbrev pub KeepsOverlap : List Statement → Event → Type 0
-KeepsOverlap script event = RunsAreInRange script → KeepsOverlapFrom (Began script) script event
-
--- owed of runs in which a client reads objects: every event keeps it that may happen in a world of such a run
-abbrev pub KeepsOverlapBesideAsks : List Statement → Event → Type 0
-KeepsOverlapBesideAsks script event = RunsAreInRange script → KeepsOverlapFrom (BeganWithAsks script) script event
-
--- and a client's ask keeps it, which may be made in a world of such a run and reads an object
-abbrev pub AsksKeepOverlap : List Statement → NodeId → Ask → Type 0
-AsksKeepOverlap script node ask = RunsAreInRange script → (before after : MomentWithPast) → BeganWithAsks script before.world
-    → OverlapOf script before → next_move_with_past script (Asks node ask) before ≡ Some after → OverlapOf script after
 
 -- what it gives: the six facts, and that the replies are legal
 pub record GivesFacts (moment : MomentWithPast) : Type 0 where

@@ -1,5 +1,6 @@
 -- Where the reads of a node stand on the disks that their sessions have open, and what a reply to a read tells.
-use Rattle.std.specs.Prelude.{◌≡◌, ◌≢◌, ℕ, ◌+◌, ◌*◌, ◌<◌, ◌≤◌, Bool, true, false, List, length, Option, Some, IsTrue, IfSome}
+use Rattle.std.specs.Prelude.{◌≡◌, ◌≢◌, ℕ, ◌+◌, ◌*◌, ◌<◌, ◌≤◌, ◌++◌, Bool, true, false, Contains, List, length, Option, Some, IsTrue, IfSome}
+use Rattle.std.specs.List.{list_all}
 use Rattle.std.specs.Option.{option_and_then}
 use Rattle.std.specs.FinMap as tree
 use Rattle.cluster_script.specs.declared.statement.Statement.{Statement}
@@ -9,6 +10,7 @@ use Rattle.object_id.specs.Spec.{IsSpec}
 use Rattle.object_id.specs.declared.oid.Kind.TheVariants.{Block}
 use Rattle.gf256.specs.Part.{is_in_strips}
 use Rattle.disk_history.specs.declared.event.HistEvent.{HistEvent}
+use Rattle.disk_history.specs.declared.event.HistEvent.TheVariants.{Read}
 use Rattle.disk_history.specs.Ledger as histories
 use Rattle.disk_history.specs.Ledger.{Ledger}
 use Rattle.inode.specs.Layout.{Content}
@@ -27,7 +29,7 @@ use Rattle.gateway.specs.State.{Work}
 use Rattle.guest_driver.specs.declared.act.DriverAct.{DriverAct}
 use Rattle.guest_driver.specs.declared.disk.Disk.{Disk}
 use Rattle.guest_driver.specs.Driver.{Driver, Reads, Writes, Answered}
-use Rattle.guest_driver.specs.Extent.{IsExtent, last_index_of}
+use Rattle.guest_driver.specs.Extent.{IsExtent, first_index_of, last_index_of}
 use Rattle.guest_driver.specs.Pieces.{Piece, is_ask, pieces}
 use Rattle.guest_driver.specs.PieceWorks.{entry_of}
 use Rattle.sheep_node.specs.declared.ask.Ask.{Ask}
@@ -48,15 +50,14 @@ use Rattle.sheep_world.specs.World.{Host}
 use Rattle.overlap_law.specs.Attempts.{AttemptRecord}
 use Rattle.overlap_law.specs.Each.{spec_in}
 use Rattle.overlap_law.specs.Headline.{ledger_of}
-use Rattle.overlap_law.specs.HistoryGrowth.{HistoryGrows, added_in}
 use Rattle.overlap_law.specs.Holders.{is_available_disk}
 use Rattle.overlap_law.specs.MomentChanges.{IsOnTheWay}
 use Rattle.overlap_law.specs.Past.{MomentWithPast, run_with_past}
-use Rattle.overlap_law.specs.StayingBlocks.{IsHomeToCome, BlocksStayWritten}
+use Rattle.overlap_law.specs.StayingBlocks.{IsHomeToCome, are_apart}
 use Rattle.overlap_law.specs.StepMoments.{SteppingNode, IsStepping, StepsByChanges, LeadsInStep, first_in_step, moment_in_step}
 use Rattle.overlap_law.specs.Words.{Hosts}
 use Rattle.overlap_law.specs.WrittenBlocks.{blocks_per_object}
-use Rattle.overlap_law.specs.ToldReads.{PieceIsToCome, HolesAreToCome, WhatIsToldMayBeRead}
+use Rattle.overlap_law.specs.ToldReads.{PieceIsToCome, HolesAreToCome, WhatIsToldMayBeRead, MayStayReadAs}
 use Rattle.overlap_law.specs.ToldReads.{AllKeepReadsOf, IsDiskOf, Reading, ReadStands, IsReadUpTo, PieceMayBeRead, HolesMayBeRead}
 use Rattle.overlap_law.specs.ToldReads.{extent_on}
 
@@ -187,18 +188,29 @@ pub record ReadHolesAreToCome (script : List Statement) (start before : MomentWi
 
 -- ---- as a history grows
 
--- what a history gets keeps what the reads of a node were told of the blocks before their pieces
-pub record ReadsAreKept (attempts : List AttemptRecord) (history grown : List HistEvent) (node : Node) : Type 0 where
-  pub each : (req : ℕ) (request : Request) (told : List ℕ) (piece : Piece) (rest : List Piece) (disk : Disk)
+-- what a history gets keeps what the reads of a node were told of the blocks before their pieces, from where each begins on
+pub record ReadsAreKept (attempts : List AttemptRecord) (asked : ℕ → Option Ask) (history grown : List HistEvent) (node : Node)
+    : Type 0 where
+  pub each : (req offset size : ℕ) (request : Request) (told : List ℕ) (piece : Piece) (rest : List Piece) (disk : Disk)
       → tree.get node.requests req ≡ Some request → request.course ≡ Driving (Reads told piece rest)
-      → (session_at request.session node).disk ≡ Some disk → (index unit : ℕ) → index < piece.index
+      → asked req ≡ Some (asks.Disk (disk_asks.Read offset size)) → (session_at request.session node).disk ≡ Some disk
+      → (index unit : ℕ) → first_index_of (extent_on disk.inode offset size) ≤ index → index < piece.index
+      → unit < blocks_per_object disk.inode.spec
       → AllKeepReadsOf attempts (ledger_of history) disk.inode.vid (index * blocks_per_object disk.inode.spec + unit) grown
 
--- so it is of what a change of a moment adds, for the reads behind it
+-- so it is of what a change of a moment adds, at the end or before such as ends other requests, for the reads behind it; and it keeps what
+-- was told so far since the event began
 pub record AllReadsAreKept (script : List Statement) (start before after : MomentWithPast) : Type 0 where
-  pub each : (grows : HistoryGrows script start.world after.world.log before.past.history after.past.history) (n : ℕ) (host : Host)
-      → tree.get after.world.hosts n ≡ Some host → host.is_lost ≡ false
-      → ReadsAreKept before.past.attempts before.past.history (added_in grows) host.node
+  pub front : List HistEvent
+  pub added : List HistEvent
+  pub back : List HistEvent
+  pub were : before.past.history ≡ front ++ back
+  pub now : after.past.history ≡ front ++ added ++ back
+  pub apart : list_all (λ (one : HistEvent). list_all (are_apart one) back) added ≡ true
+  pub each : (n : ℕ) (host : Host) → tree.get after.world.hosts n ≡ Some host → host.is_lost ≡ false
+      → ReadsAreKept before.past.attempts (asked_in script) before.past.history added host.node
+  pub told : (grown : List HistEvent) → before.past.history ≡ start.past.history ++ grown → (vid block : ℕ) (bytes : List ℕ)
+      → Contains grown (Read vid block bytes) → AllKeepReadsOf before.past.attempts (ledger_of before.past.history) vid block added
 
 -- a disk that a history has, and that is there by the later log, was there by the earlier one, made as it is
 pub record DisksWereThere (effects later : List Effect) (history : List HistEvent) : Type 0 where
@@ -223,19 +235,19 @@ pub record OpenSnapshotsAreOfHistory (moment : MomentWithPast) : Type 0 where
 
 -- ---- in runs
 
--- what the reads of nodes need on the way of events, of the disks that are available up to the event's end: at each moment what blocks may
--- come to be read as may be read of them, what comes of a read of strips is to come, and what the next change adds to the history keeps
--- what reads were told
+-- what the reads of nodes have on the way of events, of the disks that were available as the event began: at each moment they stand by the
+-- history, and go on with what may be read, and what the next change adds to the history keeps what they were told
 pub record IsServingReads (script : List Statement) (start before after : MomentWithPast) (good_id : ℕ → Bool) : Type 0 where
-  pub written : BlocksStayWritten (ledger_of before.past.history) (log_effects before.world.log) good_id before.world.hosts
-      before.past.attempts
-  pub strips : StripPiecesAreToCome script start before (ledger_of before.past.history) (log_effects before.world.log) good_id
+  pub stand : AllReadsStand script (MayStayReadAs before.past.attempts) (ledger_of before.past.history) (log_effects before.world.log)
+      good_id before.world.hosts
+  pub goes : ReadsMayGoOnIn script start before (MayStayReadAs before.past.attempts) (ledger_of before.past.history)
+      (log_effects before.world.log) good_id
   pub kept : AllReadsAreKept script start before after
 
 pub record EachChangeServesReads (script : List Statement) : Type 0 where
   pub each : (events : List Event) (event : Event) (start end before after : MomentWithPast)
       → IsOnTheWay script events event start end before after
-      → IsServingReads script start before after (is_available_disk end.world.log end.past.unavailable)
+      → IsServingReads script start before after (is_available_disk start.world.log start.past.unavailable)
 
 -- each event of a run tells reads, of disks that were available up to there, what may be read
 pub record EachEventTellsWhatMayBeRead (script : List Statement) : Type 0 where

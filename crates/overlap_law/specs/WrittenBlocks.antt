@@ -3,7 +3,6 @@ use Rattle.std.specs.Prelude.{◌≡◌, ◌≢◌, ◌⊎◌, ℕ, ◌+◌, ◌
 use Rattle.std.specs.Prelude.{filter, slice_get, Option, Some, None, if◌then◌else◌}
 use Rattle.std.specs.List.{list_any, list_all}
 use Rattle.std.specs.Str.{bytes_eq}
-use Rattle.std.specs.FinMap as tree
 use Rattle.object_id.specs.Fields.{zeros}
 use Rattle.object_id.specs.declared.limits.TheConstants.{BLOCK_BYTES}
 use Rattle.object_id.specs.declared.entry.VdiSpec.{VdiSpec}
@@ -15,7 +14,6 @@ use Rattle.disk_history.specs.Ledger.{Item, Disk, Ledger}
 use Rattle.disk_history.specs.Legal.{standing, is_torn}
 use Rattle.vdi_directory.specs.declared.effect.Effect.{Effect}
 use Rattle.vdi_directory.specs.States.{state_of, is_live_state}
-use Rattle.sheep_world.specs.World.{Host}
 use Rattle.overlap_law.specs.Attempts.{AttemptRecord, attempts_on}
 use Rattle.overlap_law.specs.Words.{Hosts, is_mute, is_doomed, covering, bytes_by, own_base_of, later_on}
 use Rattle.overlap_law.specs.Each.{spec_in}
@@ -101,21 +99,3 @@ pub record BlocksAreWritten (ledger : Ledger) (effects : List Effect) (good_id :
   pub each : (vid index unit home : ℕ) (disk : Disk) (spec : VdiSpec) → IsBlockOfDisk ledger effects good_id vid disk spec index unit
       → IsHome attempts vid index home → home ≢ 0 → is_torn_here spec (items_at disk spec index unit) ≡ false
       → AreAllowed (items_at disk spec index unit) unit (outcomes_in hosts attempts vid home index unit)
-
--- a request has no reply, and its gateway's incarnation goes on
-pub record IsUnanswered (hosts : Hosts) (attempt : AttemptRecord) : Type 0 where
-  pub host : Host
-  pub there : tree.get hosts attempt.gateway.0 ≡ Some host
-  pub up : host.is_lost ≡ false
-  pub incarnation : host.incarnation ≡ attempt.incarnation
-  pub unanswered : tree.contains_key host.node.requests attempt.req ≡ true
-
--- of strips that aren't torn, each attempt behind the own base is mute, or of an unanswered request, or has the base's bytes
-pub record StripsAreSound (ledger : Ledger) (effects : List Effect) (good_id : ℕ
-    → Bool) (hosts : Hosts) (attempts : List AttemptRecord) : Type 0 where
-  pub each : (vid index unit home place : ℕ) (disk : Disk) (spec : VdiSpec) (base later : AttemptRecord)
-      → IsBlockOfDisk ledger effects good_id vid disk spec index unit → is_in_strips spec.policy Block ≡ true
-      → IsHome attempts vid index home → home ≢ 0 → is_torn (items_at disk spec index unit) ≡ false
-      → own_base_of unit (attempts_on (object_number home index) attempts) ≡ Some base
-      → slice_get (later_on unit (attempts_on (object_number home index) attempts)) place ≡ Some later
-      → (is_mute later ≡ true) ⊎ (IsUnanswered hosts later ⊎ (bytes_by unit later.work ≡ bytes_by unit base.work))

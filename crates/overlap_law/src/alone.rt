@@ -40,16 +40,16 @@ ghost use Rattle.overlap_law.specs.AloneOnDisks.{HasItemsOn, ItemsAreOnTheirDisk
 ghost use Rattle.overlap_law.specs.Attempts.{AttemptRecord, object_of};
 ghost use Rattle.overlap_law.specs.Each.{EachUp};
 ghost use Rattle.overlap_law.specs.Headline.{ledger_of};
+ghost use Rattle.overlap_law.specs.HistoryStands.{CallsAvailable};
 ghost use Rattle.overlap_law.specs.Holders.{is_available_disk};
 ghost use Rattle.overlap_law.specs.KeptHistory.{RepliesAreAlone};
 ghost use Rattle.overlap_law.specs.MomentChanges.{MomentChange, MomentTrail, IsOnTheWay, RunsAreInRange};
 ghost use Rattle.overlap_law.specs.Past.{MomentWithPast, run_with_past};
 ghost use Rattle.overlap_law.specs.Pieces.{IsInPiece, IsOn, bytes_for, WhatIsWrittenIsAlone};
-ghost use Rattle.overlap_law.specs.RepliedChecks.{RepliesToChecksAreAlone};
 ghost use Rattle.overlap_law.specs.StepMoments.{SteppingNode, IsStepping, StepsByChanges, LeadsInStep, IsWithinStep, first_in_step};
 ghost use Rattle.overlap_law.specs.StepMoments.{moment_in_step};
 ghost use Rattle.overlap_law.specs.Tables.{entry_by};
-ghost use Rattle.overlap_law.specs.ToCome.{IsToCome, IsEntryToCome, TablesStayTheInodes};
+ghost use Rattle.overlap_law.specs.ToCome.{IsToCome, IsEntryToCome};
 ghost use Rattle.overlap_law.specs.Units.{bytes_by};
 ghost use Rattle.overlap_law.specs.Words.{Hosts};
 ghost use Rattle.overlap_law.specs.WrittenBlocks.{blocks_per_object, items_at, outcomes_in};
@@ -105,16 +105,17 @@ pub fn only_a_check_writes_its_disk()
 {}
 
 /// In each run in range, at each moment on the way of an event: of the entry of an object that is the disk's own, by the table of the disk
-/// that a check's session has open, nothing is to come but the disk's own id, of a good id that isn't dead, if the inodes of open disks may
-/// come to have what the sessions' tables have.
+/// that a check's session has open, nothing is to come but the disk's own id, of a good id that isn't dead, by each test for good ids that
+/// serves as the event begins. For the inodes of open disks may come to have what the sessions' tables have.
 pub fn what_is_checked_is_entered_alone()
     ensures { (script : List Statement) (events : List Event) (start moment : MomentWithPast) → RunsAreInRange script
         → run_with_past script events ≡ Some start → MomentTrail script start moment → (good_id : ℕ → Bool)
-        → TablesStayTheInodes (log_effects moment.world.log) good_id moment.world.hosts moment.past.attempts
+        → CallsAvailable start start good_id
         → EachUp moment.world.hosts (λ n node. (req : ℕ) (request : Request) (opened : Disk) (check : Check)
         → tree.get node.requests req ≡ Some request → (session_at request.session node).disk ≡ Some opened
         → request.course ≡ Checking check → good_id opened.inode.vid ≡ true
-        → is_dead (log_effects moment.world.log) opened.inode.vid ≡ false → (index : ℕ) → index < objects_of opened.inode.spec → IsOwnByTable opened.inode index → (j : ℕ) (entry : AttemptRecord)
+        → is_dead (log_effects moment.world.log) opened.inode.vid ≡ false → (index : ℕ)
+        → index < objects_of opened.inode.spec → IsOwnByTable opened.inode index → (j : ℕ) (entry : AttemptRecord)
         → IsEntryToCome moment.world.hosts moment.past.attempts opened.inode.vid index j entry
         → entry_by index entry ≡ opened.inode.vid) }
 {}
@@ -157,11 +158,10 @@ pub fn outcomes_of_what_is_written_are_its_bytes()
 {}
 
 /// In each run in range, at each moment on the way of an event: of each block that a write has behind it, each attempt by which the block
-/// of the disk's own object may come to be read has the bytes of the write's item there, if the write's items are those of its pieces.
+/// of the disk's own object may come to be read has the bytes of the write's item there.
 pub fn what_is_written_comes_out_as_its_items()
     ensures { (script : List Statement) (events : List Event) (start moment : MomentWithPast) → RunsAreInRange script
         → run_with_past script events ≡ Some start → MomentTrail script start moment
-        → ItemsAreOfPieces (ledger_of moment.past.history) moment.world.hosts
         → EachUp moment.world.hosts (λ n node. (req index unit place : ℕ) (request : Request) (opened : Disk) (disk : histories.Disk)
         (item : Item) (payload : List ℕ) (stage : DriverStage) (piece : Piece) (rest : List Piece)
         → IsOn (ledger_of moment.past.history) node req request opened disk
@@ -180,11 +180,12 @@ pub fn own_objects_are_behind_writes()
 {}
 
 /// In each run in range, at each moment on the way of an event: of the entry of each object that a write has behind it nothing is to come
-/// but the disk's own id, of a good id that isn't dead, if the inodes of open disks may come to have what the sessions' tables have.
+/// but the disk's own id, of a good id that isn't dead, by each test for good ids that serves as the event begins. For the inodes of open
+/// disks may come to have what the sessions' tables have.
 pub fn what_is_written_is_entered_alone()
     ensures { (script : List Statement) (events : List Event) (start moment : MomentWithPast) → RunsAreInRange script
         → run_with_past script events ≡ Some start → MomentTrail script start moment → (good_id : ℕ → Bool)
-        → TablesStayTheInodes (log_effects moment.world.log) good_id moment.world.hosts moment.past.attempts
+        → CallsAvailable start start good_id
         → EachUp moment.world.hosts (λ n node. (req : ℕ) (request : Request) (opened : Disk) (payload : List ℕ) (stage : DriverStage)
         (piece : Piece) (rest : List Piece) → tree.get node.requests req ≡ Some request
         → (session_at request.session node).disk ≡ Some opened → request.course ≡ Driving (Writes payload stage piece rest)
@@ -228,10 +229,12 @@ pub fn items_of_requests_are_on_their_disk()
         → HasItemsOn req opened.inode.vid (ledger_of (moment_in_step script stepping start so_far).past.history) }
 {}
 
-/// In each run in range, at the end of every event: the items of a write, in the blocks of the disk that it is on, are those of its pieces.
+/// In each run in range, at each moment on the way of an event: the items of a write, in the blocks of the disk that it is on, are those of
+/// its pieces, at whichever node the write is.
 pub fn items_of_writes_are_of_their_pieces()
-    ensures { (script : List Statement) (events : List Event) (moment : MomentWithPast) → RunsAreInRange script
-        → run_with_past script events ≡ Some moment → ItemsAreOfPieces (ledger_of moment.past.history) moment.world.hosts }
+    ensures { (script : List Statement) (events : List Event) (start moment : MomentWithPast) → RunsAreInRange script
+        → run_with_past script events ≡ Some start → MomentTrail script start moment
+        → ItemsAreOfPieces (ledger_of moment.past.history) moment.world.hosts }
 {}
 
 /// So in each run in range, at the end of every event: of each block that a write has behind it, of a disk that was available, the inode
@@ -243,17 +246,12 @@ pub fn what_is_written_is_alone()
         (is_available_disk moment.world.log moment.past.unavailable) moment.world.hosts moment.past.attempts }
 {}
 
-/// In each run in range, behind each change that replies to a request, and doesn't refuse it: each block in which the request has items is
-/// alone, if the inodes of open disks may come to have what the sessions' tables have, and if that is so of each check. For a write is
-/// replied to as its last piece is done, or at once where it has none, and else no request but a check has items. So on the way of an
-/// event, of the disks that are available as it ends, it is so if it is so of each check.
+/// In each run in range, behind each change on the way of an event that replies to a request, and doesn't refuse it: each block in which
+/// the request has items is alone, by each test for good ids that serves there. For a write is replied to as its last piece is done, or at
+/// once where it has none, a check once its last value is written, as the last attempt on each object wrote its value, and no other
+/// request has items.
 pub fn what_is_replied_to_is_alone()
-    ensures by_tables { (script : List Statement) (events : List Event) (start before after : MomentWithPast) → RunsAreInRange script
-        → run_with_past script events ≡ Some start → MomentTrail script start before → (good_id : ℕ → Bool)
-        → TablesStayTheInodes (log_effects before.world.log) good_id before.world.hosts before.past.attempts
-        → RepliesToChecksAreAlone script good_id start before after → RepliesAreAlone script good_id start before after }
-    ensures on_the_way { (script : List Statement) (events : List Event) (event : Event) (start end before after : MomentWithPast)
-        → RunsAreInRange script → IsOnTheWay script events event start end before after
-        → RepliesToChecksAreAlone script (is_available_disk end.world.log end.past.unavailable) start before after
-        → RepliesAreAlone script (is_available_disk end.world.log end.past.unavailable) start before after }
+    ensures { (script : List Statement) (events : List Event) (event : Event) (start end before after : MomentWithPast)
+        → RunsAreInRange script → IsOnTheWay script events event start end before after → (good_id : ℕ → Bool)
+        → CallsAvailable start after good_id → RepliesAreAlone script good_id start before after }
 {}

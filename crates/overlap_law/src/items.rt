@@ -1,5 +1,5 @@
 //! Laws on the disks, blocks and items of the history: who begins writes on a disk, and what is open of the requests under way.
-ghost use Rattle.std.specs.Prelude.{◌≡◌, ℕ, true, false, List, Some};
+ghost use Rattle.std.specs.Prelude.{◌≡◌, ℕ, Bool, true, false, List, Some};
 ghost use Rattle.std.specs.List.{list_any};
 ghost use Rattle.std.specs.FinMap as tree;
 ghost use Rattle.cluster_script.specs.declared.statement.Statement.{Statement};
@@ -15,10 +15,14 @@ ghost use Rattle.sheep_world.specs.HistoryAdditions.{check_write_grown};
 ghost use Rattle.sheep_world.specs.Step.{EventOutcome, step};
 ghost use Rattle.sheep_world.specs.World.{Host, is_host_up};
 ghost use Rattle.overlap_law.specs.ChecksAhead.{ChecksHaveBegunIfFound, ChecksHaveBegunNoneAhead};
+ghost use Rattle.overlap_law.specs.CheckedAhead.{ChecksAreAlone, ChecksHaveNoItemsAhead};
+ghost use Rattle.overlap_law.specs.CheckedBehind.{ChecksHaveItemsBehind};
+ghost use Rattle.overlap_law.specs.Checks.{ChecksHaveItems};
 ghost use Rattle.overlap_law.specs.DiskBlocks.{DisksHaveTheirBlocks};
 ghost use Rattle.overlap_law.specs.DiskEvents.{is_anothers, BlocksUnderWayAreOpen, WritesHaveOpenItems, WritesOfChecksStand};
 ghost use Rattle.overlap_law.specs.DiskEvents.{WritesUnderWayAreOpen};
 ghost use Rattle.overlap_law.specs.Headline.{ledger_of};
+ghost use Rattle.overlap_law.specs.KeptHistory.{CheckedValuesHaveItems};
 ghost use Rattle.overlap_law.specs.MomentChanges.{IsOnTheWay, RunsAreInRange};
 ghost use Rattle.overlap_law.specs.Past.{MomentWithPast, run_with_past};
 ghost use Rattle.overlap_law.specs.Pieces.{WritesHaveItems};
@@ -99,4 +103,38 @@ pub fn what_checks_begin_may_follow()
 pub fn a_check_that_counts_has_begun_a_write()
     ensures { (script : List Statement) (events : List Event) (moment : MomentWithPast) → RunsAreInRange script
         → run_with_past script events ≡ Some moment → ChecksHaveBegunIfFound moment.past.history moment.world.hosts }
+{}
+
+/// In each run in range the value that a check writes has its items, in each block that the disk has, behind each change on the way of an
+/// event.
+pub fn values_of_checks_have_their_items()
+    ensures { (script : List Statement) (events : List Event) (event : Event) (start end before after : MomentWithPast)
+        → RunsAreInRange script → IsOnTheWay script events event start end before after
+        → CheckedValuesHaveItems (ledger_of after.past.history) after.world.hosts }
+{}
+
+/// In each run in range each block of the own objects that a check has come to has an item of it, if its disk has the block by the history.
+pub fn checks_have_items_behind_them()
+    ensures { (script : List Statement) (events : List Event) (moment : MomentWithPast) → RunsAreInRange script
+        → run_with_past script events ≡ Some moment
+        → ChecksHaveItemsBehind (ledger_of moment.past.history) moment.world.hosts }
+{}
+
+/// In each run in range no object that a check hasn't come to has an item of it, so neither has one that isn't an own object of its disk.
+pub fn checks_have_no_items_ahead()
+    ensures { (script : List Statement) (events : List Event) (moment : MomentWithPast) → RunsAreInRange script
+        → run_with_past script events ≡ Some moment
+        → ChecksHaveNoItemsAhead (ledger_of moment.past.history) moment.world.hosts }
+{}
+
+/// In each run in range what a check has behind it, of an object that it isn't writing, is all that the object's blocks may be read as:
+/// each outcome has the bytes of the check's item. So checks have their items, by whichever test for good ids.
+pub fn checks_have_their_items()
+    ensures alone { (script : List Statement) (events : List Event) (moment : MomentWithPast) → RunsAreInRange script
+        → run_with_past script events ≡ Some moment → (good_id : ℕ → Bool)
+        → ChecksAreAlone (ledger_of moment.past.history) (log_effects moment.world.log) good_id moment.world.hosts moment.past.attempts }
+    ensures all { (script : List Statement) (events : List Event) (moment : MomentWithPast) → RunsAreInRange script
+        → run_with_past script events ≡ Some moment → (good_id : ℕ → Bool)
+        → ChecksHaveItems (ledger_of moment.past.history) (log_effects moment.world.log) good_id moment.world.hosts
+        moment.past.attempts }
 {}

@@ -9,7 +9,9 @@ ghost use Rattle.sheep_world.specs.Step.{step};
 ghost use Rattle.overlap_law.specs.Past.{MomentWithPast, run_with_past, moment_after};
 ghost use Rattle.overlap_law.specs.RunsWithAsks.{run_with_asks_and_past};
 ghost use Rattle.overlap_law.specs.MomentChanges.{RunsAreInRange};
+ghost use Rattle.overlap_law.specs.Headline.{KeepsHeadline};
 ghost use Rattle.overlap_law.specs.KeptSoFar.{IsKeptSoFar, KeepsFacts};
+ghost use Rattle.overlap_law.specs.Overlap.{OverlapOf};
 
 use cluster_script::Script;
 use disk_history::HistList;
@@ -18,7 +20,8 @@ use sheep_world::{ApplyFault, World};
 
 /// Makes an event as [`World::apply`] does, with its refusals and at its cost. Behind each run that led to the world before, and behind
 /// each run with a client's reads, the event makes a run that leads to the world after, whose history has grown by what is given; and each
-/// run of events in range that leads there keeps what has been proved of the overlap, the six facts among it (`specs/KeptSoFar.antt`).
+/// run of events in range that leads there keeps the headline, the whole invariant, the six facts, and what else stands in
+/// `specs/KeptSoFar.antt`.
 pub fn keeps_overlap(
     script: &Script,
     world: &mut World,
@@ -43,6 +46,13 @@ pub fn keeps_overlap(
         → run_with_past script.now events ≡ Some moment → moment.world ≡ world.new.world → IsKeptSoFar script.now moment) }
     ensures facts { OnOk result ((events : List TheEvent) (moment : MomentWithPast) → RunsAreInRange script.now
         → run_with_past script.now events ≡ Some moment → moment.world ≡ world.new.world → KeepsFacts moment) }
+    // The whole invariant holds.
+    ensures overlap { OnOk result ((events : List TheEvent) (moment : MomentWithPast) → RunsAreInRange script.now
+        → run_with_past script.now events ≡ Some moment → moment.world ≡ world.new.world → OverlapOf script.now moment) }
+    // The replies of the run are one legal history, where the reads of disks that weren't available up to there are left out, torn blocks
+    // excepted; and refused requests changed nothing, peer requests of another epoch among them.
+    ensures headline { OnOk result ((events : List TheEvent) (moment : MomentWithPast) → RunsAreInRange script.now
+        → run_with_past script.now events ≡ Some moment → moment.world ≡ world.new.world → KeepsHeadline script.now moment) }
 {
     world.apply(script, event)
 }

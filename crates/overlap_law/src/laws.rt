@@ -117,7 +117,7 @@ pub fn peers_of_another_epoch_change_nothing()
 {}
 
 /// Where every object was available at every state, no read is left out.
-pub fn no_read_of_what_was_borne_is_left_out()
+pub fn no_read_of_what_was_available_is_left_out()
     ensures { (script : List Statement) (events : List Event) (moment : MomentWithPast) → run_with_past script events ≡ Some moment
         → moment.past.unavailable ≡ [] → moment.past.available_history ≡ moment.past.history }
 {}

@@ -2,38 +2,42 @@
 //! every run stay one legal history.
 //!
 //! The crate stands on `sheep_world` and on the crates below it. It has definitions, laws of them, and one call, [`keeps_overlap`],
-//! which makes an event as `sheep_world` does and says what has been proved of the overlap behind it (`specs/KeptSoFar.antt`). Beside the
-//! world stands the past of a run (`specs/Past.antt`): all attempts to create or write, with the fate of each message
-//! (`specs/Attempts.antt`), and what else later words need. Over it stand the words made, mute, doomed, covered and quiet
-//! (`specs/Words.antt`), live holders (`specs/Holders.antt`), the six facts on which the overlap rests
-//! (`specs/Contents.antt`, `specs/Facts.antt`), the headline (`specs/Headline.antt`), beside it that no object is missing
-//! (`specs/NoObjects.antt`), and the invariant that is to carry them (`specs/Overlap.antt`); the laws of `overlap.rt` say what it gives at
-//! once, those of `facts.rt` that it gives the facts, and that they hold in every run in range, and those of `objects.rt` that no object is
-//! missing in any. Of the headline the parts on refused requests and on peers of another epoch are proved, and that the replies are legal
-//! isn't yet; docs/overlap.md says of each conjunct of the invariant whether it holds in every run. The laws of `laws.rt`, `works.rt`,
-//! `writers.rt`, `rows.rt`, `searches.rt`, `heart.rt`, `tables.rt` and `inodes.rt` say what the words mean. On the way to the legal history
-//! those of `told.rt` say what reads are told, of `drafts.rt` what new inodes have, of `history.rt` what blocks may come to be read as, and
-//! of `legal.rt` what then may be read.
+//! which makes an event as `sheep_world` does and says what holds behind it. Beside the world stands the past of a run
+//! (`specs/Past.antt`): all attempts to create or write, with the fate of each message (`specs/Attempts.antt`), and what else later words
+//! need. Over it stand the words made, mute, doomed, covered and quiet (`specs/Words.antt`), live holders (`specs/Holders.antt`), the six
+//! facts on which the overlap rests (`specs/Contents.antt`, `specs/Facts.antt`), the headline (`specs/Headline.antt`), beside it that no
+//! object is missing (`specs/NoObjects.antt`), and the invariant that carries them (`specs/Overlap.antt`).
+//!
+//! All of this is proved of every run in range: the headline and the whole invariant (`headline.rt`), the facts (`facts.rt`), and that no
+//! object is missing (`objects.rt`). What else holds of the parts of a moment, and what the words mean, is said by the laws of the other files of
+//! `src/`; docs/overlap.md names the law behind each conjunct of the invariant.
 //!
 //! An event is taken apart into small changes of a moment (`specs/StepMoments.antt`, `specs/MomentChanges.antt`), each of one kind by what
-//! it makes of the wire and the attempts (`specs/Traffic.antt`). So what each of them keeps holds of every run in range: that the wire and
+//! it makes of the wire and the attempts (`specs/Traffic.antt`). What each of them keeps holds of every run in range: that the wire and
 //! the attempts stay tied (`specs/TiedAttempts.antt`), that what is asked is of the past, that attempts are of their shape
 //! (`specs/ShapedAttempts.antt`), that the wire is linked with what nodes wait for, that gateways know the fates of their attempts, what
 //! the group of epochs and nodes says (`specs/NodeEpochs.antt`), the group of writers (`specs/Writers.antt`), over what the works of
 //! sessions rest on (`specs/AwaitedEntries.antt`, `specs/CommandDisks.antt`, `specs/WriterClaims.antt`), the groups of rows
 //! (`specs/Rows.antt`), of recoveries (`specs/Lists.antt`, `specs/Searches.antt`) and of inodes and tables (`specs/Tables.antt`, over
-//! `specs/ToCome.antt`). The runs of a script that a text may spell are in range: each node has rows of few objects
-//! (`specs/RowsInRange.antt`), since each object was set apart for a request of the script, or is an inode.
+//! `specs/ToCome.antt`). Of the history one induction carries what blocks may come to be read as, what open works would make of them, and
+//! what open reads were told (`specs/HistoryStands.antt`). The runs of a script that a text may spell are in range: each node has rows of
+//! few objects (`specs/RowsInRange.antt`), since each object was set apart for a request of the script, or is an inode.
 //!
 //! Between the events a client without a script may read objects (`specs/RunsWithAsks.antt`). Such reads leave the past as it is; the laws
 //! of `with_asks.rt` say why, and that what is owed of events and of reads gives the headline of those runs too.
 #![tactic(auto)]
 
 mod alone;
+mod alone_checks;
+mod apart;
 mod births;
 mod bytes;
+mod checks_read;
+mod copies;
 mod drafts;
 mod facts;
+mod good_inodes;
+mod headline;
 mod heart;
 mod history;
 mod inodes;
@@ -47,12 +51,15 @@ mod losses;
 mod objects;
 mod overlap;
 mod reads;
+mod reads_told;
 mod rows;
 mod searches;
 mod since;
 mod sound;
 mod tables;
 mod told;
+mod unwritten;
+mod whole;
 mod with_asks;
 mod works;
 mod writers;
@@ -73,6 +80,9 @@ pub use alone::what_is_written_comes_out_as_its_items;
 pub use alone::what_is_written_is_alone;
 pub use alone::what_is_written_is_entered_alone;
 pub use alone::what_is_written_stays_alone;
+pub use alone_checks::checks_have_their_works;
+pub use alone_checks::what_checks_have_written_stays_alone;
+pub use apart::what_an_event_told_is_apart_from_done_writes;
 pub use births::a_made_create_always_comes_first;
 pub use births::attempts_are_of_the_born;
 pub use births::attempts_stay_carried_to_the_end;
@@ -86,18 +96,15 @@ pub use bytes::rows_have_what_they_owe_as_entries_are_read;
 pub use bytes::served_rows_have_what_they_owe;
 pub use bytes::what_a_node_passed_by_is_doomed;
 pub use bytes::what_reads_are_told_is_of_attempts;
+pub use checks_read::what_checks_read_may_be_read;
+pub use copies::nothing_is_written_beside_pieces;
+pub use copies::what_is_copied_of_strips_was_read;
 pub use drafts::data_is_of_published_disks;
 pub use drafts::drafts_are_drawn;
-pub use drafts::drafts_stay_drawn;
 pub use drafts::each_entry_keeps_blocks;
-pub use drafts::new_clones_are_drawn;
-pub use drafts::new_inodes_are_drawn;
 pub use drafts::places_are_drawn;
-pub use drafts::published_disks_are_made_of_their_drafts;
 pub use drafts::publishers_may_write;
 pub use drafts::requests_and_commands_are_kept;
-pub use drafts::reserved_inodes_are_drawn_by_what_may_come;
-pub use drafts::what_an_entry_adds_keeps_blocks;
 pub use drafts::what_is_to_be_published_is_created;
 pub use drafts::works_create_what_is_drawn;
 pub use facts::attempts_stand;
@@ -107,6 +114,11 @@ pub use facts::lost_gateways_are_fenced;
 pub use facts::rows_have_their_bases;
 pub use facts::the_facts_hold;
 pub use facts::the_overlap_gives_the_facts;
+pub use good_inodes::available_inodes_are_as_the_tables_say;
+pub use good_inodes::what_any_disk_names_is_made;
+pub use headline::scripts_of_an_input_are_in_range;
+pub use headline::the_headline_holds;
+pub use headline::the_overlap_holds_in_every_run;
 pub use heart::attempts_stay_carried;
 pub use heart::no_row_is_of_an_earlier_level;
 pub use heart::no_search_has_passed_what_is_made;
@@ -116,35 +128,26 @@ pub use heart::what_is_made_is_held;
 pub use heart::what_was_passed_lacks_rows;
 pub use history::attempts_enter_what_may_come;
 pub use history::attempts_of_the_refused_come_to_nothing;
-pub use history::blocks_are_written_if_histories_are_kept;
-pub use history::blocks_stay_written;
 pub use history::commands_write_what_may_come;
 pub use history::creates_are_of_their_pieces;
 pub use history::disks_are_there_by_the_log;
 pub use history::each_change_adds_to_the_history;
-pub use history::each_change_keeps_blocks_written;
 pub use history::items_are_open_until_their_request_ends;
-pub use history::open_works_make_what_may_stay;
-pub use history::what_creates_make_may_stay;
 pub use history::what_ends_keeps_blocks;
-pub use history::what_is_added_keeps_blocks;
-pub use history::what_is_done_is_replied_to;
-pub use history::what_stays_written_is_written;
 pub use history::what_was_served_stays_to_come;
-pub use history::writes_that_begin_keep_blocks;
-pub use inodes::entries_read_are_kept;
 pub use inodes::inodes_are_as_the_tables_say;
-pub use inodes::inodes_stay;
 pub use inodes::published_inodes_have_their_tables;
 pub use inodes::tables_are_the_inodes;
-pub use inodes::tables_stay_the_inodes;
-pub use inodes::written_back_tables_stay;
 pub use items::a_check_that_counts_has_begun_a_write;
 pub use items::checks_begin_no_write_ahead;
+pub use items::checks_have_items_behind_them;
+pub use items::checks_have_no_items_ahead;
+pub use items::checks_have_their_items;
 pub use items::disks_of_the_history_have_their_blocks;
 pub use items::each_block_under_way_is_open;
 pub use items::only_the_holder_begins_writes_of_its_disk;
 pub use items::pieces_left_to_write_are_open;
+pub use items::values_of_checks_have_their_items;
 pub use items::what_checks_begin_may_follow;
 pub use items::what_checks_write_stands;
 pub use items::what_is_left_to_write_has_its_items;
@@ -162,7 +165,7 @@ pub use laws::epochs_and_nodes_are_kept;
 pub use laws::gateways_know_the_fates;
 pub use laws::members_stay_until_they_are_lost;
 pub use laws::messages_touch_their_requests;
-pub use laws::no_read_of_what_was_borne_is_left_out;
+pub use laws::no_read_of_what_was_available_is_left_out;
 pub use laws::nodes_have_rows_of_few_objects;
 pub use laws::nodes_step_on_what_they_may;
 pub use laws::open_works_have_messages;
@@ -190,30 +193,17 @@ pub use laws::what_nodes_have_read_is_of_the_log;
 pub use laws::what_works_ask_can_be_spelled;
 pub use laws::who_joins_is_new;
 pub use legal::all_else_may_follow;
-pub use legal::each_change_keeps_reads_standing;
-pub use legal::each_change_leaves_reads_standing;
 pub use legal::open_snapshots_are_of_the_history;
-pub use legal::pieces_may_be_read;
-pub use legal::reads_go_on_with_what_may_be_read;
-pub use legal::reads_may_go_on_with_what_is_to_come;
-pub use legal::reads_stand_as_a_history_grows;
-pub use legal::reads_stand_in_each_change;
-pub use legal::reads_stand_in_runs;
-pub use legal::replies_stay_legal;
-pub use legal::what_a_read_tells_may_be_read;
-pub use legal::what_a_reply_tells_may_be_read;
-pub use legal::what_a_step_adds_keeps_reads;
 pub use legal::what_entries_add_may_follow;
-pub use legal::what_reads_are_told_decides;
 pub use legal::what_reads_come_to_is_to_come;
 pub use legal::what_requests_did_is_told_by_events;
-pub use legal::what_was_read_so_far_may_be_read;
 pub use legal::what_was_read_stays_so;
 pub use legal::working_disks_are_of_the_history;
 pub use lists::finished_lists_are_noted_once;
 pub use lists::lists_stay_complete;
 pub use lists::what_is_recovered_stays_kept;
 pub use losses::few_losses_leave_enough_live_holders;
+pub use losses::few_losses_leave_the_whole_history_legal;
 pub use objects::no_object_is_lacked;
 pub use objects::no_object_is_missing;
 pub use objects::nothing_comes_to_be_lacked;
@@ -231,6 +221,11 @@ pub use overlap::the_settled_have_recovered;
 pub use reads::each_snapshot_is_taken;
 pub use reads::reads_are_known;
 pub use reads::the_writers_are_kept;
+pub use reads_told::coded_writes_are_of_bytes;
+pub use reads_told::each_change_keeps_what_reads_were_told;
+pub use reads_told::what_reads_were_given_has_what_was_owed;
+pub use reads_told::what_strips_give_is_made;
+pub use reads_told::what_strips_give_is_to_come;
 pub use rows::requests_are_of_attempts;
 pub use rows::rows_are_at_targets;
 pub use rows::rows_are_begun;
@@ -253,24 +248,18 @@ pub use since::rows_have_what_they_owe_as_no_node_steps;
 pub use since::rows_have_what_they_owe_as_requests_are_answered;
 pub use since::rows_have_what_they_owe_over_each_change;
 pub use sound::blocks_that_are_read_are_not_written;
-pub use sound::each_change_keeps_strips_sound;
 pub use sound::items_of_strips_are_coded;
 pub use sound::open_items_are_under_way;
 pub use sound::requests_that_wait_made_none;
 pub use sound::strips_are_sound_unless_written;
+pub use sound::strips_that_are_read_come_alike;
 pub use tables::candidates_are_of_what_may_come;
 pub use tables::inodes_of_working_disks_are_made;
 pub use tables::own_entries_of_tables_are_made;
 pub use tables::published_inodes_are_made;
-pub use tables::snapshots_stay_frozen;
-pub use tables::tables_are_the_inodes_by_what_may_come;
-pub use tables::tables_stay_the_inodes_between_steps;
-pub use tables::what_attempts_name_stays_made;
-pub use tables::what_inodes_name_stays_made;
 pub use tables::what_is_done_was_made;
 pub use tables::what_is_named_is_made;
 pub use tables::what_may_come_might_before;
-pub use tables::what_tables_name_stays_made;
 pub use tables::what_was_created_stays_created;
 pub use told::blocks_are_read_through_their_strips;
 pub use told::what_a_read_is_told_is_to_come;
@@ -279,6 +268,9 @@ pub use told::what_commands_read_is_to_come;
 pub use told::what_good_reads_are_told_has_what_is_owed;
 pub use told::what_is_read_of_copies_is_to_come;
 pub use told::what_reads_are_told_has_what_is_owed;
+pub use unwritten::writes_that_are_done_are_apart_from_open_reads;
+pub use whole::each_event_of_a_run_tells_what_may_be_read;
+pub use whole::the_history_stands;
 pub use with_asks::a_clients_read_makes_nothing;
 pub use with_asks::a_run_with_asks_has_its_past;
 pub use with_asks::what_a_clients_read_keeps;

@@ -1,13 +1,19 @@
 //! Laws of losses: how few of them leave what the headline asks for.
-ghost use Rattle.std.specs.Prelude.{ℕ, ◌≤◌, Bool, List, IsTrue};
+ghost use Rattle.std.specs.Prelude.{◌≡◌, ℕ, ◌≤◌, Bool, List, [], IsTrue, Some};
 ghost use Rattle.object_id.specs.declared.node.NodeId.{NodeId};
 ghost use Rattle.object_id.specs.declared.entry.Entry.{Entry};
 ghost use Rattle.object_id.specs.declared.policy.Policy.{Policy};
 ghost use Rattle.epoch_log.specs.Appending.{IsLog};
 ghost use Rattle.epoch_log.specs.Epochs.{epoch_of};
+ghost use Rattle.cluster_script.specs.declared.statement.Statement.{Statement};
+ghost use Rattle.disk_history.specs.Legal.{IsLegal};
+ghost use Rattle.sheep_node.specs.declared.event.Event.{Event};
 ghost use Rattle.overlap_law.specs.Attempts.{AttemptRecord};
 ghost use Rattle.overlap_law.specs.FewLosses.{LossesAreFew, LossesStayFew};
+ghost use Rattle.overlap_law.specs.FewLossesInRuns.{LossesAreFewInRun};
 ghost use Rattle.overlap_law.specs.Holders.{is_kept_in, is_available};
+ghost use Rattle.overlap_law.specs.MomentChanges.{RunsAreInRange};
+ghost use Rattle.overlap_law.specs.Past.{MomentWithPast, run_with_past};
 
 /// On a large enough cluster few losses leave enough live holders. An object is kept in an epoch, if the epoch's members stand in as many
 /// zones as the object has copies or strips, and at most one less than there are copies, or as many as there are parity strips, of them
@@ -17,4 +23,13 @@ pub fn few_losses_leave_enough_live_holders()
         → epoch ≤ epoch_of log → LossesAreFew counts log oid policy epoch → IsTrue (is_kept_in counts log oid policy epoch) }
     ensures available { (counts : NodeId → ℕ → Bool) (log : List Entry) (attempts : List AttemptRecord) (oid : ℕ) → IsLog log
         → LossesStayFew counts log attempts oid → IsTrue (is_available counts log attempts oid) }
+{}
+
+/// So it is of a run: where few losses hold at each moment that it comes by, for each object that was born and whose disk isn't dead, every
+/// object was available at every moment. So no read is left out, and the whole history is legal.
+pub fn few_losses_leave_the_whole_history_legal()
+    ensures available { (script : List Statement) (events : List Event) (moment : MomentWithPast) → RunsAreInRange script
+        → run_with_past script events ≡ Some moment → LossesAreFewInRun script events → moment.past.unavailable ≡ [] }
+    ensures legal { (script : List Statement) (events : List Event) (moment : MomentWithPast) → RunsAreInRange script
+        → run_with_past script events ≡ Some moment → LossesAreFewInRun script events → IsLegal moment.past.history }
 {}

@@ -79,18 +79,18 @@ pub fn what_good_reads_are_told_has_what_is_owed()
 
 /// In each run in range, where a piece of a copy was on its way to an open read as an event began: at each moment on the way of the event
 /// at which its message is unanswered, also once the step is told of it, each unit inside the piece is one that the object may come to
-/// have, if an attempt that covers the unit is made, and what was good as the event began had what is owed.
+/// have, if an attempt that covers the unit is made, and the object was good as the event began.
 pub fn what_a_read_is_told_is_to_come()
     ensures { (script : List Statement) (events : List Event) (start moment : MomentWithPast) (n : ℕ) (now first : Host) (req place : ℕ)
-        (work : Work) (current : gateways.Attempt) (message : Message) (good : ℕ → Bool) (from : NodeId) (rsp : PeerRsp) (bytes : List ℕ)
+        (work : Work) (current : gateways.Attempt) (message : Message) (from : NodeId) (rsp : PeerRsp) (bytes : List ℕ)
         (unit k : ℕ) (made : AttemptRecord)
         → RunsAreInRange script → run_with_past script events ≡ Some start → MomentTrail script start moment
         → tree.get moment.world.hosts n ≡ Some now → now.is_lost ≡ false
         → IsUnansweredOf now.node.gateway.works req work current place message
-        → ToldPiecesAreSince (log_effects start.world.log) good start.world.hosts start.world.wire start.past.attempts
         → tree.get start.world.hosts n ≡ Some first → message.number < first.node.sends
         → IsAnswering start.world.wire (message_name n message.number) from rsp → rsp.say ≡ Piece bytes
-        → good (oid_of work.work) ≡ true → policy_in (log_effects start.world.log) (oid_of work.work) ≡ Some (policy_of work.work)
+        → is_good start.world.log start.past.attempts start.past.unavailable (oid_of work.work) ≡ true
+        → policy_in (log_effects start.world.log) (oid_of work.work) ≡ Some (policy_of work.work)
         → is_in_strips (policy_of work.work) (kind_of (oid_of work.work)) ≡ false
         → offset_read work.work ≤ unit_start (kind_of (oid_of work.work)) unit
         → unit_end (kind_of (oid_of work.work)) unit ≤ offset_read work.work + length bytes
@@ -105,15 +105,15 @@ pub fn what_a_read_is_told_is_to_come()
 /// does so is mute or has the same parts of it.
 pub fn what_a_read_is_told_of_strips_is_made()
     ensures { (script : List Statement) (events : List Event) (start moment : MomentWithPast) (n : ℕ) (now first : Host) (req place : ℕ)
-        (work : Work) (current : gateways.Attempt) (message : Message) (good : ℕ → Bool) (from : NodeId) (rsp : PeerRsp) (bytes : List ℕ)
+        (work : Work) (current : gateways.Attempt) (message : Message) (from : NodeId) (rsp : PeerRsp) (bytes : List ℕ)
         (unit j : ℕ) (made : AttemptRecord)
         → RunsAreInRange script → run_with_past script events ≡ Some start → MomentTrail script start moment
         → tree.get moment.world.hosts n ≡ Some now → now.is_lost ≡ false
         → IsUnansweredOf now.node.gateway.works req work current place message
-        → ToldPiecesAreSince (log_effects start.world.log) good start.world.hosts start.world.wire start.past.attempts
         → tree.get start.world.hosts n ≡ Some first → message.number < first.node.sends
         → IsAnswering start.world.wire (message_name n message.number) from rsp → rsp.say ≡ Piece bytes
-        → good (oid_of work.work) ≡ true → policy_in (log_effects start.world.log) (oid_of work.work) ≡ Some (policy_of work.work)
+        → is_good start.world.log start.past.attempts start.past.unavailable (oid_of work.work) ≡ true
+        → policy_in (log_effects start.world.log) (oid_of work.work) ≡ Some (policy_of work.work)
         → is_in_strips (policy_of work.work) (kind_of (oid_of work.work)) ≡ true
         → slice_get (attempts_on (oid_of work.work) moment.past.attempts) j ≡ Some made → covers_unit unit made ≡ true
         → is_made made ≡ true → AddNothingAfter (attempts_on (oid_of work.work) moment.past.attempts) unit j made

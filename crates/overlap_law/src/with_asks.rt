@@ -18,9 +18,11 @@ ghost use Rattle.overlap_law.specs.Headline.{IsLegalWhereAvailable, RefusedHaveN
 ghost use Rattle.overlap_law.specs.Headline.{Headline, HeadlineWithAsks};
 ghost use Rattle.overlap_law.specs.RequestsOfScript.{AttemptsAreTheScripts, TheRefusedAreAnswered, JoinsAreNew};
 ghost use Rattle.overlap_law.specs.MomentChanges.{RunsAreInRange};
-ghost use Rattle.overlap_law.specs.Overlap.{OverlapOf, KeepsOverlap, KeepsOverlapBesideAsks, AsksKeepOverlap};
+ghost use Rattle.overlap_law.specs.Overlap.{OverlapOf};
 ghost use Rattle.overlap_law.specs.Past.{MomentWithPast, run_with_past, without_past};
 ghost use Rattle.overlap_law.specs.RunsWithAsks.{next_move_with_past, run_with_asks_and_past};
+ghost use Rattle.overlap_law.specs.RunsWithReads.{RunsWithAsksAreInRange, EventsKeepOverlapInRuns, ReadsKeepOverlapInRuns};
+ghost use Rattle.overlap_law.specs.NamedAsks.{AsksNameObjects};
 
 /// A run of events is one in which a client asks for nothing, with the same past. Without its past a run with asks is the cluster's own;
 /// it goes on with each move that may be made; and an ask leaves the past as it is.
@@ -91,15 +93,15 @@ pub fn what_a_clients_read_keeps()
         → JoinsAreNew script before.world → JoinsAreNew script after.world }
 {}
 
-/// What is owed is enough for the headline. A script opens with the invariant. If each event keeps it, the headline follows. If each event
-/// and each client's read keeps it also in runs with asks, it holds in every one of those, and their headline follows; the headline of runs
-/// of events is a part of that one.
+/// What is owed is enough for the headline of runs with a client's reads: if in the moments of such runs each event and each client's read
+/// keeps the invariant, it holds in every one of them, and their headline follows; the headline of runs of events is a part of that one. A
+/// script whose runs with asks are in range has its runs of events in range.
 pub fn what_is_owed_gives_the_headline()
-    ensures invariant { (script : List Statement) → RunsAreInRange script
-        → ((event : Event) → KeepsOverlapBesideAsks script event) → ((node : NodeId) (ask : Ask) → AsksKeepOverlap script node ask)
-        → (moves : List Move) (moment : MomentWithPast) → run_with_asks_and_past script moves ≡ Some moment → OverlapOf script moment }
-    ensures asked { (script : List Statement) → RunsAreInRange script → ((event : Event) → KeepsOverlapBesideAsks script event)
-        → ((node : NodeId) (ask : Ask) → AsksKeepOverlap script node ask) → HeadlineWithAsks script }
-    ensures events { (script : List Statement) → RunsAreInRange script → ((event : Event) → KeepsOverlap script event) → Headline script }
+    ensures range { (script : List Statement) → RunsWithAsksAreInRange script → RunsAreInRange script }
+    ensures invariant { (script : List Statement) → RunsWithAsksAreInRange script → EventsKeepOverlapInRuns script
+        → ReadsKeepOverlapInRuns script → (moves : List Move) (moment : MomentWithPast) → AsksNameObjects moves
+        → run_with_asks_and_past script moves ≡ Some moment → OverlapOf script moment }
+    ensures asked { (script : List Statement) → RunsWithAsksAreInRange script → EventsKeepOverlapInRuns script
+        → ReadsKeepOverlapInRuns script → HeadlineWithAsks script }
     ensures part { (script : List Statement) → HeadlineWithAsks script → Headline script }
 {}

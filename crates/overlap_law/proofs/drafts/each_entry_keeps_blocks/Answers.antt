@@ -1,6 +1,10 @@
-use Rattle.overlap_law.proofs.PlacesKeepBlocks.{entries_keep-on_the_way}
+use Rattle.overlap_law.proofs.CarriedTables.{good_id_at}
+use Rattle.overlap_law.proofs.HistoryTests.{test_of_end}
+use Rattle.overlap_law.proofs.PlacesKeepBlocks.{entries_keep-by_tests}
 use Rattle.overlap_law.proofs.drafts.each_entry_keeps_blocks.Goals as goal
 
 pub returns : goal.returns
 returns c = λ script events event start end before after range run happens trail change left.
-    entries_keep-on_the_way script range events event start end before after run happens trail change left
+    entries_keep-by_tests script range events event start end before after
+    (record { run = run; happens = happens; behind = trail; change = change; left = left }) (good_id_at end)
+    (test_of_end script event start end happens left)

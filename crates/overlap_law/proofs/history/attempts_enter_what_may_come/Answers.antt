@@ -1,6 +1,8 @@
 use Rattle.overlap_law.proofs.EntersToCome.{enters_to_come}
+use Rattle.overlap_law.proofs.ServedBackInRuns.{commands_write-by_tests}
 use Rattle.overlap_law.proofs.history.attempts_enter_what_may_come.Goals as goal
 
 pub returns : goal.returns
-returns c = λ script events start before after range is trail change good_id commands.
-    enters_to_come script range events start before after is trail change good_id commands
+returns c = λ script events event start end before after range way good_id test.
+    enters_to_come script range events start before after way.run way.behind way.change good_id
+    (commands_write-by_tests script range events event start end before after way good_id test)

@@ -1,6 +1,18 @@
+use Rattle.overlap_law.proofs.AloneChecksTold.{all-on_the_way}
+use Rattle.overlap_law.proofs.DoneReplies.{done_replied}
 use Rattle.overlap_law.proofs.EndsKeepBlocks.{ends_keep}
+use Rattle.overlap_law.proofs.NoRecoveredDue.{began-with_past}
+use Rattle.overlap_law.proofs.PlacesKeepBlocks.{entries_keep-by_tests}
 use Rattle.overlap_law.proofs.history.what_ends_keeps_blocks.Goals as goal
 
-pub returns : goal.returns
-returns c = λ script events start before after range is trail change good_id alone entries.
-    ends_keep script range events start is good_id change trail alone entries
+pub returns-clause-alone : goal.returns-clause-alone
+returns-clause-alone c = λ script events event start end before after range way good_id test.
+    done_replied script range start (began-with_past script events start way.run) good_id way.change
+    (all-on_the_way script range events event start end before after way good_id test)
+
+pub returns-clause-keeps : goal.returns-clause-keeps
+returns-clause-keeps c = λ script events event start end before after range way good_id test.
+    ends_keep script range events start way.run good_id way.change way.behind
+    (done_replied script range start (began-with_past script events start way.run) good_id way.change
+    (all-on_the_way script range events event start end before after way good_id test))
+    (entries_keep-by_tests script range events event start end before after way good_id test)

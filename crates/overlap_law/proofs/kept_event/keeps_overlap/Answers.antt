@@ -6,6 +6,8 @@ use Rattle.overlap_law.proofs.AskedRuns.{with_asks-event}
 use Rattle.overlap_law.proofs.RunsWithOneMore.{run_with_one_more}
 use Rattle.overlap_law.proofs.KeptFacts.{facts_kept}
 use Rattle.overlap_law.proofs.KeptSoFar.{kept_so_far}
+use Rattle.overlap_law.proofs.HeadlineInRuns.{headline_holds}
+use Rattle.overlap_law.proofs.OverlapInRuns.{overlap_holds}
 use Rattle.overlap_law.proofs.kept_event.keeps_overlap.Goals as goal
 
 pub returns-clause-run : goal.returns-clause-run
@@ -36,4 +38,16 @@ pub returns-clause-facts : goal.returns-clause-facts
 returns-clause-facts c =
     IfOk-weaker c.apply.result _ _
     (λ grown made events moment range is at. facts_kept c.args.script.now range events moment is)
+    c.apply.ensures.made
+
+pub returns-clause-overlap : goal.returns-clause-overlap
+returns-clause-overlap c =
+    IfOk-weaker c.apply.result _ _
+    (λ grown made events moment range is at. overlap_holds c.args.script.now range events moment is)
+    c.apply.ensures.made
+
+pub returns-clause-headline : goal.returns-clause-headline
+returns-clause-headline c =
+    IfOk-weaker c.apply.result _ _
+    (λ grown made events moment range is at. headline_holds c.args.script.now range range.is_script events moment is)
     c.apply.ensures.made

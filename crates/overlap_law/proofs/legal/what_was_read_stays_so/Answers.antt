@@ -1,9 +1,6 @@
-use Rattle.overlap_law.proofs.ReadsStay.{stood, read_still}
+use Rattle.overlap_law.proofs.ReadsStay.{read_still}
 use Rattle.overlap_law.proofs.legal.what_was_read_stays_so.Goals as goal
 
 pub returns : goal.returns
-returns c = record {
-  history = λ attempts history grown vid block disk keep there kept. stood attempts history grown vid block disk keep there kept;
-  attempts = λ script events start before after range run trail change items bytes may.
-      read_still script range events start before after run trail change items bytes may;
-}
+returns c = λ script events start before after range run trail change items bytes may.
+    read_still script range events start before after run trail change items bytes may

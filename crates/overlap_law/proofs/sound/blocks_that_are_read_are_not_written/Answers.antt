@@ -1,5 +1,5 @@
-use Rattle.overlap_law.proofs.SoundReadsApart.{reads_unwritten}
+use Rattle.overlap_law.proofs.UnwrittenInRuns.{reads_unwritten-on_the_way}
 use Rattle.overlap_law.proofs.sound.blocks_that_are_read_are_not_written.Goals as goal
 
 pub returns : goal.returns
-returns c = λ script events moment range is of_pieces. reads_unwritten script range events moment is of_pieces
+returns c = λ script events start moment range ran trail. reads_unwritten-on_the_way script range events start ran trail

@@ -1,7 +1,9 @@
+use Rattle.overlap_law.specs.Headline.{ledger_of}
 use Rattle.overlap_law.specs.MomentChanges.{Still}
 use Rattle.overlap_law.specs.TiedAttempts.{IsTied}
-use Rattle.overlap_law.specs.Headline.{ledger_of}
 use Rattle.vdi_directory.specs.Decisions.{log_effects}
+use Rattle.overlap_law.proofs.CarriedTables.{good_id_at}
+use Rattle.overlap_law.proofs.HistoryCarried.{stands-in_run}
 use Rattle.overlap_law.proofs.RunsByChanges.{on_the_way}
 use Rattle.overlap_law.proofs.SoundAlike.{come_alike, sound_unless_written}
 use Rattle.overlap_law.proofs.SoundCodedRuns.{coded-in_run}
@@ -9,12 +11,12 @@ use Rattle.overlap_law.proofs.TiedInRuns.{kept_tied}
 use Rattle.overlap_law.proofs.sound.strips_are_sound_unless_written.Goals as goal
 
 pub returns-clause-alike : goal.returns-clause-alike
-returns-clause-alike c = λ script events moment range is good_id written.
-    come_alike (ledger_of moment.past.history) (log_effects moment.world.log) good_id moment.world.hosts moment.past.attempts
-    (coded-in_run script range events moment is) written
+returns-clause-alike c = λ script events moment range is.
+    come_alike (ledger_of moment.past.history) (log_effects moment.world.log) (good_id_at moment) moment.world.hosts moment.past.attempts
+    (coded-in_run script range events moment is) (stands-in_run script range events moment is).written
 
 pub returns-clause-sound : goal.returns-clause-sound
-returns-clause-sound c = λ script events moment range is good_id written.
-    sound_unless_written (ledger_of moment.past.history) (log_effects moment.world.log) good_id moment.world.hosts moment.past.attempts
-    (coded-in_run script range events moment is) written
+returns-clause-sound c = λ script events moment range is.
+    sound_unless_written (ledger_of moment.past.history) (log_effects moment.world.log) (good_id_at moment) moment.world.hosts
+    moment.past.attempts (coded-in_run script range events moment is) (stands-in_run script range events moment is).written
     (on_the_way script IsTied (kept_tied script range) events moment moment is Still).fates.whole

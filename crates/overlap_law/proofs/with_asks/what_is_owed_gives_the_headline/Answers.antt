@@ -1,10 +1,10 @@
-use Rattle.overlap_law.proofs.AskedMoments.{asked-overlap, asked-headline, events-headline, headline-events}
+use Rattle.overlap_law.proofs.AsksOwed.{asked-overlap, asked-headline, events_in_range, headline-events}
 use Rattle.overlap_law.proofs.with_asks.what_is_owed_gives_the_headline.Goals as goal
 
 pub returns : goal.returns
 returns c = record {
-  invariant = λ script range by_events by_reads moves moment is. asked-overlap script range by_events by_reads moves moment is;
-  asked = λ script range by_events by_reads is_script moves moment is. asked-headline script range by_events by_reads moves moment is;
-  events = λ script range by_events is_script events moment is. events-headline script range by_events events moment is;
+  range = events_in_range;
+  invariant = λ script range by_events by_reads. asked-overlap script (events_in_range script range) by_events by_reads;
+  asked = λ script range by_events by_reads. asked-headline script (events_in_range script range) by_events by_reads;
   part = headline-events;
 }

@@ -1,0 +1,5 @@
+use Rattle.overlap_law.proofs.CheckedOnTheWay.{checked_after}
+use Rattle.overlap_law.proofs.items.values_of_checks_have_their_items.Goals as goal
+
+pub returns : goal.returns
+returns c = λ script events event start end before after range is. checked_after script range events start is.run is.change

@@ -1,0 +1,8 @@
+use Rattle.overlap_law.proofs.FewLossesInRuns.{all_available, whole_legal}
+use Rattle.overlap_law.proofs.losses.few_losses_leave_the_whole_history_legal.Goals as goal
+
+pub returns : goal.returns
+returns c = record {
+  available = λ script events moment range run few. all_available script range events moment run few;
+  legal = λ script events moment range run few. whole_legal script range events moment run few;
+}

@@ -1,0 +1,18 @@
+-- Few losses at each moment of a run: of the members of each epoch since an object's birth, or since the settled one, few are lost.
+use Rattle.std.specs.Prelude.{◌≡◌, ℕ, true, List, ◌++◌, Some}
+use Rattle.cluster_script.specs.declared.statement.Statement.{Statement}
+use Rattle.sheep_node.specs.declared.event.Event.{Event}
+use Rattle.overlap_law.specs.FewLosses.{LossesStayFew}
+use Rattle.overlap_law.specs.Holders.{is_live_object}
+use Rattle.overlap_law.specs.Past.{MomentWithPast, run_with_past}
+use Rattle.overlap_law.specs.PastWords.{counts}
+
+-- at a moment, of each object that was born and whose disk isn't dead
+pub record LossesAreFewAt (moment : MomentWithPast) : Type 0 where
+  pub each : (oid : ℕ) → is_live_object moment.world.log moment.past.attempts oid ≡ true
+      → LossesStayFew (counts moment.past.ended moment.world) moment.world.log moment.past.attempts oid
+
+-- at each moment that a run comes by, its end among them
+pub record LossesAreFewInRun (script : List Statement) (events : List Event) : Type 0 where
+  pub at : (earlier later : List Event) (moment : MomentWithPast) → events ≡ earlier ++ later
+      → run_with_past script earlier ≡ Some moment → LossesAreFewAt moment
