@@ -7,19 +7,20 @@ use Rattle.std.proofs.lemmas.List.{append-nil, length-append}
 use Rattle.object_id.specs.declared.limits.TheConstants.{INPUT_BYTES_MAX}
 use Rattle.cluster_script.specs.declared.fault.LineCause.{LineCause}
 use Rattle.cluster_script.specs.declared.statement.Statement.{Statement}
-use Rattle.cluster_script.specs.Language.{IsScript}
 use Rattle.cluster_script.specs.Script.{script_in}
-use Rattle.cluster_script.proofs.TextLaws.{text-script}
 use Rattle.disk_history.specs.declared.event.HistEvent.{HistEvent}
 use Rattle.sheep_node.specs.declared.event.Event.{Event}
 use Rattle.sheep_world.specs.Run.{Moment, IsWholeRun}
 use Rattle.schedule.specs.Schedule.{schedule_of}
 use Rattle.schedule.specs.GeneratedScript.{generated_statements}
-use Rattle.schedule.proofs.GeneratedLaws.{generated-script}
+use Rattle.overlap_law.specs.MomentChanges.{RunsAreInRange}
+use Rattle.overlap_law.proofs.HeadlineInRuns.{run_keeps_headline}
+use Rattle.overlap_law.proofs.InputRange.{in_range_input}
 use Rattle.schedule.proofs.WholeLaws.{schedule-is-whole}
 use Rattle.trace_text.specs.Lines.{trace_lines}
 use Rattle.trace_text.specs.InputParts.{script_part}
 use Rattle.trace_text.specs.Replay.{events_in, bad_place}
+use Rattle.trace_text.proofs.PartLengths.{script_part-short}
 use Rattle.trace_text.proofs.ReplayLaws.{whole-run}
 use Rattle.sheep_words.specs.declared.mode.Mode.{Mode}
 use Rattle.sheep_words.specs.declared.mode.Mode.TheVariants.{Run, Replay, Gen, Live}
@@ -31,23 +32,21 @@ use Rattle.sheep.specs.declared.status.Status.TheVariants as statuses
 use Rattle.sheep.specs.Reading.{Reads, ReadsAll, ReadsTooMuch}
 use Rattle.sheep.specs.Answer.{run_answer, replayed_answer, bad_script_answer, too_long_text, bad_words_text, answer_to, AnswersCall}
 use Rattle.sheep.proofs.PrintedReplies.{prints-replies}
+use Rattle.sheep.proofs.GeneratedRange.{generated_in_range}
 use Rattle.sheep.specs.Outcome.{reads_input, takes_words, MakesRun, IsDone, IsBadScript, NamesBadEvent, HasInput, CanBeDone}
 
--- a whole run of a script has a history, which has the replies that are printed
-pub makes_run : (statements : List Statement) (events : List Event) → IsScript statements → IsWholeRun statements events
+-- a whole run in range has a history, which has the replies that are printed, and they are one legal history
+pub makes_run : (statements : List Statement) (events : List Event) → RunsAreInRange statements → IsWholeRun statements events
     → (history : List HistEvent) × MakesRun statements events history
-makes_run statements events script whole = (
+makes_run statements events range whole = (
   whole.0.history,
   record {
     whole = whole;
     kept = ap (option_map (λ (moment : Moment). moment.history)) whole.1;
-    replies = prints-replies statements events whole.0 script whole.1;
+    replies = prints-replies statements events whole.0 range.is_script whole.1;
+    headline = run_keeps_headline statements range events whole.0 whole.1;
   },
 )
-
--- what a text is read as is a script
-pub is_script : (text : List ℕ) (statements : List Statement) → script_in text ≡ Ok statements → IsScript statements
-is_script text statements read = ((text-script text statements).0 read).0
 
 -- the part of an input that is to be a script
 abbrev pub script_of_input : Work → List ℕ → List ℕ
@@ -102,7 +101,8 @@ module _ (Given : List ℕ → Type 0) (old new : Option (List ℕ)) (answer : A
       by_kind : InputIs (works.Run seed trace) call.0 answer → IsDone Given old new (Some (Run seed trace))
       by_kind (TooLong long same) = let status = status_is answer _ _ is same in absurd (cc)
       by_kind (Script statements short read same) =
-          let one = makes_run statements (schedule_of statements seed) (is_script call.0 statements read) (schedule-is-whole statements seed) in
+          let one = makes_run statements (schedule_of statements seed) (in_range_input call.0 statements short read)
+          (schedule-is-whole statements seed) in
           (call.0, statements, one.0, reads_all old new call.0 call.1 short, read, one.1, given_as _ same)
       by_kind (BadLine bad short read same) = let status = status_is answer _ _ is same in absurd (cc)
   done_is (Some Replay) call is = by_kind (input_is works.Replay call.0 answer call.2)
@@ -112,7 +112,8 @@ module _ (Given : List ℕ → Type 0) (old new : Option (List ℕ)) (answer : A
           → answer ≡ replayed_answer statements (trace_lines call.0) place → IsDone Given old new (Some Replay)
       by_place statements short read None good same =
           let whole = whole-run statements (trace_lines call.0) good in
-          let one = makes_run statements (events_in (trace_lines call.0)) (is_script (script_part call.0) statements read) whole.0 in
+          let range = in_range_input (script_part call.0) statements (script_part-short call.0 INPUT_BYTES_MAX short) read in
+          let one = makes_run statements (events_in (trace_lines call.0)) range whole.0 in
           (call.0, statements, events_in (trace_lines call.0), one.0, reads_all old new call.0 call.1 short, read, whole.1, one.1, given_as _ same)
       by_place statements short read (Some place) bad same = let status = status_is answer _ _ is same in absurd (cc)
 
@@ -121,7 +122,7 @@ module _ (Given : List ℕ → Type 0) (old new : Option (List ℕ)) (answer : A
       by_kind (Script statements short read same) = by_place statements short read (bad_place statements (trace_lines call.0)) refl same
       by_kind (BadLine bad short read same) = let status = status_is answer _ _ is same in absurd (cc)
   done_is (Some (Gen number)) call is =
-      let one = makes_run (generated_statements number) (schedule_of (generated_statements number) number) (generated-script number)
+      let one = makes_run (generated_statements number) (schedule_of (generated_statements number) number) (generated_in_range number)
       (schedule-is-whole (generated_statements number) number) in
       (one.0, call.1, one.1, given_as _ call.0)
   done_is (Some (Live trace)) call is = let status = status_is answer _ _ is call.0 in absurd (cc)

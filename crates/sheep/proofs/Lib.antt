@@ -7,6 +7,7 @@ pub mod PrintedReplies
 pub mod AddedByReplies
 pub mod ToldRuns
 pub mod MakingRuns
+pub mod GeneratedRange
 pub mod AnswerLemmas
 pub mod AnswerParts
 pub mod LiveParts

@@ -6,6 +6,7 @@ use Rattle.object_id.specs.declared.limits.TheConstants.{INPUT_BYTES_MAX}
 use Rattle.cluster_script.specs.declared.fault.LineCause.{LineCause}
 use Rattle.cluster_script.specs.declared.statement.Statement.{Statement}
 use Rattle.cluster_script.specs.Script.{script_in}
+use Rattle.overlap_law.proofs.InputRange.{in_range_input}
 use Rattle.schedule.specs.Merged.{Kept}
 use Rattle.sheep_words.specs.declared.mode.Mode.{Mode}
 use Rattle.sheep_words.specs.declared.mode.Mode.TheVariants.{Run, Replay, Gen, Live}
@@ -16,7 +17,7 @@ use Rattle.sheep.specs.Reading.{ReadsTooMuch}
 use Rattle.sheep.specs.Answer.{bad_script_answer, too_long_text, bad_words_text}
 use Rattle.sheep.specs.Outcome.{NamesBadLine}
 use Rattle.sheep.specs.Live.{TellsMerged, AnswersScript, AnswersTaken, AnswersLiveCall, takes_live, IsLiveDone, CanLive}
-use Rattle.sheep.proofs.AnswerLemmas.{makes_run, is_script, reads_all, status_is, taken_whole, is_told}
+use Rattle.sheep.proofs.AnswerLemmas.{makes_run, reads_all, status_is, taken_whole, is_told}
 
 -- the three kinds of input
 pub data LiveIs (trace : Bool) (kept : Kept) (input : List ℕ) (answer : Answer) : Type 0 where
@@ -56,7 +57,7 @@ module _ (Given : List ℕ → Type 0) (old new : Option (List ℕ)) (kept : Kep
       by_kind : LiveIs trace kept call.0 answer → IsLiveDone Given old new (Some (Live trace)) kept
       by_kind (TooLong long same) = let status = status_is answer _ _ is same in absurd (cc)
       by_kind (Script statements short read done tells) =
-          let one = makes_run statements tells.events (is_script call.0 statements read) tells.whole in
+          let one = makes_run statements tells.events (in_range_input call.0 statements short read) tells.whole in
           (call.0, statements, tells.events, one.0, reads_all old new call.0 call.1 short, read, tells.merged, one.1, subst Given tells.told given)
       by_kind (BadLine bad short read same) = let status = status_is answer _ _ is same in absurd (cc)
 

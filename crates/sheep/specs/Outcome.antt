@@ -7,6 +7,7 @@ use Rattle.cluster_script.specs.Script.{script_in}
 use Rattle.disk_history.specs.declared.event.HistEvent.{HistEvent}
 use Rattle.sheep_node.specs.declared.event.Event.{Event}
 use Rattle.sheep_world.specs.Run.{IsWholeRun, history_of}
+use Rattle.overlap_law.specs.HeadlineOfRuns.{RunKeepsHeadline}
 use Rattle.schedule.specs.Schedule.{schedule_of}
 use Rattle.schedule.specs.GeneratedScript.{generated_statements}
 use Rattle.trace_text.specs.Spelling.{event_text}
@@ -36,11 +37,12 @@ takes_words (Some (Gen number)) = true
 takes_words (Some (Live trace)) = false
 
 -- events are a run of a script, in which every phase is ended, and made this history, in which the replies that its report prints were
--- given
+-- given; and they are one legal history
 pub record MakesRun (statements : List Statement) (events : List Event) (history : List HistEvent) : Type 0 where
   pub whole : IsWholeRun statements events
   pub kept : history_of statements events ≡ Some history
   pub replies : PrintsReplies statements events history
+  pub headline : RunKeepsHeadline statements events history
 
 module _ (Given : List ℕ → Type 0) (old new : Option (List ℕ)) where
   -- the input is a script, and the sink was given the report of the run that the seed gives, with the trace where it is asked for

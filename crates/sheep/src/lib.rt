@@ -4,7 +4,8 @@
 //! gives, or that a trace gives, and for a script that a number generates one line. Its contract says what is written for every input,
 //! with each status, over the definitions of `schedule`, `trace_text` and `dog_report`.
 //!
-//! The replies that are printed are those that the events of the run gave, in its history (`specs/PrintedReplies.antt`, `laws.rt`).
+//! The replies that are printed are those that the events of the run gave, in its history (`specs/PrintedReplies.antt`, `laws.rt`); and
+//! they are one legal history, as `overlap_law` shows of every run (`specs/Outcome.antt`).
 //!
 //! [`sheep_live`] does the same on threads (`live_run`): the report is that of the run into which the steps merge that the cluster kept.
 //!

@@ -33,7 +33,10 @@ pub fn sheep_live<S: Source, K: Sink, G: Gate + Sync, R: Threads + Wait + Sync>(
     gate: &G,
     kept: &mut Kept,
 ) -> Status
-    // The sink was given the report of a whole run, into which what was kept merges.
+    // The sink was given the report of a whole run, into which what was kept merges. The replies of that run are one legal history: each
+    // block read from a disk, snapshot or clone is its last acknowledged write or a later unacknowledged one, and refused requests change
+    // nothing, peer requests of another epoch among them, while every epoch since the last finished recovery keeps enough live holders and
+    // no gateway dies within a coded write.
     ensures done { result ≡ Status.Done
         → IsLiveDone (Gains K.stops (K.given sink.old) (K.given sink.new)) (S.left source.old) (S.left source.new)
         (mode_asked_for words.now) kept.new }
