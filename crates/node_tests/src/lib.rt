@@ -13,6 +13,8 @@ mod copies;
 #[cfg(test)]
 mod disk_requests;
 #[cfg(test)]
+mod fault_texts;
+#[cfg(test)]
 mod one_node;
 #[cfg(test)]
 mod trial;
