@@ -22,8 +22,8 @@ use Rattle.vdi_directory.specs.Decisions.{decision_after, grant_outcome, log_eff
 use Rattle.vdi_directory.specs.Effects.{reservation_on, reservations_of}
 use Rattle.vdi_directory.specs.Sources.{is_for}
 use Rattle.vdi_directory.proofs.LawfulEntries.{in-find}
-use Rattle.sheep_node.specs.declared.event.Event.{Event}
 use Rattle.sheep_world.specs.Granted.{disk_cloned, disk_made, decided_adds, entry_adds, granted_adds, granted_header}
+use Rattle.sheep_world.specs.RunsWithAsks.{Move}
 use Rattle.overlap_law.specs.MomentChanges.{MomentChange, MomentTrail, RunsAreInRange}
 use Rattle.overlap_law.specs.Past.{MomentWithPast, run_with_past}
 use Rattle.overlap_law.specs.StayingBlocks.{AllKeepBlocks, IsMadeLike}
@@ -61,7 +61,7 @@ new_disk log by of (Some r) found vid is = by_test (r.by.0 == by.0 && is_for fal
         }
     by_test false right is = absurd (cc (is))
 
-module _ (script : List Statement) (range : RunsAreInRange script) (events : List Event) (start before after : MomentWithPast)
+module _ (script : List Statement) (range : RunsAreInRange script) (events : List Move) (start before after : MomentWithPast)
     (is : run_with_past script events ≡ Some start) (trail : MomentTrail script start before)
     (change : MomentChange script start before after) (good_id : ℕ → Bool)
     (drafts : DraftsStayDrawn (log_effects before.world.log) good_id before.world.hosts before.past.attempts)

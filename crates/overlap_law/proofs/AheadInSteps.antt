@@ -1,4 +1,5 @@
 -- What a step of a node leaves of the checks: none has begun to write an object that it hasn't compared yet.
+use Rattle.std.proofs.Common.{is_some}
 use Rattle.std.proofs.Common.{◌≡◌, ◌≢◌, ⊎_elim, ℕ, ◌*◌, ◌<◌, ◌≤◌, ◌||◌, Bool, true, false, List, [], ◌++◌, Contains, Option, Some, None, option_map, refl, sym, ap, subst, arith, ◌∙◌}
 use Rattle.std.specs.List.{list_any}
 use Rattle.std.specs.List.Sorted.{IsStrictlyIncreasing}
@@ -36,13 +37,14 @@ use Rattle.sheep_node.specs.CheckWrites.{check_write_on}
 use Rattle.sheep_node.specs.State.{Node}
 use Rattle.sheep_node.specs.Step.{node_step}
 use Rattle.sheep_node.proofs.OneWorkParts.{Requests}
+use Rattle.sheep_world.specs.BegunRequests.{IsOfScript}
 use Rattle.sheep_world.specs.World.{Host, World, is_host_up, node_at, progress_at}
 use Rattle.sheep_world.specs.Asking.{ask_of_statement}
 use Rattle.sheep_world.specs.Began.{Began}
 use Rattle.sheep_world.specs.BegunRequests.{WasBegun}
 use Rattle.sheep_world.specs.Effects.{open_disk_at, request_started}
 use Rattle.sheep_world.specs.HistoryAdditions.{check_write_by, check_write_grown, is_write, replies_grown, request_grown}
-use Rattle.sheep_world.specs.NodeCauses.{NodeCause, GuestAsks, RequestComes, ReplyComes, LossIsTold, EntryIsRead, EntryIsPut, RecoveryTicks, WorkIsRetried, input_of_cause, IsCause, host_with_node, history_of_cause, world_after_cause}
+use Rattle.sheep_world.specs.NodeCauses.{NodeCause, GuestAsks, RequestComes, ReplyComes, LossIsTold, EntryIsRead, EntryIsPut, RecoveryTicks, WorkIsRetried, ClientAsks, input_of_cause, IsCause, host_with_node, history_of_cause, world_after_cause}
 use Rattle.sheep_world.proofs.SessionNumbers.{once}
 use Rattle.overlap_law.specs.ChecksAhead.{HasBegunNoneAhead}
 use Rattle.overlap_law.specs.MomentChanges.{RunsAreInRange}
@@ -64,9 +66,10 @@ use Rattle.overlap_law.proofs.ItemsOfRequests.{begins_write_of}
 use Rattle.overlap_law.proofs.LongValues.{value-long}
 use Rattle.overlap_law.proofs.RefusedInRuns.{node_begun}
 use Rattle.overlap_law.proofs.RepliesToChecks.{idle, reply-so}
-use Rattle.overlap_law.proofs.SessionsOfRequests.{are_asked}
+use Rattle.overlap_law.proofs.SessionsOfRequests.{are_scripts, are_asked_by_line, of_asking}
 use Rattle.overlap_law.proofs.UnansweredRequests.{others_unreplied}
 use Rattle.overlap_law.proofs.WholeInRuns.{sound_here}
+use Rattle.overlap_law.proofs.AsksInCauses.{not_begun}
 
 -- a course that is a check has begun none of what is ahead
 abbrev pub IsAheadAt : ℕ → List HistEvent → Course → Type 0
@@ -220,7 +223,8 @@ module _ (script : List Statement) (range : RunsAreInRange script) (req : ℕ) (
       own_begins later =
           one_ahead req (history ++ grown cause) world.hosts n (stepped cause) (λ request got. by_course request.session request.course got)
           (λ m another apart got request has.
-          absurd (unbegun request.session (node_begun script world began m another got req request has)))
+          absurd (unbegun request.session (node_begun script world began m another got req request has
+          (subst (IsOfScript script) own (ap (λ (o : Option Statement). is_some o) caused.stands)))))
         where
           by_course : (number : ℕ) (course : Course) → tree.get (stepped cause).node.requests req
               ≡ Some (record { session = number; course = course }) → IsAheadAt req (history ++ grown cause) course
@@ -314,8 +318,8 @@ module _ (script : List Statement) (range : RunsAreInRange script) (req : ℕ) (
       comes_leaves : Leaves replied
       comes_leaves later =
           let has = coming comes rsp host.node on in
-          let here = are_asked script world began n host there req (record { session = has.session; course = Checking has.check })
-          (ap (tree.get host.node.requests) (sym own) ∙ has.there) in
+          let here = are_scripts script range.is_script world began n host there req
+          (record { session = has.session; course = Checking has.check }) (ap (tree.get host.node.requests) (sym own) ∙ has.there) refl in
           one_ahead req (history ++ grown replied) world.hosts n (stepped replied)
           (reply-so (AreAhead req (history ++ grown replied))
           (change_so req (IsAheadAt req (history ++ grown replied)) inputs.RecoverTick idle
@@ -323,7 +327,7 @@ module _ (script : List Statement) (range : RunsAreInRange script) (req : ℕ) (
           (ended_so req (IsAheadAt req (history ++ grown replied))) comes host.node left_ahead rsp on)
           (λ m other apart got request asked.
           absurd (others_unreplied script n m host.incarnation other.incarnation req has.session request.session apart here
-          (are_asked script world began m other got req request asked)))
+          (are_asked_by_line script world began m other got req request asked (of_asking script req has.session here.asking))))
 
     reply_leaves : Leaves replied
     reply_leaves = by_value (list_any (begins_write_of req) begins) refl
@@ -335,6 +339,37 @@ module _ (script : List Statement) (range : RunsAreInRange script) (req : ℕ) (
         by_value true is =
             let (comes, found, own, checks) = check_begins script req write is in
             comes_leaves comes found own
+
+  -- ---- a client reads: under its number nothing has begun
+
+  client_leaves : (number : ℕ) (asks : Ask) → IsCause script world n host (ClientAsks number asks) → number ≡ req
+      → Leaves (ClientAsks number asks)
+  client_leaves number asks caused own later =
+      one_ahead req (history ++ added) world.hosts n (stepped reads) (λ request got. by_course request.course)
+      (λ m other apart got. all_grown req history added (told_none world None reads) other.node.requests (all m other got))
+    where
+      reads : NodeCause
+      reads = ClientAsks number asks
+
+      added : List HistEvent
+      added = grown (ClientAsks number asks)
+
+      none_before : list_any (begins_write_of req) history ≡ false
+      none_before = by_value (list_any (begins_write_of req) history) refl
+        where
+          by_value : (b : Bool) → list_any (begins_write_of req) history ≡ b → list_any (begins_write_of req) history ≡ false
+          by_value false none = none
+          by_value true is = let was = begun is in absurd (not_begun caused was.session req own was.begun)
+
+      by_course : (course : Course) → IsAheadAt req (history ++ added) course
+      by_course (Waiting ask) = tt
+      by_course (Driving driver) = tt
+      by_course (Commanding op) = tt
+      by_course (Checking check) = λ index block among further.
+          none_at req check.vid block (history ++ added)
+          (append_none (begins_write_of req) history added none_before (told_none world None reads))
+      by_course (DoingWork work) = tt
+      by_course (AwaitingDecision entry) = tt
 
   -- ---- every step
 
@@ -358,3 +393,8 @@ module _ (script : List Statement) (range : RunsAreInRange script) (req : ℕ) (
       ordinary RecoveryTicks (λ session ask is. absurd (cc (is))) (told_none world None RecoveryTicks)
   step_leaves WorkIsRetried caused =
       ordinary WorkIsRetried (λ session ask is. absurd (cc (is))) (told_none world None WorkIsRetried)
+  step_leaves (ClientAsks number asks) caused = ⊎_elim
+      (λ (own : number ≡ req). client_leaves number asks caused own)
+      (λ (apart : number ≢ req).
+      ordinary (ClientAsks number asks) (λ session ask is. apart (cc (is))) (told_none world None (ClientAsks number asks)))
+      (cases_eq number req)

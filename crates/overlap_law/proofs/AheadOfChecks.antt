@@ -1,5 +1,6 @@
 -- A check has begun to write no object that it hasn't compared yet: its steps keep that, and so does a write to which it comes.
-use Rattle.std.proofs.Common.{◌≡◌, ◌≢◌, ⊎_elim, ℕ, zero, suc, ◌+◌, ◌*◌, ◌-◌, ◌<◌, ◌≤◌, ◌^◌, ◌==◌, ◌&&◌, ◌||◌, Bool, true, false, cond, List, [], ◌∷◌, ◌++◌, length, filter, Contains, Option, Some, refl, sym, ap, subst, pow-add, arith, ◌∙◌}
+use Rattle.std.proofs.Common.{◌≡◌, ◌≢◌, ⊎_elim, ℕ, zero, suc, ◌+◌, ◌*◌, ◌-◌, ◌<◌, ◌≤◌, ◌^◌, ◌==◌, ◌&&◌, ◌||◌, Bool, true, false, cond, List}
+use Rattle.std.proofs.Common.{[], ◌∷◌, ◌++◌, length, filter, Contains, Option, Some, refl, sym, ap, subst, pow-add, arith, ◌∙◌}
 use Rattle.std.specs.Prelude.{◌/◌}
 use Rattle.std.specs.List.{list_any, range_with_len}
 use Rattle.std.specs.List.Sorted.{IsStrictlyIncreasing}
@@ -18,7 +19,8 @@ use Rattle.cluster_script.specs.declared.statement.Statement.{Statement}
 use Rattle.cluster_script.specs.NumberedRequests.{request_at}
 use Rattle.cluster_script.specs.Statements.{is_check}
 use Rattle.disk_history.specs.declared.event.HistEvent.{HistEvent}
-use Rattle.disk_check.specs.Check.{Check, CheckStep, CheckStage, Comparing, WritingBack, Answered, check_on_done, check_done_at, left_of, write_back_step}
+use Rattle.disk_check.specs.Check.{Check, CheckStep, CheckStage, Comparing, WritingBack, Answered, check_on_done, check_done_at, left_of}
+use Rattle.disk_check.specs.Check.{write_back_step}
 use Rattle.sheep_node.specs.declared.check_write.CheckWrite.{CheckWrite}
 use Rattle.sheep_world.specs.HistoryAdditions.{block_checked, block_written, check_write_adds, check_write_grown, is_on_disk}
 use Rattle.overlap_law.specs.ChecksAhead.{HasBegunNoneAhead}

@@ -1,5 +1,6 @@
 -- A write is on a working disk that its session has open, and so is a check; and no session asks for an object: every change keeps that.
-use Rattle.std.proofs.Common.{◌≡◌, ℕ, ◌==◌, Bool, true, false, cond, List, [], ◌∷◌, ◌++◌, length, Option, Some, None, refl, sym, ap, subst, ◌∙◌}
+use Rattle.std.proofs.Common.{◌≡◌, ℕ, ◌==◌, Bool, true, false, cond, List, [], ◌∷◌, ◌++◌, length, Option, Some, None, refl, sym, ap, subst}
+use Rattle.std.proofs.Common.{◌∙◌}
 use Rattle.std.specs.FinMap as tree
 use Rattle.std.proofs.lemmas.Option.{same_Some}
 use Rattle.object_id.specs.declared.cause.Cause.{Cause}
@@ -14,9 +15,11 @@ use Rattle.guest_driver.specs.Pieces.{Piece, pieces}
 use Rattle.guest_driver.specs.PieceWorks.{Backing, Hole, Own, Inherited, entry_of, backing_of, read_piece, table_with_entry}
 use Rattle.guest_driver.specs.Refusals.{refusal_on}
 use Rattle.guest_driver.specs.Driver as drivers
-use Rattle.guest_driver.specs.Driver.{Driver, Reads, Writes, DriverStage, InPlace, Fetching, Creating, Entering, DriverStep, work_step, read_on, write_piece_on, write_on, write_done, begin_unless_refused, begin_driver, driver_on_done}
+use Rattle.guest_driver.specs.Driver.{Driver, Reads, Writes, DriverStage, InPlace, Fetching, Creating, Entering, DriverStep, work_step}
+use Rattle.guest_driver.specs.Driver.{read_on, write_piece_on, write_on, write_done, begin_unless_refused, begin_driver, driver_on_done}
 use Rattle.disk_check.specs.Check as checks
-use Rattle.disk_check.specs.Check.{Check, CheckStage, CheckStep, Comparing, WritingBack, check_on, begun_check, begin_check, check_done_at, check_on_done}
+use Rattle.disk_check.specs.Check.{Check, CheckStage, CheckStep, Comparing, WritingBack, check_on, begun_check, begin_check, check_done_at}
+use Rattle.disk_check.specs.Check.{check_on_done}
 use Rattle.disk_check.specs.Table.{own_indexes}
 use Rattle.disk_check.specs.Value.{pieces_in}
 use Rattle.vdi_ops.specs.Entries.{command_refusal}
@@ -38,6 +41,7 @@ use Rattle.sheep_node.proofs.OneWorkParts.{Requests, Sessions}
 use Rattle.sheep_node.proofs.SessionViews.{IsSeen}
 use Rattle.sheep_node.proofs.WantedSteps.{driver_begins-wanted, driver_goes_on-wanted}
 use Rattle.overlap_law.specs.CommandDisks.{opened_as}
+use Rattle.gateway.specs.Work.{is_making}
 
 -- a working disk is open
 abbrev pub HasWorking : Option (Bool × ℕ) → Type 0
@@ -59,7 +63,7 @@ IsAllowed opened (Waiting ask) = IsAskAllowed opened ask
 IsAllowed opened (Driving driver) = IsDriverAllowed opened driver
 IsAllowed opened (Commanding op) = Unit {0}
 IsAllowed opened (Checking check) = opened ≡ Some (false, check.vid)
-IsAllowed opened (DoingWork asked) = ⊥
+IsAllowed opened (DoingWork asked) = is_making asked ≡ false
 IsAllowed opened (AwaitingDecision entry) = Unit {0}
 
 abbrev pub opened_by : Session → Option (Bool × ℕ)
@@ -119,10 +123,12 @@ begins_allowed : (disk : Disk) (ask : DiskAsk) → IsDriverAllowed (Some (disk.s
 unfolding begin_driver
 begins_allowed disk ask = by_refusal ask (refusal_on disk false ask) refl
   where
-    by_kind : (b : Bool) → disk.snapshot ≡ b → (offset : ℕ) (payload : List ℕ) → refusal_on disk false (disk_asks.Write offset payload) ≡ None
+    by_kind : (b : Bool) → disk.snapshot ≡ b → (offset : ℕ) (payload : List ℕ)
+        → refusal_on disk false (disk_asks.Write offset payload) ≡ None
         → HasWorking (Some (disk.snapshot, disk.inode.vid))
     by_kind true snapshot offset payload none =
-        let refused = ap (λ (b : Bool). refusal_on (record { inode = disk.inode; snapshot = b }) false (disk_asks.Write offset payload)) (sym snapshot) ∙ none in
+        let refused = ap (λ (b : Bool). refusal_on (record { inode = disk.inode; snapshot = b }) false (disk_asks.Write offset payload))
+        (sym snapshot) ∙ none in
         absurd (cc (refused))
     by_kind false working offset payload none = (disk.inode.vid, ap (λ (b : Bool). Some (b, disk.inode.vid)) working)
 
@@ -164,20 +170,23 @@ check_goes_on-vid bytes check step next = by_stage check.stage next
   where
     by_stage : (stage : CheckStage) → check_done_at bytes check stage ≡ Some step → step.check.vid ≡ check.vid
     by_stage (Comparing index later) next =
-        sym (ap (λ (s : CheckStep). s.check.vid) (same_Some (checks.write_back_step check index later (pieces_in check.spec bytes)) step next))
+        sym (ap (λ (s : CheckStep). s.check.vid) (same_Some (checks.write_back_step check index later (pieces_in check.spec bytes)) step
+        next))
     by_stage (WritingBack later) next =
         sym (ap (λ (s : CheckStep). s.check.vid) (same_Some (check_on check later) step next)) ∙ check_on-vid check later
     by_stage checks.Answered next = absurd (cc (next))
 
 -- it isn't refused on a working disk alone
-check_working : (disk : Option Disk) (inode : Content) → command_refusal (seen_by_command disk) disk_commands.Check ≡ None → inode_open disk ≡ Some inode
+check_working : (disk : Option Disk) (inode : Content) → command_refusal (seen_by_command disk) disk_commands.Check ≡ None
+    → inode_open disk ≡ Some inode
     → opened_as disk ≡ Some (false, inode.vid)
 check_working None inode allowed on = absurd (cc (on))
 check_working (Some disk) inode allowed on = by_kind disk.snapshot refl
   where
     by_kind : (b : Bool) → disk.snapshot ≡ b → opened_as (Some disk) ≡ Some (false, inode.vid)
     by_kind true snapshot =
-        let refused = ap (λ (b : Bool). command_refusal (Some (record { inode = disk.inode; snapshot = b })) disk_commands.Check) (sym snapshot) ∙ allowed in
+        let refused = ap (λ (b : Bool). command_refusal (Some (record { inode = disk.inode; snapshot = b })) disk_commands.Check)
+        (sym snapshot) ∙ allowed in
         absurd (cc (refused))
     by_kind false working =
         let same : disk.inode ≡ inode = same_Some disk.inode inode on in
@@ -185,15 +194,16 @@ check_working (Some disk) inode allowed on = by_kind disk.snapshot refl
 
 -- ---- every change
 
-module _ {input : Input} {node : Node} (none : (req session : ℕ) (work : ObjWork) → input ≡ inputs.Guest req session (asks.Object work) → ⊥) where
+module _ {input : Input} {node : Node} (none : (req session : ℕ) (work : ObjWork) → input ≡ inputs.Guest req session (asks.Object work)
+    → is_making work ≡ false) where
   parts_keep_allowed : IsKeptByParts opened_as IsAllowed input node
   parts_keep_allowed = record {
     arrives = λ so_far session req ask disk arrival on.
         ask_allowed disk (is_open_disk_deleted so_far.node.peer (Some disk)) ask
         (ap (λ (o : Option Disk). request_refusal so_far.node.peer o (asks.Disk ask)) (sym on) ∙ arrival.refused);
     begins = λ disk ask is.
-        subst (λ (vid : ℕ). IsDriverAllowed (Some (disk.snapshot, vid)) (begin_driver disk ask).driver) (sym (driver_begins-wanted disk ask).vid)
-        (begins_allowed disk ask);
+        subst (λ (vid : ℕ). IsDriverAllowed (Some (disk.snapshot, vid)) (begin_driver disk ask).driver)
+        (sym (driver_begins-wanted disk ask).vid) (begins_allowed disk ask);
     goes_on = λ disk bytes driver step is before.
         subst (λ (vid : ℕ). IsDriverAllowed (Some (disk.snapshot, vid)) step.driver)
         (sym (driver_goes_on-wanted disk.inode bytes driver step is).vid)
@@ -201,9 +211,10 @@ module _ {input : Input} {node : Node} (none : (req session : ℕ) (work : ObjWo
     beside = λ disk inode spec vid course is. subst (λ (vid : ℕ). IsAllowed (Some (disk.snapshot, vid)) course) (sym vid) is;
     commands = λ disk op. tt;
     checks = λ so_far session req inode arrival on.
-        check_working (session_in session so_far).disk inode arrival.refused on ∙ ap (λ (v : ℕ). Some (false, v)) (sym (check_begins-vid inode));
+        check_working (session_in session so_far).disk inode arrival.refused on
+        ∙ ap (λ (v : ℕ). Some (false, v)) (sym (check_begins-vid inode));
     checked = λ disk bytes check step is before. before ∙ ap (λ (v : ℕ). Some (false, v)) (sym (check_goes_on-vid bytes check step is));
-    objects = λ so_far session req asked arrival. absurd (none req session asked arrival.from);
+    objects = λ so_far session req asked arrival. none req session asked arrival.from;
     entries = λ disk entry. tt;
   }
 
@@ -212,7 +223,8 @@ none_allowed = none_so opened_as IsAllowed
 
 -- in the middle of a step
 pub allowed_in_chain : (input : Input) (node : Node) → May input node → QueuesAreDiskRequests node → CommandsAreAlone node
-    → ((req session : ℕ) (work : ObjWork) → input ≡ inputs.Guest req session (asks.Object work) → ⊥)
-    → AreAllowed node.requests node.sessions → (so_far : StepState) → Leads input node (input_received input (at_first node)) so_far → AllowedSoFar so_far
+    → ((req session : ℕ) (work : ObjWork) → input ≡ inputs.Guest req session (asks.Object work) → is_making work ≡ false)
+    → AreAllowed node.requests node.sessions → (so_far : StepState) → Leads input node (input_received input (at_first node)) so_far
+    → AllowedSoFar so_far
 allowed_in_chain input node may queued sole none all so_far leads =
     so_in_chain opened_as IsAllowed input node (parts_keep_allowed none) may queued sole all so_far leads

@@ -1,5 +1,5 @@
--- In each run in range, at each moment on the way of an event: the session of a check may write the check's disk, and has no other request. So
--- an attempt that begins on the disk's own objects is of the check.
+-- In each run in range, at each moment on the way of an event: the session of a check may write the check's disk, and has no other request.
+-- So an attempt that begins on the disk's own objects is of the check.
 use Rattle.std.proofs.Common.{◌≡◌, ◌≢◌, ⊎_elim, ℕ, ◌<◌, Bool, true, false, List, Option, Some, refl, sym, ap, subst, ◌∙◌}
 use Rattle.std.specs.FinMap as tree
 use Rattle.std.proofs.lemmas.Bool.{cases_eq}
@@ -19,13 +19,13 @@ use Rattle.peer_proto.specs.Work.{oid_of}
 use Rattle.gateway.specs.State.{Work, Open}
 use Rattle.sheep_node.specs.declared.course.Course.TheVariants.{Checking, Commanding}
 use Rattle.sheep_node.specs.declared.course.Request.{Request}
-use Rattle.sheep_node.specs.declared.event.Event.{Event}
 use Rattle.sheep_node.specs.Changes.{attempt_in}
 use Rattle.sheep_node.specs.May.{is_disk_course}
 use Rattle.sheep_node.specs.SessionQueues.{session_among}
 use Rattle.sheep_node.proofs.SessionViews.{IsSeen}
 use Rattle.sheep_world.specs.NodeCauses.{host_with_node}
 use Rattle.sheep_world.specs.World.{Host}
+use Rattle.sheep_world.specs.RunsWithAsks.{Move}
 use Rattle.overlap_law.specs.AloneEntries.{IsOwnByTable}
 use Rattle.overlap_law.specs.Attempts.{AttemptRecord, object_of}
 use Rattle.overlap_law.specs.CommandDisks.{opened_as}
@@ -50,7 +50,7 @@ use Rattle.overlap_law.proofs.NewAttempts.{IsOpened}
 use Rattle.overlap_law.proofs.NoRecoveredDue.{began-with_past}
 use Rattle.overlap_law.proofs.WorksInMoments.{well_along}
 
-module _ (script : List Statement) (range : RunsAreInRange script) (events : List Event) (start moment : MomentWithPast)
+module _ (script : List Statement) (range : RunsAreInRange script) (events : List Move) (start moment : MomentWithPast)
     (is : run_with_past script events ≡ Some start) (trail : MomentTrail script start moment) (n : ℕ) (host : Host)
     (at_host : tree.get moment.world.hosts n ≡ Some host) (up : host.is_lost ≡ false) (req : ℕ) (request : Request)
     (there : tree.get host.node.requests req ≡ Some request) (opened : Disk)
@@ -110,12 +110,12 @@ module _ (script : List Statement) (range : RunsAreInRange script) (events : Lis
       → index < objects_of opened.inode.spec → IsOwnByTable opened.inode index → (j : ℕ) (entry : AttemptRecord)
       → IsEntryToCome moment.world.hosts moment.past.attempts opened.inode.vid index j entry → entry_by index entry ≡ opened.inode.vid
   check_entries good_id tables good alive =
-      own_alone (log_effects moment.world.log) good_id moment.world.hosts moment.past.attempts tables n host at_host up request.session opened
-      at good alive check_yet
+      own_alone (log_effects moment.world.log) good_id moment.world.hosts moment.past.attempts tables n host at_host up request.session
+      opened at good alive check_yet
 
 -- ---- behind a change
 
-module _ (script : List Statement) (range : RunsAreInRange script) (events : List Event) (start before after : MomentWithPast)
+module _ (script : List Statement) (range : RunsAreInRange script) (events : List Move) (start before after : MomentWithPast)
     (is : run_with_past script events ≡ Some start) (trail : MomentTrail script start before)
     (change : MomentChange script start before after) (n : ℕ) (host : Host) (at_host : tree.get after.world.hosts n ≡ Some host)
     (up : host.is_lost ≡ false) (req index : ℕ) (request : Request) (there : tree.get host.node.requests req ≡ Some request)
@@ -157,7 +157,8 @@ module _ (script : List Statement) (range : RunsAreInRange script) (events : Lis
       = same_Some its host (sym its_there ∙ ap (tree.get after.world.hosts) node_so ∙ at_host) in
       let same : req ≡ o.req
       = check_alone script range events start after is (Then trail change) n host at_host up req request there opened at check course o.req
-      writes.request (ap (λ (h : Host). tree.get h.node.requests o.req) (sym host_so) ∙ writes.there) (ap (λ (h : Holder). h.session) writer) in
+      writes.request (ap (λ (h : Host). tree.get h.node.requests o.req) (sym host_so) ∙ writes.there)
+      (ap (λ (h : Holder). h.session) writer) in
       (host_so, same)
 
   pub check_begins_it : new.req ≡ req

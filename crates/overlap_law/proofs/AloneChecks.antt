@@ -1,7 +1,7 @@
 -- What an event begins to write for a check that is there is on the disk that its session has open: what comes to the check as it compares
 -- an object of that disk.
 use Rattle.std.proofs.Common.{◌≡◌, ℕ, Bool, true, false, cond, List, [], ◌∷◌, ◌++◌, filter, length, Option, Some, None, option_map}
-use Rattle.std.proofs.Common.{refl, sym, ap, subst, ◌∙◌}
+use Rattle.std.proofs.Common.{refl, sym, ap, subst, ◌∙◌, inl, inr}
 use Rattle.std.specs.Prelude.{◌/◌, flat_map}
 use Rattle.std.specs.List.{list_any, range_with_len}
 use Rattle.std.specs.Option.{option_map_or, option_and_then}
@@ -10,7 +10,7 @@ use Rattle.std.proofs.lemmas.Bool.{eq-eqb, or_parts}
 use Rattle.std.proofs.lemmas.Option.{same_Some}
 use Rattle.object_id.specs.declared.limits.TheConstants.{BLOCK_BYTES}
 use Rattle.cluster_script.specs.declared.statement.Statement.{Statement}
-use Rattle.cluster_script.specs.NumberedRequests.{numbered_requests, request_at}
+use Rattle.cluster_script.specs.NumberedRequests.{numbered_requests, request_at, session_of}
 use Rattle.cluster_script.specs.Sessions.{ScriptSession, session_numbered}
 use Rattle.cluster_script.specs.Statements.{is_check}
 use Rattle.disk_check.specs.Check.{Check, CheckStage, Comparing, WritingBack, Answered, value_at_stage}
@@ -34,7 +34,7 @@ use Rattle.sheep_world.specs.HistoryAdditions.{block_checked, check_write_adds, 
 use Rattle.sheep_world.specs.HistoryAdditions.{is_on_disk}
 use Rattle.sheep_world.specs.HistoryAdditions.{replies_grown, request_grown, writers_lost}
 use Rattle.sheep_world.specs.NodeCauses.{NodeCause, GuestAsks, RequestComes, ReplyComes, LossIsTold, EntryIsRead, EntryIsPut, RecoveryTicks}
-use Rattle.sheep_world.specs.NodeCauses.{WorkIsRetried, IsCause, history_of_cause, world_after_cause}
+use Rattle.sheep_world.specs.NodeCauses.{WorkIsRetried, ClientAsks, IsCause, history_of_cause, world_after_cause}
 use Rattle.sheep_world.specs.Step.{EventOutcome}
 use Rattle.sheep_world.specs.World.{Host, World, node_at}
 use Rattle.overlap_law.specs.MomentChanges.{RunsAreInRange}
@@ -47,7 +47,10 @@ use Rattle.overlap_law.proofs.ItemsAtBegin as begins
 use Rattle.overlap_law.proofs.ItemsAtBegin.{served_comes_to_none}
 use Rattle.overlap_law.proofs.ItemsOfReplies as replied
 use Rattle.overlap_law.proofs.ItemsOfRequests.{begins_write_of}
-use Rattle.overlap_law.proofs.SessionsOfRequests.{are_asked}
+use Rattle.overlap_law.proofs.SessionsOfRequests.{IsAskedIn, IsAskedBy, are_asked}
+use Rattle.sheep_world.specs.Asking.{session_asking}
+use Rattle.sheep_world.proofs.AsksInSteps.{serves_clients}
+use Rattle.sheep_world.proofs.AsksOfClients.{clients_ask}
 
 -- ---- what begins on a disk
 
@@ -134,17 +137,39 @@ module _ (script : List Statement) (range : RunsAreInRange script) (world : Worl
   of_stage write check bytes Answered is = absurd (cc (is))
 
   module _ (m : ℕ) (second : Host) (found : tree.get world.hosts m ≡ Some second) where
-    -- a request is at one node alone
-    pub same_node : (other : Request) → tree.get second.node.requests req ≡ Some other → (n ≡ m) × (request.session ≡ other.session)
-    same_node other there_too =
-        let here = are_asked script world began n host there req request got in
-        let its = are_asked script world began m second found req other there_too in
+    -- of the script
+    both : (other : Request) → IsAskedIn script n host.incarnation req request.session
+        → IsAskedIn script m second.incarnation req other.session
+        → (n ≡ m) × (request.session ≡ other.session)
+    both other here its =
         let number : request.session ≡ other.session = same_Some request.session other.session (sym here.asking ∙ its.asking) in
         let of : here.of ≡ its.of
         = same_Some here.of its.of (sym here.declared ∙ ap (session_numbered script) number ∙ its.declared) in (
           sym here.of_node ∙ ap (λ (s : ScriptSession). s.node) of ∙ its.of_node,
           number,
         )
+
+    -- a request is at one node alone
+    pub same_node : (other : Request) → tree.get second.node.requests req ≡ Some other → (n ≡ m) × (request.session ≡ other.session)
+    same_node other there_too = by_both
+        (are_asked script world began n host there req request got) (are_asked script world began m second found req other there_too)
+      where
+        unasked : (session : ℕ) → session_asking script req ≡ Some session → request_at script req ≡ None → ⊥
+        unasked session asking none =
+            let silent : session_asking script req ≡ None = ap (option_and_then session_of) none in
+            cc (silent, asking)
+
+        by_both : IsAskedBy script n host.incarnation req request.session → IsAskedBy script m second.incarnation req other.session
+            → (n ≡ m) × (request.session ≡ other.session)
+        by_both (inl here) (inl its) = both other here its
+        by_both (inl here) (inr clients) = absurd (unasked request.session here.asking clients.none)
+        by_both (inr clients) (inl its) = absurd (unasked other.session its.asking clients.none)
+        by_both (inr here) (inr its) =
+            let above = ((serves_clients script range.is_script world began n host there).numbered req request got).above here.own in (
+              (clients_ask script range.is_script world began).alone n m req host second above
+                  (record { there = there; request = request; has = got }) (record { there = found; request = other; has = there_too }),
+              here.own ∙ sym its.own,
+            )
 
     same_host : (session : ℕ) (other : Request) → tree.get second.node.requests req ≡ Some other → other.session ≡ session
         → (host ≡ second) × (request.session ≡ session)
@@ -219,6 +244,7 @@ module _ (script : List Statement) (range : RunsAreInRange script) (world : Worl
         (begins.entry_none req world.log entry)
     step_on RecoveryTicks caused = told_on world None (after RecoveryTicks)
     step_on WorkIsRetried caused = told_on world None (after WorkIsRetried)
+    step_on (ClientAsks req ask) caused = told_on world None (after (ClientAsks req ask))
 
   abbrev AllIn : EventOutcome → Type 0
   AllIn m = AllBeginOn req disk.inode.vid m.grown

@@ -24,7 +24,6 @@ use Rattle.peer_proto.specs.declared.say.PeerRsp.{PeerRsp}
 use Rattle.sheep_node.specs.declared.check_write.CheckWrite.{CheckWrite}
 use Rattle.sheep_node.specs.declared.course.Course.TheVariants.{Checking}
 use Rattle.sheep_node.specs.declared.course.Request.{Request}
-use Rattle.sheep_node.specs.declared.event.Event.{Event}
 use Rattle.sheep_node.specs.declared.input.Input.TheVariants as inputs
 use Rattle.sheep_node.specs.declared.input.Input.{Input}
 use Rattle.sheep_node.specs.CheckWrites.{check_write_on, write_of_value}
@@ -34,8 +33,9 @@ use Rattle.sheep_node.proofs.OneWorkParts.{Requests, Sessions}
 use Rattle.sheep_world.specs.Began.{Began}
 use Rattle.sheep_world.specs.HistoryAdditions.{check_write_grown, request_grown}
 use Rattle.sheep_world.specs.NodeCauses.{NodeCause, GuestAsks, RequestComes, ReplyComes, LossIsTold, EntryIsRead, EntryIsPut, RecoveryTicks}
-use Rattle.sheep_world.specs.NodeCauses.{WorkIsRetried, input_of_cause, IsCause, host_with_node}
+use Rattle.sheep_world.specs.NodeCauses.{WorkIsRetried, ClientAsks, input_of_cause, IsCause, host_with_node}
 use Rattle.sheep_world.specs.World.{Host, node_at}
+use Rattle.sheep_world.specs.RunsWithAsks.{Move}
 use Rattle.overlap_law.specs.AloneChecksWritten.{ChecksHaveWritten, IsOfValue, NoneComes, WillBeWritten}
 use Rattle.overlap_law.specs.HistoryGrowth.{added_at_cause, check_write_at}
 use Rattle.overlap_law.specs.MomentChanges as moments
@@ -92,7 +92,7 @@ compared_at write req check bytes (Comparing index later) at is =
 compared_at write req check bytes (WritingBack later) at is = absurd (cc (is))
 compared_at write req check bytes Answered at is = absurd (cc (is))
 
-module _ (script : List Statement) (range : RunsAreInRange script) (events : List Event) (start : MomentWithPast)
+module _ (script : List Statement) (range : RunsAreInRange script) (events : List Move) (start : MomentWithPast)
     (ran : run_with_past script events ≡ Some start) (on : SteppingNode) (is : IsStepping script start.world on)
     (by : StepsByChanges on.cause)
     (all : ChecksHaveWritten NoneComes start.past.history start.world.hosts start.past.attempts) where
@@ -242,6 +242,7 @@ module _ (script : List Statement) (range : RunsAreInRange script) (events : Lis
       by_cause (EntryIsPut entry) so caused among = absurd (Contains-nil (WriteStart req vid block coded bytes) among)
       by_cause RecoveryTicks so caused among = absurd (Contains-nil (WriteStart req vid block coded bytes) among)
       by_cause WorkIsRetried so caused among = absurd (Contains-nil (WriteStart req vid block coded bytes) among)
+      by_cause (ClientAsks number asks) so caused among = absurd (Contains-nil (WriteStart req vid block coded bytes) among)
 
       comes_now : Contains (added_at_cause script start.world on.cause) (WriteStart req vid block coded bytes) → Has
       comes_now = by_cause on.cause refl is.caused

@@ -12,6 +12,7 @@ use Rattle.proof_tools.proofs.Lists.{list_any-none}
 use Rattle.object_id.specs.declared.limits.TheConstants.{OBJECTS_MAX}
 use Rattle.cluster_script.specs.declared.statement.Statement.{Statement}
 use Rattle.cluster_script.specs.NumberedRequests.{request_at}
+use Rattle.cluster_script.specs.Statements.{is_check}
 use Rattle.disk_check.specs.Check.{Check, CheckStep}
 use Rattle.disk_check.specs.Check.{check_on_done}
 use Rattle.disk_history.specs.declared.event.HistEvent.{HistEvent}
@@ -27,7 +28,6 @@ use Rattle.sheep_node.specs.declared.ask.Ask.TheVariants as asks
 use Rattle.sheep_node.specs.declared.course.Course.{Course}
 use Rattle.sheep_node.specs.declared.course.Course.TheVariants.{Waiting, Checking}
 use Rattle.sheep_node.specs.declared.course.Request.{Request}
-use Rattle.sheep_node.specs.declared.event.Event.{Event}
 use Rattle.sheep_node.specs.declared.input.Input.TheVariants as inputs
 use Rattle.sheep_node.specs.Changes.{EndsWork, Outcome, RequestSteps, DiskBegins, DiskGoesOn, CommandBegins, CommandGoesOn, CommandDecided}
 use Rattle.sheep_node.specs.Changes.{CheckBegins, CheckGoesOn, ObjectBegins, ObjectIsDone, EntryBegins, EntryDecided}
@@ -35,8 +35,9 @@ use Rattle.sheep_node.specs.SessionQueues.{session_among}
 use Rattle.sheep_node.specs.StepState.{StepState}
 use Rattle.sheep_world.specs.Effects.{open_disk_at}
 use Rattle.sheep_world.specs.NodeCauses.{NodeCause, GuestAsks, RequestComes, ReplyComes, LossIsTold, EntryIsRead, EntryIsPut, RecoveryTicks}
-use Rattle.sheep_world.specs.NodeCauses.{WorkIsRetried, input_of_cause, IsCause, host_with_node}
+use Rattle.sheep_world.specs.NodeCauses.{WorkIsRetried, ClientAsks, input_of_cause, IsCause, host_with_node}
 use Rattle.sheep_world.specs.World.{Host}
+use Rattle.sheep_world.specs.RunsWithAsks.{Move}
 use Rattle.overlap_law.specs.AloneChecksWritten.{ChecksHaveWritten, IsOfValue, IsWritten}
 use Rattle.overlap_law.specs.AloneChecksWritten.{WillBeWritten, IsBeingWritten, WasWritten}
 use Rattle.overlap_law.specs.HistoryGrowth.{added_at_cause}
@@ -47,7 +48,7 @@ use Rattle.overlap_law.specs.StepMoments.{SteppingNode, IsStepping, StepsByChang
 use Rattle.overlap_law.proofs.AloneChecksFrames.{carried, itself, still_alone}
 use Rattle.overlap_law.proofs.AloneChecksGoing.{check_goes, keeps_disk}
 use Rattle.overlap_law.proofs.CheckedMoments.{with_course}
-use Rattle.overlap_law.proofs.AloneItemsInSteps.{asked_in_step, begins_first}
+use Rattle.overlap_law.proofs.AloneItemsInSteps.{command_asked, begins_first}
 use Rattle.overlap_law.proofs.AloneOnDisks.{begins_none}
 use Rattle.overlap_law.proofs.AnswersInMoments.{not_lost}
 use Rattle.overlap_law.proofs.CheckedSteps.{goes_on-same}
@@ -56,8 +57,9 @@ use Rattle.overlap_law.proofs.DiskEventsOfHolders.{append_none}
 use Rattle.overlap_law.proofs.FoundInSteps.{check_line}
 use Rattle.overlap_law.proofs.ItemsOfReplies.{is_check_at}
 use Rattle.overlap_law.proofs.ItemsOfRequests.{begins_write_of}
+use Rattle.overlap_law.proofs.AsksInCauses.{no_such}
 
-module _ (script : List Statement) (range : RunsAreInRange script) (events : List Event) (start : MomentWithPast)
+module _ (script : List Statement) (range : RunsAreInRange script) (events : List Move) (start : MomentWithPast)
     (ran : run_with_past script events ≡ Some start) (on : SteppingNode) (is : IsStepping script start.world on)
     (by : StepsByChanges on.cause) (so_far next : StepState) (within : IsWithinStep on so_far next)
     (trail : MomentTrail script start (moment_in_step script on start so_far)) where
@@ -101,13 +103,15 @@ module _ (script : List Statement) (range : RunsAreInRange script) (events : Lis
   arrives_first req checks (EntryIsPut entry) caused session ask from = absurd (cc (from))
   arrives_first req checks RecoveryTicks caused session ask from = absurd (cc (from))
   arrives_first req checks WorkIsRetried caused session ask from = absurd (cc (from))
+  arrives_first req checks (ClientAsks begins what) caused session ask from =
+      let same : begins ≡ req = cc (from) in absurd (no_such caused is_check req same checks)
 
   arrived_none : (req session : ℕ) → input_of_cause on.cause ≡ inputs.Guest req session (asks.Vdi disk_commands.Check)
       → list_any (begins_write_of req) (start.past.history ++ added_at_cause script start.world on.cause) ≡ false
   arrived_none req session from =
       arrives_first req
       (check_line (request_at script req)
-      (asked_in_step script range events start ran on is by so_far within.leads req session (asks.Vdi disk_commands.Check) from))
+      (command_asked script range events start ran on is by so_far within.leads req session disk_commands.Check from))
       on.cause is.caused session (asks.Vdi disk_commands.Check) from
 
   module _ (all : ChecksHaveWritten (ComesBy on) (start.past.history ++ added_at_cause script start.world on.cause)

@@ -17,7 +17,6 @@ use Rattle.guest_driver.specs.declared.disk.Disk.{Disk}
 use Rattle.sheep_node.specs.declared.course.Course.{Course}
 use Rattle.sheep_node.specs.declared.course.Course.TheVariants.{Checking}
 use Rattle.sheep_node.specs.declared.course.Request.{Request}
-use Rattle.sheep_node.specs.declared.event.Event.{Event}
 use Rattle.sheep_node.specs.Changes.{attempt_in}
 use Rattle.sheep_node.specs.Courses.{inode_open}
 use Rattle.sheep_node.specs.SessionQueues.{session_among}
@@ -25,6 +24,7 @@ use Rattle.sheep_node.specs.State.{Node}
 use Rattle.sheep_node.specs.WantedWorks.{HasWork, IsWantedAt, IsWorkOfCheck, IsWorkWanted}
 use Rattle.sheep_node.proofs.OneWorkParts.{Requests, Sessions}
 use Rattle.sheep_world.specs.World.{Host}
+use Rattle.sheep_world.specs.RunsWithAsks.{Move}
 use Rattle.overlap_law.specs.AloneChecksWritten.{ChecksHaveWritten, IsOfValue, IsWritten, MakesNone, NoneComes, whole_object}
 use Rattle.overlap_law.specs.AloneChecksWritten.{WillBeWritten, IsBeingWritten, WasWritten}
 use Rattle.overlap_law.specs.Attempts.{AttemptRecord, object_of}
@@ -88,7 +88,7 @@ itself check = record { vid = refl; spec = refl }
 
 -- ---- whatever the change
 
-module _ (script : List Statement) (range : RunsAreInRange script) (events : List Event) (start before after : MomentWithPast)
+module _ (script : List Statement) (range : RunsAreInRange script) (events : List Move) (start before after : MomentWithPast)
     (ran : run_with_past script events ≡ Some start) (trail : MomentTrail script start before)
     (change : MomentChange script start before after) (n : ℕ) (host : Host) (at_host : tree.get after.world.hosts n ≡ Some host)
     (up : host.is_lost ≡ false) (req : ℕ) (request : Request) (there : tree.get host.node.requests req ≡ Some request) (opened : Disk)

@@ -26,7 +26,6 @@ use Rattle.sheep_node.specs.declared.ask.Ask.{Ask}
 use Rattle.sheep_node.specs.declared.course.Course.{Course}
 use Rattle.sheep_node.specs.declared.course.Course.TheVariants.{Waiting, Driving, Commanding, Checking}
 use Rattle.sheep_node.specs.declared.course.Request.{Request}
-use Rattle.sheep_node.specs.declared.event.Event.{Event}
 use Rattle.sheep_node.specs.declared.input.Input.{Input}
 use Rattle.sheep_node.specs.declared.input.Input.TheVariants as inputs
 use Rattle.sheep_node.specs.Changes.{Arrival, EndsWork, HasRequest, IsTold, Outcome, ToWork, ToReply, RequestSteps, DiskBegins, DiskGoesOn}
@@ -38,6 +37,7 @@ use Rattle.sheep_node.specs.StepState.{StepState}
 use Rattle.sheep_node.specs.WantedWorks.{HasWork, IsWorkOfCheck}
 use Rattle.sheep_world.specs.Began.{Began}
 use Rattle.sheep_world.specs.NodeCauses.{input_of_cause, host_with_node}
+use Rattle.sheep_world.specs.RunsWithAsks.{Move}
 use Rattle.overlap_law.specs.AloneChecksWritten.{MakesOnly, whole_object}
 use Rattle.overlap_law.specs.MomentChanges.{MomentTrail, RunsAreInRange}
 use Rattle.overlap_law.specs.OpenedTables.{OpensNow, ByWork, ByEntry, ReadsIt, WroteIt}
@@ -59,6 +59,8 @@ use Rattle.overlap_law.proofs.NoRecoveredDue.{began-with_past}
 use Rattle.overlap_law.proofs.WorksCome.{ComesNow, works_come}
 use Rattle.overlap_law.proofs.WorksInMoments.{well_along}
 use Rattle.overlap_law.proofs.WrittenAlone.{done_so}
+use Rattle.overlap_law.proofs.CoursesOfAsks.{course_none}
+use Rattle.overlap_law.proofs.CoursesOfScript.{asked_by}
 
 -- ---- how a check goes on
 
@@ -82,7 +84,7 @@ check_goes bytes check step is = by_stage check.stage refl is
         (ToNext (index ∷ later) at refl (λ behind same. cc (same)))
     by_stage Answered at is = absurd (cc (is))
 
-module _ (script : List Statement) (range : RunsAreInRange script) (events : List Event) (start : MomentWithPast)
+module _ (script : List Statement) (range : RunsAreInRange script) (events : List Move) (start : MomentWithPast)
     (ran : run_with_past script events ≡ Some start) (on : SteppingNode) (is : IsStepping script start.world on)
     (by : StepsByChanges on.cause) (so_far next : StepState) (within : IsWithinStep on so_far next)
     (trail : MomentTrail script start (moment_in_step script on start so_far)) (req session : ℕ) (check : Check)
@@ -233,7 +235,8 @@ module _ (script : List Statement) (range : RunsAreInRange script) (events : Lis
   -- it is at an own object of the disk
   pub of_disk : (opened : Disk) → (session_among session so_far.node.sessions).disk ≡ Some opened → IsCheckOf opened check
   of_disk opened at =
-      let (disk, course) = course_in_step script range events start ran on is by so_far within.leads req its had in
+      let (disk, course) = course_in_step script range events start ran on is by so_far within.leads req its had
+      (course_none (asked_by script req) (Checking check) refl) in
       subst (λ (d : Disk). IsCheckOf d check) (same_Some course.on.disk opened (sym course.on.there ∙ at)) course.is
 
   -- which those left come behind

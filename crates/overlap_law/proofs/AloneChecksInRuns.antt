@@ -1,13 +1,12 @@
 -- In each run in range, at the end of every event and at each point of a node's step, each block of which a check has begun a write is of a
 -- value that is written so.
-use Rattle.std.proofs.Common.{◌≡◌, ℕ, Bool, false, List, [], ◌++◌, Contains, Option, Some, None, filter, option_map, refl, sym, ap, subst}
+use Rattle.std.proofs.Common.{◌≡◌, ℕ, Bool, false, List, [], ◌++◌, Contains, Some, filter, refl, sym, ap, subst}
 use Rattle.std.proofs.Common.{⊎_elim, ◌∙◌}
 use Rattle.std.specs.List.{list_any}
 use Rattle.std.specs.Ordering.{nat_cmp}
 use Rattle.std.specs.FinMap as tree
 use Rattle.std.proofs.lemmas.Bool.{eq-eqb}
 use Rattle.std.proofs.lemmas.List.Elements.{Contains-append_cases}
-use Rattle.std.proofs.lemmas.Option.{same_Some}
 use Rattle.proof_tools.proofs.Lists.{list_any-none}
 use Rattle.cluster_script.specs.declared.statement.Statement.{Statement}
 use Rattle.cluster_script.specs.NumberedRequests.{numbered_requests}
@@ -28,10 +27,12 @@ use Rattle.sheep_world.specs.HistoryAdditions.{is_lost_write, writers_lost}
 use Rattle.sheep_world.specs.HostChanges.{host_after_return, joined_host}
 use Rattle.sheep_world.specs.MembershipChanges.{lost_host}
 use Rattle.sheep_world.specs.NodeCauses.{NodeCause, GuestAsks, RequestComes, ReplyComes, LossIsTold, EntryIsRead, EntryIsPut, RecoveryTicks}
-use Rattle.sheep_world.specs.NodeCauses.{WorkIsRetried, input_of_cause, history_of_cause, host_with_node}
-use Rattle.sheep_world.specs.Step.{EventOutcome, step}
+use Rattle.sheep_world.specs.NodeCauses.{WorkIsRetried, ClientAsks, input_of_cause, history_of_cause, host_with_node}
+use Rattle.sheep_world.specs.Step.{EventOutcome}
 use Rattle.sheep_world.specs.World.{Host}
-use Rattle.sheep_world.proofs.EventInversion.{happens}
+use Rattle.sheep_world.proofs.ClientReads.{goes_by_kind}
+use Rattle.sheep_world.specs.RunsWithAsks.{Move, event_of_move}
+use Rattle.sheep_world.specs.Began.{MakesMove}
 use Rattle.overlap_law.specs.AloneChecksWritten.{ChecksHaveWritten, IsOfValue, NoneComes}
 use Rattle.overlap_law.specs.MomentChanges as moments
 use Rattle.overlap_law.specs.MomentChanges.{MomentChange, RunsAreInRange}
@@ -50,12 +51,13 @@ use Rattle.overlap_law.proofs.ItemsOfRequests.{begins_write_of}
 use Rattle.overlap_law.proofs.KeptInRuns.{KeptAtEvents, kept_at_events}
 use Rattle.overlap_law.proofs.OpenInMoments.{made_gateway}
 use Rattle.overlap_law.proofs.OpeningOverlap.{no_request}
+use Rattle.overlap_law.proofs.GoingOn.{goes_as, has_gone}
 
 -- it is so at the end of an event
 abbrev pub HaveWritten : MomentWithPast → Type 0
 HaveWritten moment = ChecksHaveWritten NoneComes moment.past.history moment.world.hosts moment.past.attempts
 
-module _ (script : List Statement) (range : RunsAreInRange script) (events : List Event) (start : MomentWithPast)
+module _ (script : List Statement) (range : RunsAreInRange script) (events : List Move) (start : MomentWithPast)
     (ran : run_with_past script events ≡ Some start) (all : HaveWritten start) where
   -- ---- an event at which no node steps by changes
 
@@ -128,6 +130,7 @@ module _ (script : List Statement) (range : RunsAreInRange script) (events : Lis
     either_way (EntryIsPut entry) many one = one tt
     either_way RecoveryTicks many one = one tt
     either_way WorkIsRetried many one = many tt
+    either_way (ClientAsks req ask) many one = many tt
 
     step_so : HaveWritten (moment_in_step script on start (last_in_step on))
     step_so = either_way on.cause by_changes at_once
@@ -153,14 +156,14 @@ module _ (script : List Statement) (range : RunsAreInRange script) (events : Lis
     abbrev after : MomentWithPast
     after = moment_after script event start made
 
-    by_kind : step script event start.world ≡ Some made → EventKind script event start.world made → Leaves event made
+    by_kind : MakesMove script event start.world made → EventKind script event start.world made → Leaves event made
     by_kind happened (kinds.NodeStep h) =
         so_made h.event_so h.made_so
         (step_so (record { n = h.n; host = h.host; cause = h.cause }) (record {
           there = h.there;
           up = h.up;
           caused = h.caused;
-          made = ap (λ (e : Event). step script e start.world) h.event_so ∙ happened ∙ ap (λ (m : EventOutcome). Some m) (sym h.made_so);
+          made = goes_as script start.world h.event_so h.made_so happened;
         }))
     by_kind happened (kinds.UntoldLoss h) =
         still (moments.LossIsUntold event made happened h)
@@ -199,15 +202,11 @@ module _ (script : List Statement) (range : RunsAreInRange script) (events : Lis
         (same_guests start after (ap (λ (m : EventOutcome). m.world.hosts) (sym h.made_so))) []
         (ap (λ (m : EventOutcome). m.grown) (sym h.made_so)) (λ req. refl)
 
-  by_made : (event : Event) (then : MomentWithPast) (o : Option EventOutcome) → step script event start.world ≡ o
-      → option_map (moment_after script event start) o ≡ Some then → HaveWritten then
-  by_made event then None is so = absurd (cc (so))
-  by_made event then (Some made) is so =
-      subst HaveWritten (same_Some (moment_after script event start made) then so)
-      (by_kind event made is (happens script event start.world made is))
-
-  pub event_written : (event : Event) (then : MomentWithPast) → next_moment script event start ≡ Some then → HaveWritten then
-  event_written event then is = by_made event then (step script event start.world) refl is
+  pub event_written : (event : Move) (then : MomentWithPast) → next_moment script event start ≡ Some then → HaveWritten then
+  event_written event then is =
+      let gone = has_gone script event start then is in
+      subst HaveWritten gone.after_so
+      (by_kind (event_of_move event) gone.made gone.goes (goes_by_kind script (event_of_move event) start.world gone.made gone.goes))
 
 -- ---- every run
 
@@ -220,10 +219,10 @@ module _ (script : List Statement) (range : RunsAreInRange script) where
   keeps : KeptAtEvents script HaveWritten
   keeps events event start then ran run happened all = event_written script range events start ran all event then happened
 
-  pub written-in_run : (events : List Event) (moment : MomentWithPast) → run_with_past script events ≡ Some moment → HaveWritten moment
+  pub written-in_run : (events : List Move) (moment : MomentWithPast) → run_with_past script events ≡ Some moment → HaveWritten moment
   written-in_run = kept_at_events script HaveWritten opens keeps
 
-  pub written-in_step : (events : List Event) (start : MomentWithPast) → run_with_past script events ≡ Some start → (on : SteppingNode)
+  pub written-in_step : (events : List Move) (start : MomentWithPast) → run_with_past script events ≡ Some start → (on : SteppingNode)
       → IsStepping script start.world on → StepsByChanges on.cause → (so_far : StepState)
       → LeadsInStep on (first_in_step on) so_far → LeadsInStep on so_far (last_in_step on)
       → ChecksHaveWritten (ComesBy on) (moment_in_step script on start so_far).past.history

@@ -22,7 +22,6 @@ use Rattle.peer_proto.specs.declared.work.ObjWork.{ObjWork}
 use Rattle.gateway.specs.State.{Gateway}
 use Rattle.sheep_node.specs.declared.course.Course.TheVariants.{Driving, Commanding, Checking, DoingWork, AwaitingDecision}
 use Rattle.sheep_node.specs.declared.course.Request.{Request}
-use Rattle.sheep_node.specs.declared.event.Event.{Event}
 use Rattle.sheep_node.specs.declared.input.Input.{Input}
 use Rattle.sheep_node.specs.Changes.{Outcome, ToWork, ToReply, RequestSteps, DiskBegins, DiskGoesOn, CommandBegins, CommandGoesOn}
 use Rattle.sheep_node.specs.Changes.{CommandDecided}
@@ -34,6 +33,7 @@ use Rattle.sheep_node.specs.StepState.{StepState}
 use Rattle.sheep_node.proofs.OneWorkParts.{Requests}
 use Rattle.sheep_world.specs.NodeCauses.{input_of_cause, host_with_node}
 use Rattle.sheep_world.specs.World.{Host}
+use Rattle.sheep_world.specs.RunsWithAsks.{Move}
 use Rattle.overlap_law.specs.MomentChanges.{MomentChange, MomentTrail, RunsAreInRange}
 use Rattle.overlap_law.specs.Past.{MomentWithPast, run_with_past}
 use Rattle.overlap_law.specs.StepMoments.{moment_in_step}
@@ -136,7 +136,7 @@ ChecksHaveWorks hosts = (n : ℕ) (host : Host) → tree.get hosts n ≡ Some ho
 abbrev HaveWorks : MomentWithPast → Type 0
 HaveWorks moment = ChecksHaveWorks moment.world.hosts
 
-module _ (script : List Statement) (range : RunsAreInRange script) (events : List Event) (start before after : MomentWithPast)
+module _ (script : List Statement) (range : RunsAreInRange script) (events : List Move) (start before after : MomentWithPast)
     (ran : run_with_past script events ≡ Some start) (trail : MomentTrail script start before)
     (change : MomentChange script start before after) (all : ChecksHaveWorks before.world.hosts) where
   goes : IsGoingOn script start before after → HaveWorks after
@@ -192,7 +192,7 @@ module _ (script : List Statement) (range : RunsAreInRange script) (events : Lis
 -- ---- every run
 
 module _ (script : List Statement) (range : RunsAreInRange script) where
-  pub open_works-in_run : (events : List Event) (start moment : MomentWithPast) → run_with_past script events ≡ Some start
+  pub open_works-in_run : (events : List Move) (start moment : MomentWithPast) → run_with_past script events ≡ Some start
       → MomentTrail script start moment → ChecksHaveWorks moment.world.hosts
   open_works-in_run =
       kept_on_the_way script HaveWorks

@@ -27,7 +27,6 @@ use Rattle.gateway.specs.declared.message.Status.{Status}
 use Rattle.guest_driver.specs.declared.disk.Disk.{Disk}
 use Rattle.sheep_node.specs.declared.course.Course.TheVariants.{Checking}
 use Rattle.sheep_node.specs.declared.course.Request.{Request}
-use Rattle.sheep_node.specs.declared.event.Event.{Event}
 use Rattle.sheep_node.specs.Changes as changes
 use Rattle.sheep_node.specs.Changes.{EndsWork}
 use Rattle.sheep_node.specs.SessionQueues.{session_among}
@@ -36,6 +35,7 @@ use Rattle.sheep_node.specs.StepState.{StepState}
 use Rattle.sheep_world.specs.Began.{Began}
 use Rattle.sheep_world.specs.NodeCauses.{input_of_cause, host_with_node}
 use Rattle.sheep_world.specs.World.{Host}
+use Rattle.sheep_world.specs.RunsWithAsks.{Move}
 use Rattle.overlap_law.specs.AloneChecksWritten.{IsOfValue, IsWritten, whole_object, WillBeWritten, IsBeingWritten, WasWritten}
 use Rattle.overlap_law.specs.AloneEntries.{IsOwnByTable}
 use Rattle.overlap_law.specs.Attempts.{AttemptRecord}
@@ -78,7 +78,7 @@ own_by_table disk index among inside =
     (All-contains (λ (i : ℕ). (i < length disk.inode.table) × (slice_index disk.inode.table i ≡ disk.inode.vid)) (own_indexes disk.inode)
     index (own_indexes-own disk.inode) among).1
 
-module _ (script : List Statement) (range : RunsAreInRange script) (events : List Event) (start : MomentWithPast)
+module _ (script : List Statement) (range : RunsAreInRange script) (events : List Move) (start : MomentWithPast)
     (ran : run_with_past script events ≡ Some start) (on : SteppingNode) (is : IsStepping script start.world on)
     (by : StepsByChanges on.cause) (so_far next : StepState) (within : IsWithinStep on so_far next)
     (trail : MomentTrail script start (moment_in_step script on start so_far)) (good_id : ℕ → Bool)

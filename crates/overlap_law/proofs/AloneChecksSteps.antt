@@ -21,7 +21,6 @@ use Rattle.guest_driver.specs.declared.disk.Disk.{Disk}
 use Rattle.sheep_node.specs.declared.check_write.CheckWrite.{CheckWrite}
 use Rattle.sheep_node.specs.declared.course.Course.TheVariants.{Checking}
 use Rattle.sheep_node.specs.declared.course.Request.{Request}
-use Rattle.sheep_node.specs.declared.event.Event.{Event}
 use Rattle.sheep_node.specs.Changes.{EndsWork}
 use Rattle.sheep_node.specs.CheckWrites.{check_write_on, write_of_value}
 use Rattle.sheep_node.specs.SessionQueues.{session_among}
@@ -30,6 +29,7 @@ use Rattle.sheep_node.specs.WantedWorks.{HasWork, IsWorkOfCheck}
 use Rattle.sheep_world.specs.Began.{Began}
 use Rattle.sheep_world.specs.NodeCauses.{input_of_cause, host_with_node}
 use Rattle.sheep_world.specs.World.{Host}
+use Rattle.sheep_world.specs.RunsWithAsks.{Move}
 use Rattle.overlap_law.specs.AloneChecksWritten.{IsWritten, MakesNone, MakesOnly, whole_object}
 use Rattle.overlap_law.specs.AloneChecksWritten.{WillBeWritten, IsBeingWritten, WasWritten}
 use Rattle.overlap_law.specs.MomentChanges as moments
@@ -55,7 +55,7 @@ pub record ComesBy (on : SteppingNode) (n req index : ℕ) (value : List ℕ) : 
   pub place : write.index ≡ index
   pub what : write.value ≡ value
 
-module _ (script : List Statement) (range : RunsAreInRange script) (events : List Event) (start : MomentWithPast)
+module _ (script : List Statement) (range : RunsAreInRange script) (events : List Move) (start : MomentWithPast)
     (ran : run_with_past script events ≡ Some start) (on : SteppingNode) (is : IsStepping script start.world on)
     (by : StepsByChanges on.cause) (so_far next : StepState) (within : IsWithinStep on so_far next)
     (trail : MomentTrail script start (moment_in_step script on start so_far)) where

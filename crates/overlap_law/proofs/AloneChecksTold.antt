@@ -23,7 +23,6 @@ use Rattle.sheep_node.specs.declared.ask.Ask.{Ask}
 use Rattle.sheep_node.specs.declared.ask.Ask.TheVariants as asks
 use Rattle.sheep_node.specs.declared.course.Course.{Course}
 use Rattle.sheep_node.specs.declared.course.Course.TheVariants.{Waiting, Driving, Commanding, Checking, DoingWork, AwaitingDecision}
-use Rattle.sheep_node.specs.declared.event.Event.{Event}
 use Rattle.sheep_node.specs.declared.input.Input.TheVariants as inputs
 use Rattle.sheep_node.specs.Changes.{EndsWork, Outcome, ToReply, ToWork, RequestSteps, DiskBegins, DiskGoesOn, CommandBegins}
 use Rattle.sheep_node.specs.Changes.{outcome_of_check}
@@ -34,6 +33,7 @@ use Rattle.sheep_node.specs.StepState.{StepState}
 use Rattle.sheep_world.specs.Began.{Began}
 use Rattle.sheep_world.specs.NodeCauses.{input_of_cause}
 use Rattle.sheep_world.specs.World.{Host}
+use Rattle.sheep_world.specs.RunsWithAsks.{Move}
 use Rattle.overlap_law.specs.Headline.{ledger_of}
 use Rattle.overlap_law.specs.HistoryGrowth.{added_at_cause, added_by_reply, check_write_at, world_at_cause}
 use Rattle.overlap_law.specs.HistoryStands.{CallsAvailable}
@@ -63,8 +63,9 @@ use Rattle.overlap_law.proofs.ReadsToldTables.{inodes_along}
 use Rattle.overlap_law.proofs.RepliedAlone.{IsAloneBehind, TablesStay, replies-by_tables}
 use Rattle.overlap_law.proofs.RepliedItems.{none_alone}
 use Rattle.overlap_law.proofs.RepliedNow.{IsRepliedBy, replied_by}
+use Rattle.overlap_law.proofs.CoursesOfAsks.{asked_none}
 
-module _ (script : List Statement) (range : RunsAreInRange script) (events : List Event) (start : MomentWithPast)
+module _ (script : List Statement) (range : RunsAreInRange script) (events : List Move) (start : MomentWithPast)
     (ran : run_with_past script events ≡ Some start) (on : SteppingNode) (is : IsStepping script start.world on)
     (by : StepsByChanges on.cause) (so_far next : StepState) (within : IsWithinStep on so_far next)
     (trail : MomentTrail script start (moment_in_step script on start so_far)) (good_id : ℕ → Bool)
@@ -95,6 +96,7 @@ module _ (script : List Statement) (range : RunsAreInRange script) (events : Lis
         → (disk : Option ℕ) × IsCourseOfAsk (asked_by script req) (session_among session so_far.node.sessions).disk disk course
     placed session course got =
         course_in_step script range events start ran on is by so_far within.leads req (record { session = session; course = course }) got
+        (asked_none (asked_by script req) (asks.Vdi disk_commands.Check) course asks_check)
 
     no_command : (session : ℕ) (op : Op)
         → tree.get so_far.node.requests req ≡ Some (record { session = session; course = Commanding op }) → ⊥
@@ -181,7 +183,7 @@ module _ (script : List Statement) (range : RunsAreInRange script) (events : Lis
 -- ---- each change
 
 module _ (script : List Statement) (range : RunsAreInRange script) where
-  checks-by_tables : (events : List Event) (start before after : MomentWithPast) → run_with_past script events ≡ Some start
+  checks-by_tables : (events : List Move) (start before after : MomentWithPast) → run_with_past script events ≡ Some start
       → MomentTrail script start before → (good_id : ℕ → Bool) → TablesStay good_id before
       → RepliesToChecksAreAlone script good_id start before after
   checks-by_tables events start before after ran trail good_id tables =
@@ -194,14 +196,14 @@ module _ (script : List Statement) (range : RunsAreInRange script) where
 
   -- ---- so behind each reply
 
-  all-by_tables : (events : List Event) (start before after : MomentWithPast) → run_with_past script events ≡ Some start
+  all-by_tables : (events : List Move) (start before after : MomentWithPast) → run_with_past script events ≡ Some start
       → MomentTrail script start before → (good_id : ℕ → Bool) → TablesStay good_id before
       → RepliesAreAlone script good_id start before after
   all-by_tables events start before after ran trail good_id tables =
       replies-by_tables script range events start before after ran trail good_id tables
       (checks-by_tables events start before after ran trail good_id tables)
 
-  pub all-on_the_way : (events : List Event) (event : Event) (start end before after : MomentWithPast)
+  pub all-on_the_way : (events : List Move) (event : Move) (start end before after : MomentWithPast)
       → IsOnTheWay script events event start end before after → (good_id : ℕ → Bool) → CallsAvailable start after good_id
       → RepliesAreAlone script good_id start before after
   all-on_the_way events event start end before after way good_id test =

@@ -42,7 +42,7 @@ use Rattle.sheep_world.specs.HistoryAdditions.{begins_on, check_write_by}
 use Rattle.sheep_world.specs.HistoryAdditions.{check_write_grown, is_lost_write, is_write}
 use Rattle.sheep_world.specs.HistoryAdditions.{replies_grown, reply_grown, request_grown}
 use Rattle.sheep_world.specs.NodeCauses.{NodeCause, GuestAsks, RequestComes, ReplyComes, LossIsTold, EntryIsRead, EntryIsPut, RecoveryTicks}
-use Rattle.sheep_world.specs.NodeCauses.{WorkIsRetried, IsCause, history_of_cause, log_after_cause, world_after_cause}
+use Rattle.sheep_world.specs.NodeCauses.{WorkIsRetried, ClientAsks, IsCause, history_of_cause, log_after_cause, world_after_cause}
 use Rattle.sheep_world.specs.Step.{EventOutcome}
 use Rattle.sheep_world.proofs.BegunRequestLaws.{new-begun, were_begun}
 use Rattle.overlap_law.specs.MomentChanges.{RunsAreInRange}
@@ -62,7 +62,7 @@ use Rattle.overlap_law.proofs.ItemsOfReplies.{is_write_at}
 use Rattle.overlap_law.proofs.ItemsOfRequests.{begins_write_of}
 use Rattle.overlap_law.proofs.PublishedChains.{chain_was_snapped}
 use Rattle.overlap_law.proofs.PublishedInodes.{was_published}
-use Rattle.overlap_law.proofs.SessionsOfRequests.{are_asked}
+use Rattle.overlap_law.proofs.SessionsOfRequests.{are_asked_by_line, of_asking}
 
 -- ---- an entry
 
@@ -211,6 +211,7 @@ module _ (script : List Statement) (vid : ℕ) where
     step_so (EntryIsPut entry) after = entry_gone world.log vid published entry
     step_so RecoveryTicks after = inl (replies_copy_none world None after.outputs.replies)
     step_so WorkIsRetried after = inl (replies_copy_none world None after.outputs.replies)
+    step_so (ClientAsks req ask) after = inl (replies_copy_none world None after.outputs.replies)
 
     pub event_copies : (event : Event) (makes : EventOutcome) → EventKind script event world makes
         → HasNone (copies_disk vid) makes.grown ⊎ IsGivenNoMore makes.world.log vid
@@ -241,9 +242,9 @@ module _ (script : List Statement) (range : RunsAreInRange script) (world : Worl
     fresh : (m : ℕ) (second : Host) (session : ScriptSession) (other : ℕ) (ask : Ask)
         → IsCause script world m second (GuestAsks session other ask) → other ≡ req → ⊥
     fresh m second session other ask caused same =
-        let here = are_asked script world began n host there req request got in
         let asking : session_asking script req ≡ Some session.number
         = ap (session_asking script) (sym same) ∙ ap (option_and_then session_of) caused.stands ∙ caused.own in
+        let here = are_asked_by_line script world began n host there req request got (of_asking script req session.number asking) in
         let number : request.session ≡ session.number = same_Some request.session session.number (sym here.asking ∙ asking) in
         let of : here.of ≡ session
         = same_Some here.of session (sym here.declared ∙ ap (session_numbered script) number ∙ caused.declared) in
@@ -303,6 +304,7 @@ module _ (script : List Statement) (range : RunsAreInRange script) (world : Worl
     step_begins m second (EntryIsPut entry) caused after = begins.entry_none req world.log entry
     step_begins m second RecoveryTicks caused after = told_none world None after
     step_begins m second WorkIsRetried caused after = told_none world None after
+    step_begins m second (ClientAsks req ask) caused after = told_none world None after
 
     abbrev BeginsNone : EventOutcome → Type 0
     BeginsNone m = list_any (begins_write_of req) m.grown ≡ false

@@ -20,7 +20,6 @@ use Rattle.guest_driver.specs.PieceWorks.{table_with_entry}
 use Rattle.sheep_node.specs.declared.course.Course.{Course}
 use Rattle.sheep_node.specs.declared.course.Course.TheVariants.{Commanding}
 use Rattle.sheep_node.specs.declared.course.Request.{Request}
-use Rattle.sheep_node.specs.declared.event.Event.{Event}
 use Rattle.sheep_node.specs.May.{is_disk_course}
 use Rattle.sheep_node.specs.SessionQueues.{session_among}
 use Rattle.sheep_node.specs.StepState.{StepState}
@@ -29,6 +28,7 @@ use Rattle.sheep_node.proofs.WantedSteps.{driver_goes_on-wanted}
 use Rattle.sheep_world.specs.Began.{Began}
 use Rattle.sheep_world.specs.NodeCauses.{input_of_cause, host_with_node}
 use Rattle.sheep_world.specs.World.{Host}
+use Rattle.sheep_world.specs.RunsWithAsks.{Move}
 use Rattle.overlap_law.specs.AloneEntries.{IsOwnByTable}
 use Rattle.overlap_law.specs.MomentChanges.{MomentTrail, RunsAreInRange}
 use Rattle.overlap_law.specs.OpenedTables.{OpensNow, ByWork, ByEntry, ReadsIt, WroteIt}
@@ -96,7 +96,7 @@ pub record HadDisk (sessions : Sessions) (number : ℕ) (disk : Disk) : Type 0 w
   pub snapshot : disk.snapshot ≡ old.snapshot
   pub own : (index : ℕ) → IsOwnByTable old.inode index → IsOwnByTable disk.inode index
 
-module _ (script : List Statement) (range : RunsAreInRange script) (events : List Event) (start : MomentWithPast)
+module _ (script : List Statement) (range : RunsAreInRange script) (events : List Move) (start : MomentWithPast)
     (ran : run_with_past script events ≡ Some start) (on : SteppingNode) (is : IsStepping script start.world on)
     (by : StepsByChanges on.cause) (so_far next : StepState) (within : IsWithinStep on so_far next)
     (trail : MomentTrail script start (moment_in_step script on start so_far)) where

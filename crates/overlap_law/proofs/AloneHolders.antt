@@ -12,11 +12,11 @@ use Rattle.guest_driver.specs.Driver.{Writes, DriverStage}
 use Rattle.guest_driver.specs.Pieces.{Piece}
 use Rattle.sheep_node.specs.declared.course.Course.TheVariants.{Driving}
 use Rattle.sheep_node.specs.declared.course.Request.{Request}
-use Rattle.sheep_node.specs.declared.event.Event.{Event}
 use Rattle.sheep_node.specs.May.{is_disk_course}
 use Rattle.sheep_node.specs.SessionQueues.{session_among}
 use Rattle.sheep_node.proofs.SessionViews.{IsSeen}
 use Rattle.sheep_world.specs.World.{Host}
+use Rattle.sheep_world.specs.RunsWithAsks.{Move}
 use Rattle.overlap_law.specs.CommandDisks.{opened_as}
 use Rattle.overlap_law.specs.Grants.{writer_of}
 use Rattle.overlap_law.specs.MomentChanges.{MomentTrail, RunsAreInRange}
@@ -32,7 +32,7 @@ use Rattle.overlap_law.proofs.KeptIds.{lock-writer}
 use Rattle.overlap_law.proofs.NoRecoveredDue.{began-with_past}
 use Rattle.overlap_law.proofs.WorksInMoments.{well_along}
 
-module _ (script : List Statement) (range : RunsAreInRange script) (events : List Event) (start moment : MomentWithPast)
+module _ (script : List Statement) (range : RunsAreInRange script) (events : List Move) (start moment : MomentWithPast)
     (is : run_with_past script events ≡ Some start) (trail : MomentTrail script start moment) (n : ℕ) (host : Host)
     (at_host : tree.get moment.world.hosts n ≡ Some host) (up : host.is_lost ≡ false) (req : ℕ) (request : Request)
     (there : tree.get host.node.requests req ≡ Some request) (opened : Disk)

@@ -1,6 +1,7 @@
--- So in each run in range, at each moment on the way of an event, the table says of the objects that a write has behind it that they are the
--- disk's own; and nothing else is to come of their entries, where the disk's inode may come to have what the table has.
-use Rattle.std.proofs.Common.{◌≡◌, ⊎_elim, ℕ, ◌<◌, Bool, true, false, List, ◌∷◌, ◌++◌, length, Contains, Some, slice_index, refl, sym, ap, subst, ◌∙◌}
+-- So in each run in range, at each moment on the way of an event, the table says of the objects that a write has behind it that they are
+-- the disk's own; and nothing else is to come of their entries, where the disk's inode may come to have what the table has.
+use Rattle.std.proofs.Common.{◌≡◌, ⊎_elim, ℕ, ◌<◌, Bool, true, false, List, ◌∷◌, ◌++◌, length, Contains, Some, slice_index, refl, sym, ap}
+use Rattle.std.proofs.Common.{subst, ◌∙◌}
 use Rattle.std.specs.Ordering.{nat_cmp}
 use Rattle.std.specs.FinMap as tree
 use Rattle.object_id.specs.Spec.{objects_of}
@@ -14,10 +15,10 @@ use Rattle.vdi_directory.specs.declared.effect.Effect.{Effect}
 use Rattle.sheep_node.specs.State.{Node}
 use Rattle.sheep_node.specs.declared.course.Course.TheVariants.{Driving}
 use Rattle.sheep_node.specs.declared.course.Request.{Request}
-use Rattle.sheep_node.specs.declared.event.Event.{Event}
 use Rattle.sheep_node.specs.SessionQueues.{session_among}
 use Rattle.sheep_node.proofs.OneWorkParts.{Requests, Sessions}
 use Rattle.sheep_world.specs.World.{Host}
+use Rattle.sheep_world.specs.RunsWithAsks.{Move}
 use Rattle.overlap_law.specs.AloneEntries.{IsOwnByTable, HasOwnBehind, OwnObjectsAreBehind}
 use Rattle.overlap_law.specs.Attempts.{AttemptRecord}
 use Rattle.overlap_law.specs.MomentChanges.{MomentChange, MomentTrail, RunsAreInRange}
@@ -38,7 +39,7 @@ use Rattle.overlap_law.proofs.PiecesBehind.{cut_once}
 abbrev OwnBehind : MomentWithPast → Type 0
 OwnBehind moment = OwnObjectsAreBehind moment.world.hosts
 
-module _ (script : List Statement) (range : RunsAreInRange script) (events : List Event) (start before after : MomentWithPast)
+module _ (script : List Statement) (range : RunsAreInRange script) (events : List Move) (start before after : MomentWithPast)
     (ran : run_with_past script events ≡ Some start) (trail : MomentTrail script start before)
     (change : MomentChange script start before after) (all : OwnObjectsAreBehind before.world.hosts) where
   by_guests : (n : ℕ) (host : Host) → host.is_lost ≡ false → (req : ℕ) (request : Request) (opened : Disk) (payload : List ℕ)
@@ -73,7 +74,7 @@ module _ (script : List Statement) (range : RunsAreInRange script) (events : Lis
 -- ---- every run
 
 module _ (script : List Statement) (range : RunsAreInRange script) where
-  pub own-in_run : (events : List Event) (start moment : MomentWithPast) → run_with_past script events ≡ Some start
+  pub own-in_run : (events : List Move) (start moment : MomentWithPast) → run_with_past script events ≡ Some start
       → MomentTrail script start moment → OwnObjectsAreBehind moment.world.hosts
   own-in_run =
       kept_on_the_way script OwnBehind
@@ -99,7 +100,7 @@ module _ (effects : List Effect) (good_id : ℕ → Bool) (hosts : Hosts) (attem
       (λ (entered : (opened.snapshot ≡ false) × IsBeingEntered n host.node opened.inode.vid index entry). entered.1.own)
       (tables.each n host at_host up number index session opened got on good alive inside yet j entry comes)
 
-module _ (script : List Statement) (range : RunsAreInRange script) (events : List Event) (start moment : MomentWithPast)
+module _ (script : List Statement) (range : RunsAreInRange script) (events : List Move) (start moment : MomentWithPast)
     (ran : run_with_past script events ≡ Some start) (trail : MomentTrail script start moment) (good_id : ℕ → Bool)
     (tables : TablesStayTheInodes (log_effects moment.world.log) good_id moment.world.hosts moment.past.attempts) (n : ℕ) (host : Host)
     (at_host : tree.get moment.world.hosts n ≡ Some host) (up : host.is_lost ≡ false) (req : ℕ) (request : Request) (opened : Disk)
@@ -113,8 +114,8 @@ module _ (script : List Statement) (range : RunsAreInRange script) (events : Lis
       (entry : AttemptRecord) → IsEntryToCome moment.world.hosts moment.past.attempts opened.inode.vid index j entry
       → entry_by index entry ≡ opened.inode.vid
   write_alone =
-      own_alone (log_effects moment.world.log) good_id moment.world.hosts moment.past.attempts tables n host at_host up request.session opened
-      at good alive
+      own_alone (log_effects moment.world.log) good_id moment.world.hosts moment.past.attempts tables n host at_host up request.session
+      opened at good alive
       (write_yet script range events start moment ran trail n host at_host up req request there opened at payload stage piece rest course)
 
   -- of each that the write has behind it
@@ -128,4 +129,5 @@ module _ (script : List Statement) (range : RunsAreInRange script) (events : Lis
       let same : front ≡ own.before
       = cut_once opened.inode.spec.shift own.offset offset (length payload) own.before front rest piece own.cut cut in
       write_alone index inside
-      (subst (IsOwnByTable opened.inode) at_index (own.each one (subst (λ (list : List Piece). Contains list one) same among))) j entry comes
+      (subst (IsOwnByTable opened.inode) at_index (own.each one (subst (λ (list : List Piece). Contains list one) same among))) j entry
+      comes

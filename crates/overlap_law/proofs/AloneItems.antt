@@ -1,14 +1,17 @@
 -- What holds of the items of a request, wherever they are, holds behind an event, if it does of those that begin, and of a copied disk's
 -- where it holds of the disk's.
-use Rattle.std.proofs.Common.{◌≡◌, ℕ, zero, suc, ◌==◌, Bool, true, false, not, cond, List, [], ◌∷◌, ◌++◌, map, filter, fold, slice_get, Option}
+use Rattle.std.proofs.Common.{◌≡◌, ℕ, zero, suc, ◌==◌, Bool, true, false, not, cond, List, [], ◌∷◌, ◌++◌, map, filter, fold, slice_get}
+use Rattle.std.proofs.Common.{Option}
 use Rattle.std.proofs.Common.{Some, None, option_map, refl, sym, ap, subst, ◌∙◌}
 use Rattle.std.specs.List.{list_any}
 use Rattle.std.proofs.lemmas.Bool.{eq-eqb, eqb-true, or_parts}
 use Rattle.std.proofs.lemmas.Option.{same_Some}
 use Rattle.disk_history.specs.declared.event.HistEvent.{HistEvent}
-use Rattle.disk_history.specs.declared.event.HistEvent.TheVariants.{Create, Copy, Delete, WriteStart, WriteDone, WriteRefused, WriterLost, Read}
+use Rattle.disk_history.specs.declared.event.HistEvent.TheVariants.{Create, Copy, Delete, WriteStart, WriteDone, WriteRefused, WriterLost}
+use Rattle.disk_history.specs.declared.event.HistEvent.TheVariants.{Read}
 use Rattle.disk_history.specs.Changes.{items_in}
-use Rattle.disk_history.specs.Ledger.{Mark, Item, Disk, Ledger, Open, Acknowledged, Lost, zeros_item, is_item_of, item_with_mark, empty_ledger}
+use Rattle.disk_history.specs.Ledger.{Mark, Item, Disk, Ledger, Open, Acknowledged, Lost, zeros_item, is_item_of, item_with_mark}
+use Rattle.disk_history.specs.Ledger.{empty_ledger}
 use Rattle.disk_history.specs.Ledger.{ledger_after, changed_at, with_item, has_block}
 use Rattle.overlap_law.proofs.ItemsOfRequests.{HasNoItems, begins_write_of}
 

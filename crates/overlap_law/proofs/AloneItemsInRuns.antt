@@ -1,5 +1,5 @@
--- In each run in range the items of a write without reply are on the working disk that its session has open alone, and have the bytes of the
--- write's blocks: for they began there, and a disk that is copied is given no more.
+-- In each run in range the items of a write without reply are on the working disk that its session has open alone, and have the bytes of
+-- the write's blocks: for they began there, and a disk that is copied is given no more.
 use Rattle.std.proofs.Common.{◌≡◌, inl, ⊎_elim, ℕ, zero, suc, ◌+◌, ◌<◌, ◌==◌, Bool, true, false, List, [], ◌∷◌, ◌++◌, length, map, fold}
 use Rattle.std.proofs.Common.{Option, Some, None, slice_get, refl, sym, ap, subst, ◌∙◌, arith}
 use Rattle.std.specs.Prelude.{◌/◌}
@@ -22,14 +22,14 @@ use Rattle.cluster_script.specs.declared.statement.Statement.{Statement}
 use Rattle.cluster_script.specs.declared.statement.Statement.TheVariants as lines
 use Rattle.cluster_script.specs.NumberedRequests.{request_at, payload_of}
 use Rattle.guest_driver.specs.declared.disk.Disk.{Disk}
-use Rattle.sheep_node.specs.declared.event.Event.{Event}
 use Rattle.sheep_world.specs.Asking.{ask_of_statement}
 use Rattle.sheep_world.specs.Effects.{open_disk_at, request_started}
 use Rattle.sheep_world.specs.EventKinds.{outcome_of_step}
 use Rattle.sheep_world.specs.HistoryAdditions.{begins_on, block_in, replies_grown, request_grown}
 use Rattle.sheep_world.specs.NodeCauses.{GuestAsks, world_after_cause}
 use Rattle.sheep_world.specs.World.{Host}
-use Rattle.sheep_world.proofs.EventInversion.{happens}
+use Rattle.sheep_world.proofs.ClientReads.{goes_by_kind}
+use Rattle.sheep_world.specs.RunsWithAsks.{Move}
 use Rattle.overlap_law.specs.AloneItems.{IsOwnItem, HasOwnItems, WritesHaveOwnItems}
 use Rattle.overlap_law.specs.DiskEvents.{IsUnderWay}
 use Rattle.overlap_law.specs.Headline.{ledger_of}
@@ -96,7 +96,8 @@ module _ (req vid offset : ℕ) (payload : List ℕ) where
     statement_fine (lines.Check session) is = absurd (cc (is))
     statement_fine s is = absurd (cc (is))
 
-    pub begun_fine : (o : Option Disk) (s : Option Statement) → o ≡ Some disk → WritesBytes offset payload (option_and_then ask_of_statement s)
+    pub begun_fine : (o : Option Disk) (s : Option Statement) → o ≡ Some disk
+        → WritesBytes offset payload (option_and_then ask_of_statement s)
         → AreOwnBegun (option_map_or (begins_on other o) s [])
     begun_fine o None opened is = absurd (cc (is))
     begun_fine o (Some s) opened is =
@@ -136,7 +137,7 @@ module _ (script : List Statement) (range : RunsAreInRange script) (req offset :
 
   own_keeps : IsKeptOnHeld script range req writer OwnOn
   own_keeps world began event made happened grows n host there up request got disk opened working others ends history was yet =
-      let kind = happens script event world made happened in
+      let kind = goes_by_kind script event world made happened in
       let vid : ℕ = disk.inode.vid in
       let held = working_held script range world began n host there up request.session disk opened working
       (no_command script range world began n host there req request got writer) in
@@ -145,8 +146,8 @@ module _ (script : List Statement) (range : RunsAreInRange script) (req offset :
       (λ (none : list_any (copies_disk disk.inode.vid) made.grown ≡ false).
       grown_own req vid offset payload history made.grown
       (others_fine req vid offset payload made.grown none
-      (event_begins_none script range world began req (writes_is offset payload (request_at script req) is) n host there request got event made
-      kind))
+      (event_begins_none script range world began req (writes_is offset payload (request_at script req) is) n host there request got event
+      made kind))
       (was (λ gone.
       yet (subst (λ (log : List Entry). IsGivenNoMore log disk.inode.vid) (sym grows.1) (no_more_then world.log grows.0 vid gone)))))
       (λ (gone : IsGivenNoMore made.world.log disk.inode.vid). absurd (yet gone))
@@ -169,7 +170,7 @@ module _ (script : List Statement) (range : RunsAreInRange script) (req offset :
       (unbegun_own req vid offset payload history unbegun)
 
 -- at the end of an event
-pub are_own-in_run : (script : List Statement) → RunsAreInRange script → (events : List Event) (moment : MomentWithPast)
+pub are_own-in_run : (script : List Statement) → RunsAreInRange script → (events : List Move) (moment : MomentWithPast)
     → run_with_past script events ≡ Some moment → (n : ℕ) (host : Host) → tree.get moment.world.hosts n ≡ Some host → host.is_lost ≡ false
     → (req offset : ℕ) (payload : List ℕ) (opened : Disk) → IsUnderWay host.node req opened
     → WritesBytes offset payload (option_and_then ask_of_statement (request_at script req))
@@ -183,7 +184,7 @@ are_own-in_run script range events moment ran n host there up req offset payload
     opened way
     (held_given moment.world.log opened.inode.vid (session_holder n way.request.session) held)
 
-pub own_items-in_run : (script : List Statement) → RunsAreInRange script → (events : List Event) (moment : MomentWithPast)
+pub own_items-in_run : (script : List Statement) → RunsAreInRange script → (events : List Move) (moment : MomentWithPast)
     → run_with_past script events ≡ Some moment → WritesHaveOwnItems script (ledger_of moment.past.history) moment.world.hosts
 own_items-in_run script range events moment ran = record {
   each = λ n host there up req offset payload opened way asked.

@@ -1,14 +1,13 @@
--- In the middle of a step of a run in range the items of each write of the node are on the working disk that its session has open alone, and
--- have the bytes of the write's blocks.
+-- In the middle of a step of a run in range the items of each write of the node are on the working disk that its session has open alone,
+-- and have the bytes of the write's blocks.
 use Rattle.std.proofs.Common.{◌≡◌, inl, ℕ, Bool, true, false, List, [], ◌∷◌, ◌++◌, Option, Some, None, option_map, refl, sym, ap, subst}
 use Rattle.std.proofs.Common.{◌∙◌}
 use Rattle.std.specs.Prelude.{flat_map}
 use Rattle.std.specs.List.{list_any}
-use Rattle.std.specs.Option.{option_map_or, option_and_then}
+use Rattle.std.specs.Option.{option_and_then}
 use Rattle.std.specs.FinMap as tree
 use Rattle.std.proofs.lemmas.Option.{same_Some}
 use Rattle.disk_history.specs.declared.event.HistEvent.{HistEvent}
-use Rattle.disk_history.specs.Ledger.{Ledger}
 use Rattle.cluster_script.specs.declared.statement.Statement.{Statement}
 use Rattle.cluster_script.specs.NumberedRequests.{request_at}
 use Rattle.cluster_script.specs.Sessions.{ScriptSession}
@@ -17,12 +16,12 @@ use Rattle.guest_driver.specs.Driver.{Driver, Reads, Writes, Answered}
 use Rattle.peer_proto.specs.declared.guest.DiskAsk.{DiskAsk}
 use Rattle.peer_proto.specs.declared.guest.DiskAsk.TheVariants as disk_asks
 use Rattle.peer_proto.specs.declared.guest.GuestRsp.{GuestRsp}
+use Rattle.peer_proto.specs.declared.guest.VdiAsk.{VdiAsk}
 use Rattle.sheep_node.specs.declared.ask.Ask.{Ask}
 use Rattle.sheep_node.specs.declared.ask.Ask.TheVariants as asks
 use Rattle.sheep_node.specs.declared.course.Course.{Course}
 use Rattle.sheep_node.specs.declared.course.Course.TheVariants.{Waiting, Driving, Commanding, Checking, DoingWork, AwaitingDecision}
 use Rattle.sheep_node.specs.declared.course.Request.{Request}
-use Rattle.sheep_node.specs.declared.event.Event.{Event}
 use Rattle.sheep_node.specs.declared.input.Input.TheVariants as inputs
 use Rattle.sheep_node.specs.SessionQueues.{session_among}
 use Rattle.sheep_node.specs.StepState.{StepState}
@@ -31,11 +30,12 @@ use Rattle.sheep_world.specs.Asking.{ask_of_statement}
 use Rattle.sheep_world.specs.Began.{Began}
 use Rattle.sheep_world.specs.Effects.{open_disk_at}
 use Rattle.sheep_world.specs.NodeCauses.{NodeCause, GuestAsks, RequestComes, ReplyComes, LossIsTold, EntryIsRead, EntryIsPut, RecoveryTicks}
-use Rattle.sheep_world.specs.NodeCauses.{WorkIsRetried, input_of_cause, IsCause}
+use Rattle.sheep_world.specs.NodeCauses.{progress_at_cause}
+use Rattle.sheep_world.specs.NodeCauses.{WorkIsRetried, ClientAsks, input_of_cause, IsCause}
 use Rattle.sheep_world.specs.World.{Host}
+use Rattle.sheep_world.specs.RunsWithAsks.{Move}
 use Rattle.overlap_law.specs.AloneItems.{HasOwnItems}
 use Rattle.overlap_law.specs.CommandDisks.{opened_as}
-use Rattle.overlap_law.specs.DiskEvents.{IsUnderWay}
 use Rattle.overlap_law.specs.Headline.{ledger_of}
 use Rattle.overlap_law.specs.HistoryGrowth.{added_at_cause, added_by_reply, check_write_at, world_at_cause}
 use Rattle.overlap_law.specs.MomentChanges.{RunsAreInRange}
@@ -49,7 +49,8 @@ use Rattle.overlap_law.proofs.AloneItemsInRuns.{unbegun_own}
 use Rattle.overlap_law.proofs.AnswersInMoments.{not_lost}
 use Rattle.overlap_law.proofs.CausedWorks.{by_changes}
 use Rattle.overlap_law.proofs.CoursesAtChanges.{placed_in_chain}
-use Rattle.overlap_law.proofs.CoursesOfAsks.{id_of_disk, ArePlaced, IsBrought, IsPlacedIn, PlacedSoFar}
+use Rattle.overlap_law.proofs.CoursesOfAsks.{id_of_disk, ArePlaced, IsBrought, IsPlacedIn, PlacedSoFar, placed_by_ask, placed_unless}
+use Rattle.overlap_law.proofs.CoursesOfAsks.{IsNoClients, IsPlacedAs, IsBroughtAs}
 use Rattle.overlap_law.proofs.CoursesOfScript.{asked_by, BeganOn, brings, requests_placed}
 use Rattle.overlap_law.proofs.HistoryInMoments.{history_so}
 use Rattle.overlap_law.proofs.HoldersInWorlds.{open_here}
@@ -62,6 +63,8 @@ use Rattle.overlap_law.proofs.StartedWrites.{WritesBytes, writes_is}
 use Rattle.overlap_law.proofs.UnderWayInRuns.{begun-in_run}
 use Rattle.overlap_law.proofs.WholeInRuns.{may_change, sound_here}
 use Rattle.overlap_law.proofs.WorksInMoments.{well_in_world}
+use Rattle.overlap_law.proofs.AsksInCauses.{no_ask, not_begun}
+use Rattle.overlap_law.proofs.PlacedAnew.{placed_anew, brought_anew, brought_asked}
 
 -- ---- where a write is
 
@@ -107,7 +110,7 @@ opened_of (Some disk) vid is = (disk, refl, same_Some disk.inode.vid vid is)
 
 -- ---- in the middle of a step
 
-module _ (script : List Statement) (range : RunsAreInRange script) (events : List Event) (start : MomentWithPast)
+module _ (script : List Statement) (range : RunsAreInRange script) (events : List Move) (start : MomentWithPast)
     (ran : run_with_past script events ≡ Some start) (on : SteppingNode) (is : IsStepping script start.world on)
     (by : StepsByChanges on.cause) (so_far : StepState) (leads : LeadsInStep on (first_in_step on) so_far) where
   began : Began script start.world
@@ -148,6 +151,7 @@ module _ (script : List Statement) (range : RunsAreInRange script) (events : Lis
     cause_fine vid (EntryIsPut entry) caused = tt
     cause_fine vid RecoveryTicks caused = tt
     cause_fine vid WorkIsRetried caused = tt
+    cause_fine vid (ClientAsks req ask) caused = tt
 
     pub own_there : (disk : Option ℕ) (vid : ℕ)
         → IsCourseOfAsk (asked_by script req) (session_among request.session host.node.sessions).disk disk request.course
@@ -176,12 +180,16 @@ module _ (script : List Statement) (range : RunsAreInRange script) (events : Lis
           → IsPlacedIn (asked_by script) (BeganOn script start.world.guests) req on.host.node.sessions o
           → IsPlacedIn (asked_by script) Begins req on.host.node.sessions o
       by_got None got placed = tt
-      by_got (Some request) got (disk, at, course) = (
-        disk,
-        λ offset vid payload asked same.
-            own_there on.n on.host is.there (not_lost on.host is.up) req request got offset payload asked disk vid course same,
-        course,
-      )
+      by_got (Some request) got is_placed =
+          placed_anew (asked_by script) (BeganOn script start.world.guests) Begins req
+          (session_among request.session on.host.node.sessions).disk request.course
+          (λ (was : IsPlacedAs (asked_by script) (BeganOn script start.world.guests) req
+          (session_among request.session on.host.node.sessions).disk request.course). (
+            was.0,
+            λ offset vid payload asked same.
+                own_there on.n on.host is.there (not_lost on.host is.up) req request got offset payload asked was.0 vid was.2 same,
+            was.2,
+          )) is_placed
 
   -- ---- a request that begins
 
@@ -196,7 +204,19 @@ module _ (script : List Statement) (range : RunsAreInRange script) (events : Lis
       by_value false none = none
       by_value true so =
           let was = begun-in_run script range req events start ran so in
-          absurd (next_is_new script start.world.guests asking.number req (caused.next ∙ ap (λ (k : ℕ). Some k) own) (was.session, was.begun))
+          absurd (next_is_new script start.world.guests asking.number req (caused.next ∙ ap (λ (k : ℕ). Some k) own)
+          (was.session, was.begun))
+
+  -- nor had a client's
+  pub client_first : (req begins : ℕ) (what : Ask) → IsCause script start.world on.n on.host (ClientAsks begins what) → begins ≡ req
+      → list_any (begins_write_of req) start.past.history ≡ false
+  client_first req begins what caused own = by_value (list_any (begins_write_of req) start.past.history) refl
+    where
+      by_value : (b : Bool) → list_any (begins_write_of req) start.past.history ≡ b
+          → list_any (begins_write_of req) start.past.history ≡ false
+      by_value false none = none
+      by_value true so =
+          let was = begun-in_run script range req events start ran so in absurd (not_begun caused was.session req own was.begun)
 
   begins_so : (cause : NodeCause) → IsCause script start.world on.n on.host cause → (req session : ℕ) (ask : Ask)
       → input_of_cause cause ≡ inputs.Guest req session ask → (offset vid : ℕ) (payload : List ℕ) → Asks req offset payload
@@ -221,14 +241,20 @@ module _ (script : List Statement) (range : RunsAreInRange script) (events : Lis
   begins_so (EntryIsPut entry) caused req session ask from offset vid payload of same = absurd (cc (from))
   begins_so RecoveryTicks caused req session ask from offset vid payload of same = absurd (cc (from))
   begins_so WorkIsRetried caused req session ask from offset vid payload of same = absurd (cc (from))
+  begins_so (ClientAsks begins what) caused req session ask from offset vid payload asked same =
+      let of : begins ≡ req = cc (from) in absurd (no_ask caused req (asks.Disk (disk_asks.Write offset payload)) of asked)
 
   brought : IsBrought (asked_by script) Begins (input_of_cause on.cause) on.host.node
   brought req session ask from =
-      let here = brings script start.world on.n on.host on.cause is.there is.caused req session ask from in (
+      brought_anew (asked_by script) (BeganOn script (progress_at_cause on.cause start.world)) Begins req
+      (session_among session on.host.node.sessions).disk ask
+      (λ (here : IsBroughtAs (asked_by script) (BeganOn script (progress_at_cause on.cause start.world)) req
+      (session_among session on.host.node.sessions).disk ask). (
         here.0,
         here.1,
         λ offset vid payload asked same. begins_so on.cause is.caused req session ask from offset vid payload asked same,
-      )
+      ))
+      (brings script start.world on.n on.host on.cause is.there is.caused req session ask from)
 
   -- ---- a request then
 
@@ -241,14 +267,21 @@ module _ (script : List Statement) (range : RunsAreInRange script) (events : Lis
 
   -- where it is, by what it asks
   pub course_in_step : (req : ℕ) (request : Request) → tree.get so_far.node.requests req ≡ Some request
-      → (disk : Option ℕ)
+      → IsNoClients (asked_by script req) request.course → (disk : Option ℕ)
       × IsCourseOfAsk (asked_by script req) (session_among request.session so_far.node.sessions).disk disk request.course
-  course_in_step req request got =
-      let (disk, at, course) = subst (IsPlacedIn (asked_by script) Begins req so_far.node.sessions) got (placed req) in (disk, course)
+  course_in_step req request got unless_so =
+      let (disk, at, course) = placed_unless (asked_by script) Begins req (session_among request.session so_far.node.sessions).disk
+      request.course unless_so (subst (IsPlacedIn (asked_by script) Begins req so_far.node.sessions) got (placed req)) in
+      (disk, course)
 
   pub asked_in_step : (req session : ℕ) (ask : Ask) → input_of_cause on.cause ≡ inputs.Guest req session ask
-      → asked_by script req ≡ Some ask
-  asked_in_step req session ask from = (brought req session ask from).1
+      → (asked_by script req ≡ None → ⊥) → asked_by script req ≡ Some ask
+  asked_in_step req session ask from some =
+      brought_asked (asked_by script) Begins req (session_among session on.host.node.sessions).disk ask (brought req session ask from) some
+
+  pub command_asked : (req session : ℕ) (ask : VdiAsk) → input_of_cause on.cause ≡ inputs.Guest req session (asks.Vdi ask)
+      → asked_by script req ≡ Some (asks.Vdi ask)
+  command_asked req session ask from = (brought req session (asks.Vdi ask) from).1
 
   -- the replies so far leave items where they are
   pub by_replies : (req offset vid : ℕ) (payload : List ℕ)
@@ -272,7 +305,9 @@ module _ (script : List Statement) (range : RunsAreInRange script) (events : Lis
       → asked_by script req ≡ Some (asks.Disk (disk_asks.Write offset payload))
       → HasOwnItems req opened.inode.vid offset payload (ledger_of (moment_in_step script on start so_far).past.history)
   own_in_step req request got opened at offset payload asked =
-      let (disk, so, course) = subst (IsPlacedIn (asked_by script) Begins req so_far.node.sessions) got (placed req) in
+      let (disk, so, course) = placed_by_ask (asked_by script) Begins req (asks.Disk (disk_asks.Write offset payload)) asked
+      (session_among request.session so_far.node.sessions).disk request.course
+      (subst (IsPlacedIn (asked_by script) Begins req so_far.node.sessions) got (placed req)) in
       let there = on_disk (asked_by script req) offset payload asked (session_among request.session so_far.node.sessions).disk disk
       request.course course in
       let same : disk ≡ Some opened.inode.vid

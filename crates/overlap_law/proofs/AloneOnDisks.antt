@@ -1,6 +1,7 @@
 -- In each run in range the items of a request without reply are on the working disk that its session has open alone: those of a check begin
 -- there, as those of a write do, and a disk that is copied is given no more.
-use Rattle.std.proofs.Common.{◌≡◌, inl, inr, ⊎_elim, ℕ, Bool, true, false, List, [], ◌++◌, Option, Some, None, slice_get, refl, sym, ap, subst, ◌∙◌}
+use Rattle.std.proofs.Common.{◌≡◌, inl, inr, ⊎_elim, ℕ, Bool, true, false, List, [], ◌++◌, Option, Some, None, slice_get, refl, sym, ap}
+use Rattle.std.proofs.Common.{subst, ◌∙◌}
 use Rattle.std.specs.List.{list_any}
 use Rattle.std.specs.Option.{option_map_or, option_and_then}
 use Rattle.std.specs.FinMap as tree
@@ -17,14 +18,14 @@ use Rattle.cluster_script.specs.NumberedRequests.{request_at}
 use Rattle.guest_driver.specs.declared.disk.Disk.{Disk}
 use Rattle.peer_proto.specs.declared.guest.DiskAsk.TheVariants as disk_asks
 use Rattle.sheep_node.specs.declared.ask.Ask.TheVariants as asks
-use Rattle.sheep_node.specs.declared.event.Event.{Event}
 use Rattle.sheep_world.specs.Asking.{ask_of_statement}
 use Rattle.sheep_world.specs.Effects.{open_disk_at, request_started}
 use Rattle.sheep_world.specs.EventKinds.{outcome_of_step}
 use Rattle.sheep_world.specs.HistoryAdditions.{begins_on, is_write, replies_grown, request_grown}
 use Rattle.sheep_world.specs.NodeCauses.{GuestAsks, world_after_cause}
 use Rattle.sheep_world.specs.World.{Host, World}
-use Rattle.sheep_world.proofs.EventInversion.{happens}
+use Rattle.sheep_world.proofs.ClientReads.{goes_by_kind}
+use Rattle.sheep_world.specs.RunsWithAsks.{Move}
 use Rattle.overlap_law.specs.AloneOnDisks.{HasItemsOn, ItemsAreOnTheirDisk}
 use Rattle.overlap_law.specs.DiskEvents.{IsUnderWay}
 use Rattle.overlap_law.specs.Headline.{ledger_of}
@@ -85,7 +86,7 @@ module _ (script : List Statement) (range : RunsAreInRange script) (req : ℕ) (
 
   keeps : IsKeptOnHeld script range req (inr checks) OnOwn
   keeps world began event made happened grows n host there up request got disk opened working others ends history was yet =
-      let kind = happens script event world made happened in
+      let kind = goes_by_kind script event world made happened in
       let vid : ℕ = disk.inode.vid in
       let held = working_held script range world began n host there up request.session disk opened working
       (no_command script range world began n host there req request got (inr checks)) in
@@ -126,7 +127,7 @@ module _ (script : List Statement) (range : RunsAreInRange script) (req : ℕ) (
       (begin_not req vid told (replied.replies_none script req found None after.outputs.replies)))
       (unbegun_on req vid history unbegun)
 
-  pub check_on-in_run : (events : List Event) (moment : MomentWithPast) → run_with_past script events ≡ Some moment → (n : ℕ) (host : Host)
+  pub check_on-in_run : (events : List Move) (moment : MomentWithPast) → run_with_past script events ≡ Some moment → (n : ℕ) (host : Host)
       → tree.get moment.world.hosts n ≡ Some host → host.is_lost ≡ false → (opened : Disk) → IsUnderWay host.node req opened
       → AreOn req opened.inode.vid (ledger_of moment.past.history)
   check_on-in_run events moment ran n host there up opened way =
@@ -138,15 +139,15 @@ module _ (script : List Statement) (range : RunsAreInRange script) (req : ℕ) (
 
 -- ---- of each request
 
-module _ (script : List Statement) (range : RunsAreInRange script) (events : List Event) (moment : MomentWithPast)
+module _ (script : List Statement) (range : RunsAreInRange script) (events : List Move) (moment : MomentWithPast)
     (ran : run_with_past script events ≡ Some moment) where
   module _ (n : ℕ) (host : Host) (there : tree.get moment.world.hosts n ≡ Some host) (up : host.is_lost ≡ false) (req : ℕ)
       (opened : Disk) (way : IsUnderWay host.node req opened) where
     by_writer : IsWriterAt script req → HasItemsOn req opened.inode.vid (ledger_of moment.past.history)
     by_writer (inl writes) = λ disk block place item got own.
         let (offset, payload, asked) = write_asks (request_at script req) writes in
-        ((own_items-in_run script range events moment ran).each n host there up req offset payload opened way asked disk block place item got
-        own).same
+        ((own_items-in_run script range events moment ran).each n host there up req offset payload opened way asked disk block place item
+        got own).same
     by_writer (inr checks) =
         items_on req opened.inode.vid (ledger_of moment.past.history)
         (check_on-in_run script range req checks events moment ran n host there up opened way)

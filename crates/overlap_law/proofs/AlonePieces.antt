@@ -3,8 +3,6 @@
 use Rattle.std.proofs.Common.{◌≡◌, ℕ, ◌*◌, ◌+◌, ◌/◌, ◌%◌, ◌^◌, ◌<◌, ◌≤◌, true, false, List, ◌∷◌, ◌++◌, length, Contains, Option}
 use Rattle.std.proofs.Common.{Some, slice_get}
 use Rattle.std.proofs.Common.{refl, sym, ap, subst, ◌∙◌, arith}
-use Rattle.std.specs.Option.{option_and_then}
-use Rattle.std.specs.FinMap as tree
 use Rattle.std.proofs.lemmas.Option.{same_Some}
 use Rattle.disk_history.specs.Changes.{items_in}
 use Rattle.disk_history.specs.Ledger.{Item, Ledger, is_item_of}
@@ -19,23 +17,19 @@ use Rattle.sheep_node.specs.declared.ask.Ask.{Ask}
 use Rattle.sheep_node.specs.declared.ask.Ask.TheVariants as asks
 use Rattle.sheep_node.specs.declared.course.Course.{Course}
 use Rattle.sheep_node.specs.declared.course.Course.TheVariants.{Driving}
-use Rattle.sheep_node.specs.declared.course.Request.{Request}
-use Rattle.sheep_node.specs.declared.event.Event.{Event}
 use Rattle.sheep_node.specs.SessionQueues.{session_among}
-use Rattle.sheep_world.specs.World.{Host}
-use Rattle.overlap_law.specs.AloneItems.{HasOwnItems, IsOwnItem}
+use Rattle.sheep_world.specs.RunsWithAsks.{Move}
+use Rattle.overlap_law.specs.AloneItems.{HasOwnItems}
 use Rattle.overlap_law.specs.Headline.{ledger_of}
 use Rattle.overlap_law.specs.MomentChanges as moments
 use Rattle.overlap_law.specs.MomentChanges.{RunsAreInRange}
 use Rattle.overlap_law.specs.Past.{MomentWithPast, run_with_past}
-use Rattle.overlap_law.specs.Pieces.{IsOn}
-use Rattle.overlap_law.specs.RequestsOfScript.{IsCourseOfAsk, IsDriverOf}
-use Rattle.overlap_law.specs.WrittenBlocks.{blocks_per_object, items_at}
+use Rattle.overlap_law.specs.RequestsOfScript.{IsCourseOfAsk, IsDriverOf, is_of_client}
 use Rattle.overlap_law.specs.WrittenPieces.{IsItemOfPiece, ItemsAreOfPieces}
 use Rattle.overlap_law.proofs.AloneBlocks.{item_of_piece}
 use Rattle.overlap_law.proofs.AloneHolders.{write_working}
 use Rattle.overlap_law.proofs.AloneItemsInRuns.{own_items-in_run}
-use Rattle.overlap_law.proofs.CoursesOfAsks.{IsPlacedIn}
+use Rattle.overlap_law.proofs.CoursesOfAsks.{IsPlacedIn, placed_as}
 use Rattle.overlap_law.proofs.CoursesOfScript.{asked_by, BeganOn, requests_placed}
 use Rattle.overlap_law.proofs.InsideDisks.{known_here}
 use Rattle.overlap_law.proofs.NoRecoveredDue.{began-with_past}
@@ -87,15 +81,19 @@ pub item_so : (ledger : Ledger) (req vid offset shift index unit place : ℕ) (p
 item_so ledger req vid offset shift index unit place payload disk item long whole inside all known got own =
     item_of_piece shift offset index unit vid vid payload item long whole inside
     (all vid (index * (2 ^ shift / 512) + unit) place item
-    (subst (λ (o : Option histories.Disk). slice_get (items_in o (index * (2 ^ shift / 512) + unit)) place ≡ Some item) (sym known) got) own)
+    (subst (λ (o : Option histories.Disk). slice_get (items_in o (index * (2 ^ shift / 512) + unit)) place ≡ Some item) (sym known) got)
+    own)
 
-pub items_of_pieces-in_run : (script : List Statement) → RunsAreInRange script → (events : List Event) (moment : MomentWithPast)
+pub items_of_pieces-in_run : (script : List Statement) → RunsAreInRange script → (events : List Move) (moment : MomentWithPast)
     → run_with_past script events ≡ Some moment → ItemsAreOfPieces (ledger_of moment.past.history) moment.world.hosts
 items_of_pieces-in_run script range events moment ran = record {
-  each = λ n host there up req index unit place offset request opened disk item payload stage piece rest before on course cut inside got own.
+  each =
+      λ n host there up req index unit place offset request opened disk item payload stage piece rest before on course cut inside got own.
       let began = began-with_past script events moment ran in
-      let (start, at, placed) = subst (IsPlacedIn (asked_by script) (BeganOn script moment.world.guests) req host.node.sessions) on.there
-      (requests_placed script range moment.world began n host there req) in
+      let (start, at, placed) = placed_as (asked_by script) (BeganOn script moment.world.guests) req
+      (session_among request.session host.node.sessions).disk request.course (ap is_of_client course)
+      (subst (IsPlacedIn (asked_by script) (BeganOn script moment.world.guests) req host.node.sessions) on.there
+      (requests_placed script range moment.world began n host there req)) in
       let asks = asks_on (asked_by script req) opened start request.course payload stage piece rest
       (subst (λ (o : Option Disk). IsCourseOfAsk (asked_by script req) o start request.course) on.on placed) course in
       let known = known_here script range moment.world began n host there request.session opened on.on in

@@ -1,5 +1,5 @@
--- In the middle of a step of a run in range the items of each request of the node are on the disk that its session has open alone: only writes
--- and checks have any.
+-- In the middle of a step of a run in range the items of each request of the node are on the disk that its session has open alone: only
+-- writes and checks have any.
 use Rattle.std.proofs.Common.{◌≡◌, inl, inr, ⊎_elim, ℕ, Bool, true, false, List, [], ◌++◌, Option, Some, None, option_map, refl, sym}
 use Rattle.std.proofs.Common.{ap, subst, ◌∙◌}
 use Rattle.std.specs.Prelude.{flat_map}
@@ -15,7 +15,6 @@ use Rattle.cluster_script.specs.NumberedRequests.{request_at}
 use Rattle.cluster_script.specs.Statements.{is_check}
 use Rattle.disk_history.specs.declared.event.HistEvent.{HistEvent}
 use Rattle.guest_driver.specs.declared.disk.Disk.{Disk}
-use Rattle.peer_proto.specs.declared.guest.GuestRsp.{GuestRsp}
 use Rattle.peer_proto.specs.declared.guest.VdiAsk.TheVariants as disk_commands
 use Rattle.sheep_node.specs.declared.ask.Ask.{Ask}
 use Rattle.sheep_node.specs.declared.ask.Ask.TheVariants as asks
@@ -23,7 +22,6 @@ use Rattle.sheep_node.specs.declared.check_write.CheckWrite.{CheckWrite}
 use Rattle.sheep_node.specs.declared.course.Course.{Course}
 use Rattle.sheep_node.specs.declared.course.Course.TheVariants.{Waiting, Driving, Commanding, Checking, DoingWork, AwaitingDecision}
 use Rattle.sheep_node.specs.declared.course.Request.{Request}
-use Rattle.sheep_node.specs.declared.event.Event.{Event}
 use Rattle.sheep_node.specs.declared.input.Input.TheVariants as inputs
 use Rattle.sheep_node.specs.CheckWrites.{check_write_on}
 use Rattle.sheep_node.specs.SessionQueues.{session_among}
@@ -33,8 +31,10 @@ use Rattle.sheep_world.specs.Began.{Began}
 use Rattle.sheep_world.specs.Effects.{open_disk_at}
 use Rattle.sheep_world.specs.HistoryAdditions.{check_write_grown}
 use Rattle.sheep_world.specs.NodeCauses.{NodeCause, GuestAsks, RequestComes, ReplyComes, LossIsTold, EntryIsRead, EntryIsPut, RecoveryTicks}
-use Rattle.sheep_world.specs.NodeCauses.{WorkIsRetried, input_of_cause, IsCause}
+use Rattle.sheep_world.specs.NodeCauses.{progress_at_cause}
+use Rattle.sheep_world.specs.NodeCauses.{WorkIsRetried, ClientAsks, input_of_cause, IsCause}
 use Rattle.sheep_world.specs.World.{Host, node_at}
+use Rattle.sheep_world.specs.RunsWithAsks.{Move}
 use Rattle.vdi_ops.specs.Op.{Op}
 use Rattle.overlap_law.specs.AloneOnDisks.{HasItemsOn}
 use Rattle.overlap_law.specs.Headline.{ledger_of}
@@ -51,7 +51,7 @@ use Rattle.overlap_law.proofs.AloneOnDisks.{AreOn, begins_none, check_on-in_run,
 use Rattle.overlap_law.proofs.AnswersInMoments.{not_lost}
 use Rattle.overlap_law.proofs.CausedWorks.{by_changes}
 use Rattle.overlap_law.proofs.CoursesAtChanges.{placed_in_chain}
-use Rattle.overlap_law.proofs.CoursesOfAsks.{ArePlaced, IsBrought, IsPlacedIn, PlacedSoFar}
+use Rattle.overlap_law.proofs.CoursesOfAsks.{ArePlaced, IsBrought, IsPlacedIn, PlacedSoFar, placed_by_ask, IsPlacedAs, IsBroughtAs}
 use Rattle.overlap_law.proofs.CoursesOfScript.{asked_by, BeganOn, brings, requests_placed}
 use Rattle.overlap_law.proofs.DisksOfWriters.{IsWriterAt, on_open_disk, plain_course}
 use Rattle.overlap_law.proofs.HistoryInMoments.{history_so}
@@ -62,6 +62,8 @@ use Rattle.overlap_law.proofs.ItemsOfRequests.{begins_write_of}
 use Rattle.overlap_law.proofs.NoRecoveredDue.{began-with_past}
 use Rattle.overlap_law.proofs.UnderWayInRuns.{writer_in_run}
 use Rattle.overlap_law.proofs.WholeInRuns.{may_change, sound_here}
+use Rattle.overlap_law.proofs.AsksInCauses.{no_such}
+use Rattle.overlap_law.proofs.PlacedAnew.{placed_anew, brought_anew}
 
 -- where a check is, that is no command: on the working disk that its session has open
 pub check_working : (asked : Option Ask) → asked ≡ Some (asks.Vdi disk_commands.Check) → (opened : Option Disk) (began : Option ℕ)
@@ -81,7 +83,7 @@ check_asked None is = absurd (cc (is))
 check_asked (Some (lines.Check session)) is = refl
 check_asked (Some s) is = absurd (cc (is))
 
-module _ (script : List Statement) (range : RunsAreInRange script) (events : List Event) (start : MomentWithPast)
+module _ (script : List Statement) (range : RunsAreInRange script) (events : List Move) (start : MomentWithPast)
     (ran : run_with_past script events ≡ Some start) (on : SteppingNode) (is : IsStepping script start.world on)
     (by : StepsByChanges on.cause) (so_far : StepState) (leads : LeadsInStep on (first_in_step on) so_far) where
   began : Began script start.world
@@ -107,6 +109,7 @@ module _ (script : List Statement) (range : RunsAreInRange script) (events : Lis
   copies_none vid (EntryIsPut entry) = refl
   copies_none vid RecoveryTicks = refl
   copies_none vid WorkIsRetried = refl
+  copies_none vid (ClientAsks req ask) = refl
 
   module _ (req : ℕ) (request : Request) (got : tree.get on.host.node.requests req ≡ Some request)
       (checks : is_check_at script req ≡ true) where
@@ -127,6 +130,7 @@ module _ (script : List Statement) (range : RunsAreInRange script) (events : Lis
     begin_on disk opened (EntryIsPut entry) caused = tt
     begin_on disk opened RecoveryTicks caused = tt
     begin_on disk opened WorkIsRetried caused = tt
+    begin_on disk opened (ClientAsks req ask) caused = tt
 
     on_there : (began_on : Option ℕ) (vid : ℕ)
         → IsCourseOfAsk (asked_by script req) (session_among request.session on.host.node.sessions).disk began_on request.course
@@ -150,11 +154,15 @@ module _ (script : List Statement) (range : RunsAreInRange script) (events : Lis
           → IsPlacedIn (asked_by script) (BeganOn script start.world.guests) req on.host.node.sessions o
           → IsPlacedIn (asked_by script) Begins req on.host.node.sessions o
       by_got None got placed = tt
-      by_got (Some request) got (disk, at, course) = (
-        disk,
-        λ vid checks same. on_there req request got checks disk vid course same,
-        course,
-      )
+      by_got (Some request) got is_placed =
+          placed_anew (asked_by script) (BeganOn script start.world.guests) Begins req
+          (session_among request.session on.host.node.sessions).disk request.course
+          (λ (was : IsPlacedAs (asked_by script) (BeganOn script start.world.guests) req
+          (session_among request.session on.host.node.sessions).disk request.course). (
+            was.0,
+            λ vid checks same. on_there req request got checks was.0 vid was.2 same,
+            was.2,
+          )) is_placed
 
   -- ---- a check that begins
 
@@ -167,7 +175,8 @@ module _ (script : List Statement) (range : RunsAreInRange script) (events : Lis
       (copies_none vid (GuestAsks asking other what))
       (begin_not req vid (added_at_cause script start.world (GuestAsks asking other what))
       (begins_none script range req checks (open_disk_at asking start.world) other own))
-      (unbegun_on req vid start.past.history (begins_first script range events start ran on is by so_far leads req asking other what caused own))
+      (unbegun_on req vid start.past.history (begins_first script range events start ran on is by so_far leads req asking other what caused
+      own))
   begins_on_disk (RequestComes name to asked) caused req session ask from vid checks = absurd (cc (from))
   begins_on_disk (ReplyComes name to rsp) caused req session ask from vid checks = absurd (cc (from))
   begins_on_disk (LossIsTold name packet) caused req session ask from vid checks = absurd (cc (from))
@@ -175,14 +184,20 @@ module _ (script : List Statement) (range : RunsAreInRange script) (events : Lis
   begins_on_disk (EntryIsPut entry) caused req session ask from vid checks = absurd (cc (from))
   begins_on_disk RecoveryTicks caused req session ask from vid checks = absurd (cc (from))
   begins_on_disk WorkIsRetried caused req session ask from vid checks = absurd (cc (from))
+  begins_on_disk (ClientAsks begins what) caused req session ask from vid checks =
+      let same : begins ≡ req = cc (from) in absurd (no_such caused is_check req same checks)
 
   brought : IsBrought (asked_by script) Begins (input_of_cause on.cause) on.host.node
   brought req session ask from =
-      let here = brings script start.world on.n on.host on.cause is.there is.caused req session ask from in (
+      brought_anew (asked_by script) (BeganOn script (progress_at_cause on.cause start.world)) Begins req
+      (session_among session on.host.node.sessions).disk ask
+      (λ (here : IsBroughtAs (asked_by script) (BeganOn script (progress_at_cause on.cause start.world)) req
+      (session_among session on.host.node.sessions).disk ask). (
         here.0,
         here.1,
         λ vid checks same. begins_on_disk on.cause is.caused req session ask from vid checks,
-      )
+      ))
+      (brings script start.world on.n on.host on.cause is.there is.caused req session ask from)
 
   abbrev told : List HistEvent
   told = flat_map (added_by_reply script start.world on.cause) so_far.outputs.replies
@@ -209,6 +224,7 @@ module _ (script : List Statement) (range : RunsAreInRange script) (events : Lis
   added_begins req (EntryIsPut entry) so = absurd (cc (so))
   added_begins req RecoveryTicks so = absurd (cc (so))
   added_begins req WorkIsRetried so = absurd (cc (so))
+  added_begins req (ClientAsks number asks) so = absurd (cc (so))
 
   told_none : (req : ℕ) → list_any (begins_write_of req) told ≡ false
   told_none req =
@@ -236,7 +252,9 @@ module _ (script : List Statement) (range : RunsAreInRange script) (events : Lis
         → HasItemsOn req opened.inode.vid (ledger_of (moment_in_step script on start so_far).past.history)
     check_here checks =
         let vid : ℕ = opened.inode.vid in
-        let (began_on, so, course) = subst (IsPlacedIn (asked_by script) Begins req so_far.node.sessions) got (placed req) in
+        let (began_on, so, course) = placed_by_ask (asked_by script) Begins req (asks.Vdi disk_commands.Check)
+        (check_asked (request_at script req) checks) (session_among request.session so_far.node.sessions).disk request.course
+        (subst (IsPlacedIn (asked_by script) Begins req so_far.node.sessions) got (placed req)) in
         let there = (plain_course (asked_by script req) (inr (check_asked (request_at script req) checks))
         (session_among request.session so_far.node.sessions).disk began_on request.course course).on in
         let same : began_on ≡ Some opened.inode.vid

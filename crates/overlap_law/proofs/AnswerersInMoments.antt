@@ -1,5 +1,6 @@
 -- In each run in range, and in the middle of its steps, a member that a recovery doesn't wait for came to its epoch.
-use Rattle.std.proofs.Common.{◌≡◌, ◌≢◌, ◌⊎◌, inl, inr, ⊎_elim, ℕ, ◌≤◌, ◌&&◌, not, Bool, true, false, List, Some, Contains, refl, sym, ap, subst, ◌∙◌}
+use Rattle.std.proofs.Common.{◌≡◌, ◌≢◌, ◌⊎◌, inl, inr, ⊎_elim, ℕ, ◌≤◌, ◌&&◌, not, Bool, true, false, List, Some, Contains, refl, sym, ap}
+use Rattle.std.proofs.Common.{subst, ◌∙◌}
 use Rattle.std.specs.FinMap as tree
 use Rattle.std.proofs.lemmas.Bool.{cases_eq, eqb-true}
 use Rattle.std.proofs.lemmas.Option.{same_Some}
@@ -29,7 +30,8 @@ use Rattle.sheep_world.specs.World.{Host}
 use Rattle.sheep_world.specs.Opening.{format_entry, initial_member_node, initial_world}
 use Rattle.sheep_world.specs.MembershipChanges.{lost_host}
 use Rattle.sheep_world.specs.Step.{EventOutcome}
-use Rattle.sheep_world.specs.NodeCauses.{NodeCause, GuestAsks, RequestComes, ReplyComes, LossIsTold, EntryIsRead, EntryIsPut, RecoveryTicks, WorkIsRetried, input_of_cause, IsCause, host_with_node}
+use Rattle.sheep_world.specs.NodeCauses.{NodeCause, GuestAsks, RequestComes, ReplyComes, LossIsTold, EntryIsRead, EntryIsPut, RecoveryTicks}
+use Rattle.sheep_world.specs.NodeCauses.{WorkIsRetried, ClientAsks, input_of_cause, IsCause, host_with_node}
 use Rattle.sheep_world.specs.EventKinds.{log_after_return}
 use Rattle.sheep_world.specs.HostChanges.{host_after_return, joined_host}
 use Rattle.sheep_world.specs.Began.{Began}
@@ -59,18 +61,20 @@ HaveCome hosts recovery = (other : NodeId) → has_node other recovery.members �
 
 -- where one host is another, the recoveries of the others have come as before
 one_answers : (before after : MomentWithPast) (k : ℕ) (new : Host) → EpochsRise before.world.hosts after.world.hosts
-    → after.world.hosts ≡ tree.insert before.world.hosts k new → AnswerersHaveCome before.world.hosts → HaveCome after.world.hosts new.node.recovery
+    → after.world.hosts ≡ tree.insert before.world.hosts k new → AnswerersHaveCome before.world.hosts
+    → HaveCome after.world.hosts new.node.recovery
     → AnswerersHaveCome after.world.hosts
 one_answers before after k new rises hosts holds own = record {
   each = λ n now there other member none. ⊎_elim
       (λ (is : n ≡ k).
-      let at : tree.get after.world.hosts k ≡ Some new = ap (λ (held : Hosts). tree.get held k) hosts ∙ get-insert_same before.world.hosts k new in
+      let at : tree.get after.world.hosts k ≡ Some new = ap (λ (held : Hosts). tree.get held k) hosts
+      ∙ get-insert_same before.world.hosts k new in
       let same : new ≡ now = same_Some new now (sym at ∙ ap (tree.get after.world.hosts) (sym is) ∙ there) in
       subst (λ (h : Host). HaveCome after.world.hosts h.node.recovery) same own other member none)
       (λ (apart : n ≢ k).
       still_reached before.world.hosts after.world.hosts rises now.node.recovery.epoch other
-      (holds.each n now (sym (ap (λ (held : Hosts). tree.get held n) hosts ∙ get-insert_other before.world.hosts k new n apart) ∙ there) other member none))
-      (cases_eq n k);
+      (holds.each n now (sym (ap (λ (held : Hosts). tree.get held n) hosts ∙ get-insert_other before.world.hosts k new n apart) ∙ there)
+      other member none)) (cases_eq n k);
 }
 
 same_answers : (before after : MomentWithPast) → EpochsRise before.world.hosts after.world.hosts → after.world.hosts ≡ before.world.hosts
@@ -82,7 +86,8 @@ same_answers before after rises same holds = record {
 }
 
 -- a recovery that began waits for every other member
-begun_answers : (hosts : Hosts) (n : ℕ) (host : Host) (me : NodeId) → tree.get hosts n ≡ Some host → me.0 ≡ n → host.node.recovery.epoch ≤ host.node.peer.epoch
+begun_answers : (hosts : Hosts) (n : ℕ) (host : Host) (me : NodeId) → tree.get hosts n ≡ Some host → me.0 ≡ n
+    → host.node.recovery.epoch ≤ host.node.peer.epoch
     → IsBegun me host.node.recovery → HaveCome hosts host.node.recovery
 begun_answers hosts n host me there own entered begun other member none =
     let waits : (has_node other host.node.recovery.members && not (is_same_node me other)) ≡ false
@@ -90,7 +95,8 @@ begun_answers hosts n host me there own entered begun other member none =
     ∙ ap (has_node other) (sym begun.waiting) ∙ none in
     by_node (has_node other host.node.recovery.members) (is_same_node me other) refl member waits
   where
-    by_node : (a b : Bool) → is_same_node me other ≡ b → a ≡ true → (a && not b) ≡ false → has_reached hosts host.node.recovery.epoch other ≡ true
+    by_node : (a b : Bool) → is_same_node me other ≡ b → a ≡ true → (a && not b) ≡ false
+        → has_reached hosts host.node.recovery.epoch other ≡ true
     by_node true true same member waits =
         let is : other.0 ≡ n = eqb-true other.0 me.0 same ∙ own in
         reached_by hosts host.node.recovery.epoch other host (ap (tree.get hosts) is ∙ there) entered
@@ -104,7 +110,8 @@ rsp_or none _ = none
 module _ (script : List Statement) (range : RunsAreInRange script) (start : MomentWithPast) (began : Began script start.world) where
   -- ---- a step
 
-  module _ (stepping : SteppingNode) (is : IsStepping script start.world stepping) (told : MessagesAreTold start.world.hosts start.world.wire) where
+  module _ (stepping : SteppingNode) (is : IsStepping script start.world stepping)
+      (told : MessagesAreTold start.world.hosts start.world.wire) where
     abbrev hosts : Hosts
     hosts = start.world.hosts
 
@@ -113,7 +120,8 @@ module _ (script : List Statement) (range : RunsAreInRange script) (start : Mome
 
     -- who was heard is in the recovery's epoch
     heard_reached : (cause : NodeCause) → IsCause script start.world stepping.n stepping.host cause → (other : NodeId)
-        → IsHeard (input_of_cause cause) stepping.host.node.recovery.unanswered other → has_reached hosts stepping.host.node.recovery.epoch other ≡ true
+        → IsHeard (input_of_cause cause) stepping.host.node.recovery.unanswered other
+        → has_reached hosts stepping.host.node.recovery.epoch other ≡ true
     heard_reached (GuestAsks session req ask) so other heard = let from = heard.from in absurd (cc (from))
     heard_reached (RequestComes name to request) so other heard = let from = heard.from in absurd (cc (from))
     heard_reached (ReplyComes name from rsp) so other heard =
@@ -122,10 +130,12 @@ module _ (script : List Statement) (range : RunsAreInRange script) (start : Mome
         let is_said : said ≡ rsp = same_said said rsp (sym says ∙ so.read) in
         let number : name.number ≡ heard.message.request.number
         = sym spelled ∙ ap (λ (r : PeerRsp). r.number) is_said ∙ ap (λ (r : PeerRsp). r.number) same ∙ sym heard.number in
-        let name_so : name ≡ message_name stepping.n heard.message.request.number = λ i. record { sender = record { 0 = so.here i }; number = number i } in
+        let name_so : name ≡ message_name stepping.n heard.message.request.number = λ i.
+        record { sender = record { 0 = so.here i }; number = number i } in
         let answering : IsAnswering start.world.wire (message_name stepping.n heard.message.request.number) from rsp
         = record { bytes = so.bytes; there = ap (tree.get start.world.wire) (sym name_so) ∙ so.there; spelled = so.read } in
-        let (own, reached) = told.told stepping.n stepping.host is.there (not_lost stepping.host (known_step script range start.world began stepping is).up)
+        let (own, reached) = told.told stepping.n stepping.host is.there
+        (not_lost stepping.host (known_step script range start.world began stepping is).up)
         heard.message heard.there from rsp answering in
         let no : tells_refusal rsp.say ≡ false = ap (λ (r : PeerRsp). tells_refusal r.say) same ∙ ap tells_refusal heard.said in
         let epoch : heard.message.request.epoch.0 ≡ stepping.host.node.recovery.epoch
@@ -137,6 +147,7 @@ module _ (script : List Statement) (range : RunsAreInRange script) (start : Mome
     heard_reached (EntryIsPut entry) so other heard = let from = heard.from in absurd (cc (from))
     heard_reached RecoveryTicks so other heard = let from = heard.from in absurd (cc (from))
     heard_reached WorkIsRetried so other heard = let from = heard.from in absurd (cc (from))
+    heard_reached (ClientAsks req ask) so other heard = let from = heard.from in absurd (cc (from))
 
     module _ (so_far : StepState) (same : so_far.node.recovery ≡ (first_in_step stepping).node.recovery)
         (rises : EpochsRise hosts (moment_in_step script stepping start so_far).world.hosts)
@@ -154,10 +165,11 @@ module _ (script : List Statement) (range : RunsAreInRange script) (start : Mome
       going_answers going other member none =
           let was_member : has_node other stepping.host.node.recovery.members ≡ true = ap (has_node other) (sym going.members) ∙ member in
           let before : has_reached hosts stepping.host.node.recovery.epoch other ≡ true = ⊎_elim
-          (λ (old : has_node other stepping.host.node.recovery.lists.waiting ≡ false). holds.each stepping.n stepping.host is.there other was_member old)
-          (λ (heard : IsHeard (input_of_cause stepping.cause) stepping.host.node.recovery.unanswered other). heard_reached stepping.cause is.caused other heard)
-          (going.heard other none) in
-          ap (λ (e : ℕ). has_reached then e other) going.epoch ∙ still_reached hosts then rises stepping.host.node.recovery.epoch other before
+          (λ (old : has_node other stepping.host.node.recovery.lists.waiting ≡ false). holds.each stepping.n stepping.host is.there other
+          was_member old) (λ (heard : IsHeard (input_of_cause stepping.cause) stepping.host.node.recovery.unanswered other). heard_reached
+          stepping.cause is.caused other heard) (going.heard other none) in
+          ap (λ (e : ℕ). has_reached then e other) going.epoch ∙ still_reached hosts then rises stepping.host.node.recovery.epoch other
+          before
 
       anew_answers : (me : NodeId) → me.0 ≡ stepping.n → IsBegun me so_far.node.recovery → HaveCome then so_far.node.recovery
       anew_answers me own begun =
@@ -167,7 +179,8 @@ module _ (script : List Statement) (range : RunsAreInRange script) (start : Mome
       step_answers = by_moves (recovery_moves (input_of_cause stepping.cause) stepping.host.node)
         where
           by_moves : IsGoingOn (input_of_cause stepping.cause) stepping.host.node (first_in_step stepping).node.recovery
-              ⊎ IsBegun stepping.host.node.recovery.me (first_in_step stepping).node.recovery ⊎ IsBegun stepping.host.node.me (first_in_step stepping).node.recovery
+              ⊎ IsBegun stepping.host.node.recovery.me (first_in_step stepping).node.recovery
+              ⊎ IsBegun stepping.host.node.me (first_in_step stepping).node.recovery
               → HaveCome then so_far.node.recovery
           by_moves (inl going) = going_answers (subst (IsGoingOn (input_of_cause stepping.cause) stepping.host.node) (sym same) going)
           by_moves (inr (inl begun)) =
@@ -180,13 +193,14 @@ module _ (script : List Statement) (range : RunsAreInRange script) (start : Mome
 
   -- ---- each change
 
-  change_answered : {before after : MomentWithPast} → MomentChange script start before after → MessagesAreTold before.world.hosts before.world.wire
+  change_answered : {before after : MomentWithPast} → MomentChange script start before after
+      → MessagesAreTold before.world.hosts before.world.wire
       → AnswerersHaveCome before.world.hosts → AnswerersHaveCome after.world.hosts
   change_answered {before} {after} (moments.StepBegins stepping is by) told holds =
       let change : MomentChange script start before after = moments.StepBegins stepping is by in
       let rises = epochs_rise script range start began change in
-      one_answers start (moment_in_step script stepping start (first_in_step stepping)) stepping.n (host_with_node stepping.host (first_in_step stepping).node)
-      rises refl holds
+      one_answers start (moment_in_step script stepping start (first_in_step stepping)) stepping.n
+      (host_with_node stepping.host (first_in_step stepping).node) rises refl holds
       (step_answers stepping is told (first_in_step stepping) refl rises (hosts_after_sound script range start began change) holds)
   change_answered (moments.StepGoesOn stepping so_far next is by within) told holds =
       let was = host_with_node stepping.host so_far.node in
@@ -195,29 +209,36 @@ module _ (script : List Statement) (range : RunsAreInRange script) (start : Mome
       let after = moment_in_step script stepping start next in
       let rises = epochs_rise script range start began (moments.StepGoesOn stepping so_far next is by within) in
       let same : so_far.node.recovery ≡ next.node.recovery
-      = ap (λ (u : Untouched). u.recovery) ((in_order_so_far so_far within.leads).same ∙ sym (in_order_so_far next (changes.Then within.leads within.change)).same) in
+      = ap (λ (u : Untouched). u.recovery) ((in_order_so_far so_far within.leads).same
+      ∙ sym (in_order_so_far next (changes.Then within.leads within.change)).same) in
       one_answers before after stepping.n now rises (sym (insert-insert start.world.hosts stepping.n was now)) holds
       (λ other member none. still_reached before.world.hosts after.world.hosts rises next.node.recovery.epoch other
-      (subst (HaveCome before.world.hosts) same (holds.each stepping.n was (get-insert_same start.world.hosts stepping.n was)) other member none))
+      (subst (HaveCome before.world.hosts) same (holds.each stepping.n was (get-insert_same start.world.hosts stepping.n was)) other member
+      none))
   change_answered {before} {after} (moments.StepIsMade stepping is by) told holds =
       let change : MomentChange script start before after = moments.StepIsMade stepping is by in
       let rises = epochs_rise script range start began change in
-      one_answers start (moment_in_step script stepping start (last_in_step stepping)) stepping.n (host_with_node stepping.host (last_in_step stepping).node)
-      rises refl holds
+      one_answers start (moment_in_step script stepping start (last_in_step stepping)) stepping.n
+      (host_with_node stepping.host (last_in_step stepping).node) rises refl holds
       (step_answers stepping is told (last_in_step stepping) (step_recovery (input_of_cause stepping.cause) stepping.host.node) rises
       (hosts_after_sound script range start began change) holds)
   change_answered {before} {after} (moments.LossIsUntold event made happened h) told holds =
-      same_answers before after (epochs_rise script range start began (moments.LossIsUntold event made happened h)) (ap (λ (m : EventOutcome). m.world.hosts) (sym h.made_so)) holds
+      same_answers before after (epochs_rise script range start began (moments.LossIsUntold event made happened h))
+      (ap (λ (m : EventOutcome). m.world.hosts) (sym h.made_so)) holds
   change_answered {before} {after} (moments.DeliveryIsUnread event made happened h) told holds =
-      same_answers before after (epochs_rise script range start began (moments.DeliveryIsUnread event made happened h)) (ap (λ (m : EventOutcome). m.world.hosts) (sym h.made_so)) holds
+      same_answers before after (epochs_rise script range start began (moments.DeliveryIsUnread event made happened h))
+      (ap (λ (m : EventOutcome). m.world.hosts) (sym h.made_so)) holds
   change_answered {before} {after} (moments.NodeIsLost event made happened h) told holds =
       let rises = epochs_rise script range start began (moments.NodeIsLost event made happened h) in
       one_answers before after h.n (lost_host h.host) rises (ap (λ (m : EventOutcome). m.world.hosts) (sym h.made_so)) holds
-      (λ other member none. still_reached before.world.hosts after.world.hosts rises h.host.node.recovery.epoch other (holds.each h.n h.host h.there other member none))
+      (λ other member none. still_reached before.world.hosts after.world.hosts rises h.host.node.recovery.epoch other
+      (holds.each h.n h.host h.there other member none))
   change_answered {before} {after} (moments.NodeLeaves event made happened h) told holds =
-      same_answers before after (epochs_rise script range start began (moments.NodeLeaves event made happened h)) (ap (λ (m : EventOutcome). m.world.hosts) (sym h.made_so)) holds
+      same_answers before after (epochs_rise script range start began (moments.NodeLeaves event made happened h))
+      (ap (λ (m : EventOutcome). m.world.hosts) (sym h.made_so)) holds
   change_answered {before} {after} (moments.NodeIsReweighted event made happened h) told holds =
-      same_answers before after (epochs_rise script range start began (moments.NodeIsReweighted event made happened h)) (ap (λ (m : EventOutcome). m.world.hosts) (sym h.made_so)) holds
+      same_answers before after (epochs_rise script range start began (moments.NodeIsReweighted event made happened h))
+      (ap (λ (m : EventOutcome). m.world.hosts) (sym h.made_so)) holds
   change_answered {before} {after} (moments.NodeJoins event made happened h) told holds =
       one_answers before after h.n (joined_host script h.n) (epochs_rise script range start began (moments.NodeJoins event made happened h))
       (ap (λ (m : EventOutcome). m.world.hosts) (sym h.made_so)) holds (λ other member none. absurd (cc (member)))
@@ -225,15 +246,18 @@ module _ (script : List Statement) (range : RunsAreInRange script) (start : Mome
       let change : MomentChange script start before after = moments.NodeComesBack event made happened h in
       let log = log_after_return script h.n start.world in
       let now = host_after_return log h.host in
-      let hosts_so : after.world.hosts ≡ tree.insert before.world.hosts h.n now = ap (λ (m : EventOutcome). m.world.hosts) (sym h.made_so) in
-      let there : tree.get after.world.hosts h.n ≡ Some now = ap (λ (held : Hosts). tree.get held h.n) hosts_so ∙ get-insert_same before.world.hosts h.n now in
+      let hosts_so : after.world.hosts ≡ tree.insert before.world.hosts h.n now = ap (λ (m : EventOutcome). m.world.hosts)
+      (sym h.made_so) in
+      let there : tree.get after.world.hosts h.n ≡ Some now = ap (λ (held : Hosts). tree.get held h.n) hosts_so
+      ∙ get-insert_same before.world.hosts h.n now in
       let begun : IsBegun h.host.node.me now.node.recovery
       = subst (IsBegun h.host.node.me) (sym (step_recovery (inputs.Back log) h.host.node)) (back_begun log h.host.node) in
       one_answers before after h.n now (epochs_rise script range start began change) hosts_so holds
       (begun_answers after.world.hosts h.n now h.host.node.me there (knows_its_number script start.world began h.n h.host h.there)
       ((hosts_after_sound script range start began change).each h.n now there).sound.recovers.entered begun)
   change_answered {before} {after} (moments.PhaseEnds event made happened h) told holds =
-      same_answers before after (epochs_rise script range start began (moments.PhaseEnds event made happened h)) (ap (λ (m : EventOutcome). m.world.hosts) (sym h.made_so)) holds
+      same_answers before after (epochs_rise script range start began (moments.PhaseEnds event made happened h))
+      (ap (λ (m : EventOutcome). m.world.hosts) (sym h.made_so)) holds
 
 -- ---- every moment
 
@@ -243,7 +267,8 @@ pub record AnswersHold (moment : MomentWithPast) : Type 0 where
   pub answered : AnswerersHaveCome moment.world.hosts
 
 -- an opening member has recovered nothing yet
-member_recovery : (script : List Statement) (member : Member) → (initial_member_node script member).recovery ≡ recoveries.initial_recovery member.node
+member_recovery : (script : List Statement) (member : Member)
+    → (initial_member_node script member).recovery ≡ recoveries.initial_recovery member.node
 unfolding entry_read
 member_recovery script member = step_recovery (inputs.LogEntry (format_entry script)) (nodes.initial_node member.node (tries_of script))
 

@@ -1,6 +1,7 @@
--- In each run in range, and in the middle of its steps, a member that a recovery doesn't wait for came to its epoch: its list was told by a node
--- that was in that epoch.
-use Rattle.std.proofs.Common.{◌≡◌, ◌≢◌, ◌⊎◌, inl, inr, ⊎_elim, arith, ℕ, ◌+◌, ◌≤◌, ◌<◌, not, true, false, List, [], fold, length, Contains, Some, Ok, refl, sym, ap, subst, ◌∙◌}
+-- In each run in range, and in the middle of its steps, a member that a recovery doesn't wait for came to its epoch: its list was told by a
+-- node that was in that epoch.
+use Rattle.std.proofs.Common.{◌≡◌, ◌≢◌, ◌⊎◌, inl, inr, ⊎_elim, arith, ℕ, ◌+◌, ◌≤◌, ◌<◌, not, true, false, List, [], fold, length, Contains}
+use Rattle.std.proofs.Common.{Some, Ok, refl, sym, ap, subst, ◌∙◌}
 use Rattle.std.specs.FinMap as tree
 use Rattle.std.proofs.lemmas.Bool.{cases_eq, and_parts, not-true}
 use Rattle.std.proofs.lemmas.Option.{same_Some}
@@ -33,7 +34,8 @@ use Rattle.sheep_world.specs.World.{Host, is_host_up}
 use Rattle.sheep_world.specs.MembershipChanges.{lost_host}
 use Rattle.sheep_world.specs.NodeSteps.{request_name, wire_with_request}
 use Rattle.sheep_world.specs.Step.{EventOutcome}
-use Rattle.sheep_world.specs.NodeCauses.{NodeCause, GuestAsks, RequestComes, ReplyComes, LossIsTold, EntryIsRead, EntryIsPut, RecoveryTicks, WorkIsRetried, input_of_cause, wire_at_cause, wire_after_cause, host_with_node}
+use Rattle.sheep_world.specs.NodeCauses.{NodeCause, GuestAsks, RequestComes, ReplyComes, LossIsTold, EntryIsRead, EntryIsPut, RecoveryTicks}
+use Rattle.sheep_world.specs.NodeCauses.{WorkIsRetried, ClientAsks, input_of_cause, wire_at_cause, wire_after_cause, host_with_node}
 use Rattle.sheep_world.specs.EventKinds.{log_after_return}
 use Rattle.sheep_world.specs.HostChanges.{host_after_return, joined_host}
 use Rattle.sheep_world.specs.Began.{Began}
@@ -43,7 +45,8 @@ use Rattle.overlap_law.specs.Reached.{Hosts}
 use Rattle.overlap_law.specs.Each.{EachUp, has_reached}
 use Rattle.overlap_law.specs.Packets.{Wire, IsAsking, IsAnswering}
 use Rattle.overlap_law.specs.Past.{MomentWithPast}
-use Rattle.overlap_law.specs.StepMoments.{SteppingNode, IsStepping, StepsByChanges, StepsAtOnce, first_in_step, last_in_step, IsWithinStep, moment_in_step}
+use Rattle.overlap_law.specs.StepMoments.{SteppingNode, IsStepping, StepsByChanges, StepsAtOnce, first_in_step, last_in_step, IsWithinStep}
+use Rattle.overlap_law.specs.StepMoments.{moment_in_step}
 use Rattle.overlap_law.specs.MomentChanges as moments
 use Rattle.overlap_law.specs.MomentChanges.{MomentChange, RunsAreInRange}
 use Rattle.overlap_law.proofs.EpochsRise.{EpochsRise, epochs_rise}
@@ -54,8 +57,8 @@ use Rattle.overlap_law.proofs.SendsOfChanges.{in_order_so_far}
 use Rattle.overlap_law.proofs.ToldBefore.{reached_by, still_reached, of_own_epoch, IsNewAnswer, asked_before, told_before}
 use Rattle.overlap_law.proofs.TrafficOfChanges.{traffic}
 
--- the messages of a node's recovery have numbers that it gave; they are in the wire as they were sent, or as a reply of the node that they went
--- to, which if it is no refusal was in the epoch of the message
+-- the messages of a node's recovery have numbers that it gave; they are in the wire as they were sent, or as a reply of the node that they
+-- went to, which if it is no refusal was in the epoch of the message
 pub record MessagesAreTold (hosts : Hosts) (wire : Wire) : Type 0 where
   pub given : EachUp hosts (λ n node. (message : Message) → Contains node.recovery.unanswered message → message.request.number < node.sends)
   pub asked : EachUp hosts (λ n node. (message : Message) → Contains node.recovery.unanswered message → (to : NodeId) (request : PeerReq)
@@ -92,10 +95,12 @@ same_came before after same n now there up message among =
     inl (record { host = now; there = ap (λ (held : Hosts). tree.get held n) (sym same) ∙ there; up = up; among = among })
 
 one_came : (before after : MomentWithPast) (k : ℕ) (new : Host) → after.world.hosts ≡ tree.insert before.world.hosts k new
-    → (new.is_lost ≡ false → (message : Message) → Contains new.node.recovery.unanswered message → CameSo before after k new message) → MessagesCame before after
+    → (new.is_lost ≡ false → (message : Message) → Contains new.node.recovery.unanswered message → CameSo before after k new message)
+    → MessagesCame before after
 one_came before after k new hosts own n now there up message among = ⊎_elim
     (λ (is : n ≡ k).
-    let at : tree.get after.world.hosts k ≡ Some new = ap (λ (held : Hosts). tree.get held k) hosts ∙ get-insert_same before.world.hosts k new in
+    let at : tree.get after.world.hosts k ≡ Some new = ap (λ (held : Hosts). tree.get held k) hosts
+    ∙ get-insert_same before.world.hosts k new in
     let same : new ≡ now = same_Some new now (sym at ∙ ap (tree.get after.world.hosts) (sym is) ∙ there) in
     let so : CameSo before after k now message
     = subst (λ (h : Host). Contains h.node.recovery.unanswered message → CameSo before after k h message) same
@@ -122,6 +127,7 @@ no_tick (EntryIsRead entry) by is = absurd (cc (is))
 no_tick (EntryIsPut entry) by is = absurd by
 no_tick RecoveryTicks by is = absurd by
 no_tick WorkIsRetried by is = absurd (cc (is))
+no_tick (ClientAsks req ask) by is = absurd (cc (is))
 
 -- and a step at once is on no reply
 pub no_reply : {P : Type 0} (cause : NodeCause) → StepsAtOnce cause → (rsp : PeerRsp) → input_of_cause cause ≡ inputs.Reply rsp → P
@@ -133,6 +139,7 @@ no_reply (EntryIsRead entry) by rsp is = absurd by
 no_reply (EntryIsPut entry) by rsp is = absurd (cc (is))
 no_reply RecoveryTicks by rsp is = absurd (cc (is))
 no_reply WorkIsRetried by rsp is = absurd by
+no_reply (ClientAsks req ask) by rsp is = absurd by
 
 -- a host that is up isn't lost
 pub not_lost : (host : Host) → is_host_up host ≡ true → host.is_lost ≡ false
@@ -146,7 +153,8 @@ ticked_sends node message among =
     let ticked = on_recover_tick (at_first node) in
     let sent : Contains ticked.outputs.sends (message.to, message.request)
     = Contains-map (λ (m : Message). (m.to, m.request)) (tick_messages node.sends (recovery_state_of node)) message among in
-    cond_either (λ (so_far : StepState). Contains so_far.outputs.sends (message.to, message.request)) (is_due ticked.node) (with_recovered ticked) ticked sent sent
+    cond_either (λ (so_far : StepState). Contains so_far.outputs.sends (message.to, message.request)) (is_due ticked.node)
+    (with_recovered ticked) ticked sent sent
 
 abbrev pub receiver_or : NodeId → Packet → NodeId
 receiver_or none (Request to bytes) = to
@@ -161,19 +169,23 @@ module _ (script : List Statement) (range : RunsAreInRange script) (start : Mome
     known : IsKnownStep script start.world stepping
     known = known_step script range start.world began stepping is
 
-    awaited_still : (message : Message) → Contains stepping.host.node.recovery.unanswered message → WasAwaited start.world.hosts stepping.n message
+    awaited_still : (message : Message) → Contains stepping.host.node.recovery.unanswered message
+        → WasAwaited start.world.hosts stepping.n message
     awaited_still message among = record { host = stepping.host; there = is.there; up = not_lost stepping.host known.up; among = among }
 
     abbrev moment_then : StepState → MomentWithPast
     moment_then so_far = moment_in_step script stepping start so_far
 
     first_came : StepsByChanges stepping.cause → (message : Message) → Contains (first_in_step stepping).node.recovery.unanswered message
-        → CameSo start (moment_then (first_in_step stepping)) stepping.n (host_with_node stepping.host (first_in_step stepping).node) message
+        → CameSo start (moment_then (first_in_step stepping)) stepping.n (host_with_node stepping.host (first_in_step stepping).node)
+        message
     first_came by message among = by_moves (recovery_moves (input_of_cause stepping.cause) stepping.host.node)
       where
         by_moves : IsGoingOn (input_of_cause stepping.cause) stepping.host.node (first_in_step stepping).node.recovery
-            ⊎ IsBegun stepping.host.node.recovery.me (first_in_step stepping).node.recovery ⊎ IsBegun stepping.host.node.me (first_in_step stepping).node.recovery
-            → CameSo start (moment_then (first_in_step stepping)) stepping.n (host_with_node stepping.host (first_in_step stepping).node) message
+            ⊎ IsBegun stepping.host.node.recovery.me (first_in_step stepping).node.recovery
+            ⊎ IsBegun stepping.host.node.me (first_in_step stepping).node.recovery
+            → CameSo start (moment_then (first_in_step stepping)) stepping.n (host_with_node stepping.host (first_in_step stepping).node)
+            message
         by_moves (inl going) = ⊎_elim
             (λ (old : Contains stepping.host.node.recovery.unanswered message). inl (awaited_still message old))
             (λ (new : IsTicked (input_of_cause stepping.cause) stepping.host.node message). no_tick stepping.cause by new.0)
@@ -185,16 +197,19 @@ module _ (script : List Statement) (range : RunsAreInRange script) (start : Mome
     sent_now : (message : Message) → (sends : List (NodeId × PeerReq)) → AreNumberedFrom stepping.host.node.sends sends
         → sends ≡ (last_in_step stepping).outputs.sends → Contains sends (message.to, message.request) → (wire : Wire)
         → fold wire_with_request start.world.wire sends ≡ wire
-        → IsSentNow (moment_then (last_in_step stepping)).world.hosts wire stepping.n (host_with_node stepping.host (last_in_step stepping).node) message
+        → IsSentNow (moment_then (last_in_step stepping)).world.hosts wire stepping.n
+        (host_with_node stepping.host (last_in_step stepping).node) message
     sent_now message sends numbers same among wire wire_so =
         let send : NodeId × PeerReq = (message.to, message.request) in
-        let there : Contains (last_in_step stepping).outputs.sends send = subst (λ (all : List (NodeId × PeerReq)). Contains all send) same among in
+        let there : Contains (last_in_step stepping).outputs.sends send = subst (λ (all : List (NodeId × PeerReq)). Contains all send) same
+        among in
         let from : message.request.from ≡ record { 0 = stepping.n }
         = known.asking.own send there ∙ (λ i. record { 0 = known.numbered i }) in
         let name : request_name message.request ≡ message_name stepping.n message.request.number
         = ap (λ (k : NodeId). record { sender = k; number = message.request.number }) from in
         let (low, high) = numbers_within stepping.host.node.sends (last_in_step stepping).outputs.sends send known.asking.numbers there in
-        let count : (last_in_step stepping).node.sends ≡ stepping.host.node.sends + length (last_in_step stepping).outputs.sends = known.asking.count_so in
+        let count : (last_in_step stepping).node.sends ≡ stepping.host.node.sends + length
+        (last_in_step stepping).outputs.sends = known.asking.count_so in
         record {
           there = ap (tree.get wire) (sym name) ∙ ap (λ (w : Wire). tree.get w (request_name message.request)) (sym wire_so)
               ∙ sends_there stepping.host.node.sends sends start.world.wire send numbers among;
@@ -224,18 +239,22 @@ module _ (script : List Statement) (range : RunsAreInRange script) (start : Mome
         by_tick RecoveryTicks own so new =
             let stepped : (last_in_step stepping).outputs.sends ≡ (node_step inputs.RecoverTick stepping.host.node).outputs.sends
             = ap (λ (cause : NodeCause). (node_step (input_of_cause cause) stepping.host.node).outputs.sends) own in
-            let wire : fold wire_with_request start.world.wire (last_in_step stepping).outputs.sends ≡ (moment_then (last_in_step stepping)).world.wire
+            let wire : fold wire_with_request start.world.wire (last_in_step stepping).outputs.sends
+            ≡ (moment_then (last_in_step stepping)).world.wire
             = sym (ap (λ (cause : NodeCause). wire_after_cause cause (moment_then (last_in_step stepping)).world.hosts stepping.host.node
             (fold wire_with_request (wire_at_cause cause start.world.wire) (last_in_step stepping).outputs.sends)) own) in
             sent_now message (last_in_step stepping).outputs.sends known.asking.numbers refl
-            (subst (λ (all : List (NodeId × PeerReq)). Contains all (message.to, message.request)) (sym stepped) (ticked_sends stepping.host.node message new))
-            (moment_then (last_in_step stepping)).world.wire wire
+            (subst (λ (all : List (NodeId × PeerReq)). Contains all (message.to, message.request)) (sym stepped)
+            (ticked_sends stepping.host.node message new)) (moment_then (last_in_step stepping)).world.wire wire
         by_tick WorkIsRetried own so new = absurd (cc (so))
+        by_tick (ClientAsks req ask) own so new = absurd (cc (so))
 
         by_moves : IsGoingOn (input_of_cause stepping.cause) stepping.host.node (first_in_step stepping).node.recovery
-            ⊎ IsBegun stepping.host.node.recovery.me (first_in_step stepping).node.recovery ⊎ IsBegun stepping.host.node.me (first_in_step stepping).node.recovery
+            ⊎ IsBegun stepping.host.node.recovery.me (first_in_step stepping).node.recovery
+            ⊎ IsBegun stepping.host.node.me (first_in_step stepping).node.recovery
             → Contains (first_in_step stepping).node.recovery.unanswered message
-            → CameSo start (moment_then (last_in_step stepping)) stepping.n (host_with_node stepping.host (last_in_step stepping).node) message
+            → CameSo start (moment_then (last_in_step stepping)) stepping.n (host_with_node stepping.host (last_in_step stepping).node)
+            message
         by_moves (inl going) there = ⊎_elim
             (λ (old : Contains stepping.host.node.recovery.unanswered message). inl (awaited_still message old))
             (λ (new : IsTicked (input_of_cause stepping.cause) stepping.host.node message). inr (by_tick stepping.cause refl new.0 new.1))
@@ -243,13 +262,15 @@ module _ (script : List Statement) (range : RunsAreInRange script) (start : Mome
         by_moves (inr (inl begun)) there = none_among (first_in_step stepping).node.recovery.unanswered begun.unanswered message there
         by_moves (inr (inr begun)) there = none_among (first_in_step stepping).node.recovery.unanswered begun.unanswered message there
 
-  goes_on_came : (stepping : SteppingNode) → IsStepping script start.world stepping → (so_far next : StepState) → IsWithinStep stepping so_far next
+  goes_on_came : (stepping : SteppingNode) → IsStepping script start.world stepping → (so_far next : StepState)
+      → IsWithinStep stepping so_far next
       → MessagesCame (moment_in_step script stepping start so_far) (moment_in_step script stepping start next)
   goes_on_came stepping is so_far next within =
       let was = host_with_node stepping.host so_far.node in
       let now = host_with_node stepping.host next.node in
       let same : next.node.recovery ≡ so_far.node.recovery
-      = ap (λ (u : Untouched). u.recovery) ((in_order_so_far next (changes.Then within.leads within.change)).same ∙ sym (in_order_so_far so_far within.leads).same) in
+      = ap (λ (u : Untouched). u.recovery) ((in_order_so_far next (changes.Then within.leads within.change)).same
+      ∙ sym (in_order_so_far so_far within.leads).same) in
       one_came (moment_in_step script stepping start so_far) (moment_in_step script stepping start next) stepping.n now
       (sym (insert-insert start.world.hosts stepping.n was now))
       (λ up message among. inl (record {
@@ -261,18 +282,23 @@ module _ (script : List Statement) (range : RunsAreInRange script) (start : Mome
 
   pub messages_came : {before after : MomentWithPast} → MomentChange script start before after → MessagesCame before after
   messages_came (moments.StepBegins stepping is by) =
-      one_came start (moment_in_step script stepping start (first_in_step stepping)) stepping.n (host_with_node stepping.host (first_in_step stepping).node) refl
-      (λ up message among. first_came stepping is by message among)
+      one_came start (moment_in_step script stepping start (first_in_step stepping)) stepping.n
+      (host_with_node stepping.host (first_in_step stepping).node) refl (λ up message among. first_came stepping is by message among)
   messages_came (moments.StepGoesOn stepping so_far next is by within) = goes_on_came stepping is so_far next within
   messages_came (moments.StepIsMade stepping is by) =
-      one_came start (moment_in_step script stepping start (last_in_step stepping)) stepping.n (host_with_node stepping.host (last_in_step stepping).node) refl
-      (λ up message among. made_came stepping is by message among)
-  messages_came {before} {after} (moments.LossIsUntold event made happened h) = same_came before after (ap (λ (m : EventOutcome). m.world.hosts) (sym h.made_so))
-  messages_came {before} {after} (moments.DeliveryIsUnread event made happened h) = same_came before after (ap (λ (m : EventOutcome). m.world.hosts) (sym h.made_so))
+      one_came start (moment_in_step script stepping start (last_in_step stepping)) stepping.n
+      (host_with_node stepping.host (last_in_step stepping).node) refl (λ up message among. made_came stepping is by message among)
+  messages_came {before} {after} (moments.LossIsUntold event made happened h) =
+      same_came before after (ap (λ (m : EventOutcome). m.world.hosts) (sym h.made_so))
+  messages_came {before} {after} (moments.DeliveryIsUnread event made happened h) =
+      same_came before after (ap (λ (m : EventOutcome). m.world.hosts) (sym h.made_so))
   messages_came {before} {after} (moments.NodeIsLost event made happened h) =
-      one_came before after h.n (lost_host h.host) (ap (λ (m : EventOutcome). m.world.hosts) (sym h.made_so)) (λ up message among. absurd (cc (up)))
-  messages_came {before} {after} (moments.NodeLeaves event made happened h) = same_came before after (ap (λ (m : EventOutcome). m.world.hosts) (sym h.made_so))
-  messages_came {before} {after} (moments.NodeIsReweighted event made happened h) = same_came before after (ap (λ (m : EventOutcome). m.world.hosts) (sym h.made_so))
+      one_came before after h.n (lost_host h.host) (ap (λ (m : EventOutcome). m.world.hosts) (sym h.made_so))
+      (λ up message among. absurd (cc (up)))
+  messages_came {before} {after} (moments.NodeLeaves event made happened h) =
+      same_came before after (ap (λ (m : EventOutcome). m.world.hosts) (sym h.made_so))
+  messages_came {before} {after} (moments.NodeIsReweighted event made happened h) =
+      same_came before after (ap (λ (m : EventOutcome). m.world.hosts) (sym h.made_so))
   messages_came {before} {after} (moments.NodeJoins event made happened h) =
       one_came before after h.n (joined_host script h.n) (ap (λ (m : EventOutcome). m.world.hosts) (sym h.made_so))
       (λ up message among. absurd (Contains-nil message among))
@@ -281,12 +307,15 @@ module _ (script : List Statement) (range : RunsAreInRange script) (start : Mome
       let now = host_after_return log h.host in
       one_came before after h.n now (ap (λ (m : EventOutcome). m.world.hosts) (sym h.made_so))
       (λ up message among. none_among now.node.recovery.unanswered
-      (ap (λ (r : Recovery). r.unanswered) (step_recovery (inputs.Back log) h.host.node) ∙ (back_begun log h.host.node).unanswered) message among)
-  messages_came {before} {after} (moments.PhaseEnds event made happened h) = same_came before after (ap (λ (m : EventOutcome). m.world.hosts) (sym h.made_so))
+      (ap (λ (r : Recovery). r.unanswered) (step_recovery (inputs.Back log) h.host.node) ∙ (back_begun log h.host.node).unanswered) message
+      among)
+  messages_came {before} {after} (moments.PhaseEnds event made happened h) =
+      same_came before after (ap (λ (m : EventOutcome). m.world.hosts) (sym h.made_so))
 
   -- ---- the messages
 
-  pub change_told : {before after : MomentWithPast} → MomentChange script start before after → MessagesAreTold before.world.hosts before.world.wire
+  pub change_told : {before after : MomentWithPast} → MomentChange script start before after
+      → MessagesAreTold before.world.hosts before.world.wire
       → MessagesAreTold after.world.hosts after.world.wire
   change_told {before} {after} change holds = record {
     given = λ n now there up message among. ⊎_elim
@@ -301,8 +330,8 @@ module _ (script : List Statement) (range : RunsAreInRange script) (start : Mome
     asked = λ n now there up message among to request asking. ⊎_elim
         (λ (was : WasAwaited before.world.hosts n message).
         holds.asked n was.host was.there was.up message was.among to request
-        (asked_before before.world.hosts after.world.hosts before.world.wire before.past.attempts n message.request.number was.host was.there
-        (holds.given n was.host was.there was.up message was.among) (traffic script range start began change) to request asking))
+        (asked_before before.world.hosts after.world.hosts before.world.wire before.past.attempts n message.request.number was.host
+        was.there (holds.given n was.host was.there was.up message was.among) (traffic script range start began change) to request asking))
         (λ (new : IsSentNow after.world.hosts after.world.wire n now message).
         let same : ◌≡◌ {A = Packet} (Request to asking.bytes) (Request message.to (ask_bytes message.request))
         = same_Some (Request to asking.bytes) (Request message.to (ask_bytes message.request)) (sym asking.there ∙ new.there) in (
@@ -313,9 +342,11 @@ module _ (script : List Statement) (range : RunsAreInRange script) (start : Mome
     told = λ n now there up message among from rsp answering. ⊎_elim
         (λ (was : WasAwaited before.world.hosts n message). ⊎_elim
         (λ (old : IsAnswering before.world.wire (message_name n message.request.number) from rsp).
-        let (own, reached) = holds.told n was.host was.there was.up message was.among from rsp old in
-        (own, λ (no : tells_refusal rsp.say ≡ false). still_reached before.world.hosts after.world.hosts rises message.request.epoch.0 from (reached no)))
-        (λ (new : IsNewAnswer before.world.hosts before.world.wire (message_name n message.request.number) from rsp).
+        let (own, reached) = holds.told n was.host was.there was.up message was.among from rsp old in (
+          own,
+          λ (no : tells_refusal rsp.say ≡ false). still_reached before.world.hosts after.world.hosts rises message.request.epoch.0 from
+              (reached no),
+        )) (λ (new : IsNewAnswer before.world.hosts before.world.wire (message_name n message.request.number) from rsp).
         let (own, same) = holds.asked n was.host was.there was.up message was.among from new.request new.asking in (
           own,
           λ (no : tells_refusal rsp.say ≡ false).

@@ -27,7 +27,6 @@ use Rattle.sheep_node.specs.declared.ask.Ask.TheVariants as asks
 use Rattle.sheep_node.specs.declared.check_write.CheckWrite.{CheckWrite}
 use Rattle.sheep_node.specs.declared.course.Course.TheVariants.{Checking}
 use Rattle.sheep_node.specs.declared.course.Request.{Request}
-use Rattle.sheep_node.specs.declared.event.Event.{Event}
 use Rattle.sheep_node.specs.declared.input.Input.TheVariants as inputs
 use Rattle.sheep_node.specs.Changes as changes
 use Rattle.sheep_node.specs.Changes.{HasRequest, ToReply}
@@ -39,8 +38,10 @@ use Rattle.sheep_node.proofs.OneWorkParts.{Requests}
 use Rattle.sheep_node.proofs.StepChain.{step_chain}
 use Rattle.sheep_world.specs.HistoryAdditions.{disk_of, has_begun_check_write}
 use Rattle.sheep_world.specs.NodeCauses.{NodeCause, GuestAsks, RequestComes, ReplyComes, LossIsTold, EntryIsRead, EntryIsPut, RecoveryTicks}
-use Rattle.sheep_world.specs.NodeCauses.{WorkIsRetried, IsCause, input_of_cause}
+use Rattle.sheep_world.specs.NodeCauses.{progress_at_cause}
+use Rattle.sheep_world.specs.NodeCauses.{WorkIsRetried, ClientAsks, IsCause, input_of_cause}
 use Rattle.sheep_world.specs.World.{Host, node_at}
+use Rattle.sheep_world.specs.RunsWithAsks.{Move}
 use Rattle.overlap_law.specs.ApartTold.{IsApartFromTold}
 use Rattle.overlap_law.specs.Headline.{ledger_of}
 use Rattle.overlap_law.specs.HistoryGrowth.{added_at_cause, added_by_reply, check_write_at, world_at_cause}
@@ -58,7 +59,7 @@ use Rattle.overlap_law.proofs.ApartNumbers.{AwaitsIt}
 use Rattle.overlap_law.proofs.ApartReads.{AsCheck, AsWrite, WritesBlock, is_the_writer, well}
 use Rattle.overlap_law.proofs.ApartTold.{awaited_first, none_replied}
 use Rattle.overlap_law.proofs.ComingWrites.{IsComing, coming}
-use Rattle.overlap_law.proofs.CoursesOfScript.{asked_by}
+use Rattle.overlap_law.proofs.CoursesOfScript.{asked_by, BeganOn}
 use Rattle.overlap_law.proofs.DisksOfWriters.{IsWriterAt, plain_course}
 use Rattle.overlap_law.proofs.ItemsOfRequests.{begins_write_of, none_behind, none_by_history}
 use Rattle.overlap_law.proofs.LackedNowhere.{found_at}
@@ -68,6 +69,8 @@ use Rattle.overlap_law.proofs.RepliedNow.{IsRepliedBy, replied_by}
 use Rattle.overlap_law.proofs.SoundAlike.{any_at}
 use Rattle.overlap_law.proofs.TouchedInMoments.{received_requests}
 use Rattle.overlap_law.proofs.ApartEnds.{Comes, IsEndedBy, IsThere, ended_so, placed, there_or_comes}
+use Rattle.overlap_law.proofs.CoursesOfAsks.{placed_by_ask}
+use Rattle.peer_proto.specs.declared.guest.DiskAsk.TheVariants as disk_asks
 
 -- the value is of the check's disk
 value_disk : (write : CheckWrite) (check : Check) (bytes : List ℕ) (stage : CheckStage)
@@ -76,7 +79,7 @@ value_disk write check bytes (Comparing index later) is = ap (λ (w : CheckWrite
 value_disk write check bytes (WritingBack later) is = absurd (cc (is))
 value_disk write check bytes Answered is = absurd (cc (is))
 
-module _ (script : List Statement) (range : RunsAreInRange script) (events : List Event) (start : MomentWithPast)
+module _ (script : List Statement) (range : RunsAreInRange script) (events : List Move) (start : MomentWithPast)
     (run : run_with_past script events ≡ Some start) (stepping : SteppingNode) (is : IsStepping script start.world stepping)
     (by : StepsByChanges stepping.cause) (so_far next : StepState) (within : IsWithinStep stepping so_far next) where
   rest : LeadsInStep stepping so_far (last_in_step stepping)
@@ -95,6 +98,7 @@ module _ (script : List Statement) (range : RunsAreInRange script) (events : Lis
   no_write_yet (EntryIsPut entry) req session ask from write so = cc (so)
   no_write_yet RecoveryTicks req session ask from write so = cc (so)
   no_write_yet WorkIsRetried req session ask from write so = cc (so)
+  no_write_yet (ClientAsks number asks) req session ask from write so = cc (so)
 
   -- who comes to a write
   comes_to : (cause : NodeCause) → IsCause script start.world stepping.n stepping.host cause → (write : CheckWrite)
@@ -111,6 +115,7 @@ module _ (script : List Statement) (range : RunsAreInRange script) (events : Lis
   comes_to (EntryIsPut entry) caused write so = absurd (cc (so))
   comes_to RecoveryTicks caused write so = absurd (cc (so))
   comes_to WorkIsRetried caused write so = absurd (cc (so))
+  comes_to (ClientAsks req ask) caused write so = absurd (cc (so))
 
   -- ---- a check that comes to a write as the step begins
 
@@ -239,7 +244,9 @@ module _ (script : List Statement) (range : RunsAreInRange script) (events : Lis
       by_writer : IsThere so_far reply.0 → IsWriterAt script reply.0 → ⊥
       by_writer here (inl writes) =
           let (offset, payload, asked) = write_asks (request_at script reply.0) writes in
-          let at = placed script range events start run stepping is by so_far next within here.session reply.0 here.course here.there in
+          let at = placed_by_ask (asked_by script) (BeganOn script (progress_at_cause stepping.cause start.world)) reply.0
+          (asks.Disk (disk_asks.Write offset payload)) asked (session_at here.session so_far.node).disk here.course
+          (placed script range events start run stepping is by so_far next within here.session reply.0 here.course here.there) in
           let on = (plain_course (asked_by script reply.0) (inl (offset, payload, asked)) (session_at here.session so_far.node).disk at.0
           here.course at.2).on in
           let is_own = own_in_step script range events start run stepping is by so_far within.leads reply.0
@@ -254,7 +261,9 @@ module _ (script : List Statement) (range : RunsAreInRange script) (events : Lis
           ∙ ap (λ (k : ℕ). Some k) (sym is_own.same))
       by_writer here (inr checks) =
           let asked = check_asked (request_at script reply.0) checks in
-          let at = placed script range events start run stepping is by so_far next within here.session reply.0 here.course here.there in
+          let at = placed_by_ask (asked_by script) (BeganOn script (progress_at_cause stepping.cause start.world)) reply.0
+          (asks.Vdi disk_commands.Check) asked (session_at here.session so_far.node).disk here.course
+          (placed script range events start run stepping is by so_far next within here.session reply.0 here.course here.there) in
           let on = (plain_course (asked_by script reply.0) (inr asked) (session_at here.session so_far.node).disk at.0 here.course
           at.2).on in
           let same = on_disk_in_step script range events start run stepping is by so_far within.leads reply.0

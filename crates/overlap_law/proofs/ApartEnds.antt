@@ -1,6 +1,6 @@
 -- What ends a write of a block in the middle of a step: the message that the step is told of, unless the step begins with the request. For
 -- a write that is done as it begins has no block, and the last work of a check writes.
-use Rattle.std.proofs.Common.{◌≡◌, ◌≢◌, ◌⊎◌, inl, inr, arith, ℕ, zero, suc, ◌+◌, ◌-◌, ◌*◌, ◌/◌, ◌%◌, ◌<◌, ◌≤◌, true, false}
+use Rattle.std.proofs.Common.{◌≡◌, ◌≢◌, ◌⊎◌, inl, inr, arith, ℕ, zero, suc, ◌+◌, ◌-◌, ◌*◌, ◌/◌, ◌%◌, ◌<◌, ◌≤◌, true, false, None}
 use Rattle.std.proofs.Common.{List, [], length, map, Option, Some, refl, ap, subst, ◌∙◌}
 use Rattle.std.specs.List.{range_with_len}
 use Rattle.std.proofs.lemmas.Option.{same_Some}
@@ -27,7 +27,6 @@ use Rattle.sheep_node.specs.declared.ask.Ask.TheVariants as asks
 use Rattle.sheep_node.specs.declared.course.Course.{Course}
 use Rattle.sheep_node.specs.declared.course.Course.TheVariants.{Waiting, Driving, Commanding, Checking, DoingWork, AwaitingDecision}
 use Rattle.sheep_node.specs.declared.course.Request.{Request}
-use Rattle.sheep_node.specs.declared.event.Event.{Event}
 use Rattle.sheep_node.specs.declared.input.Input.TheVariants as inputs
 use Rattle.sheep_node.specs.Changes as changes
 use Rattle.sheep_node.specs.Changes.{EndsWork, HasRequest, IsTold, Outcome, RequestSteps, ToReply, outcome_of_check, outcome_of_driver}
@@ -37,6 +36,7 @@ use Rattle.sheep_node.specs.State.{session_at}
 use Rattle.sheep_node.specs.StepState.{StepState, at_first}
 use Rattle.sheep_node.specs.WantedWorks.{IsWantedAt, IsWorkOfCheck}
 use Rattle.sheep_world.specs.NodeCauses.{input_of_cause, progress_at_cause}
+use Rattle.sheep_world.specs.RunsWithAsks.{Move}
 use Rattle.vdi_ops.specs.Op.{Op}
 use Rattle.overlap_law.specs.MomentChanges.{RunsAreInRange}
 use Rattle.overlap_law.specs.Past.{MomentWithPast, run_with_past}
@@ -44,9 +44,9 @@ use Rattle.overlap_law.specs.PastWords.{is_refusal}
 use Rattle.overlap_law.specs.StepMoments.{SteppingNode, IsStepping, StepsByChanges, IsWithinStep, LeadsInStep, last_in_step}
 use Rattle.overlap_law.proofs.ApartNumbers.{AwaitsIt}
 use Rattle.overlap_law.proofs.ApartReads.{AsCheck, AsWrite, WritesBlock, is_checking, well}
-use Rattle.overlap_law.proofs.CoursesOfAsks.{IsPlacedAt}
+use Rattle.overlap_law.proofs.CoursesOfAsks.{IsPlacedAt, placed_by_ask}
 use Rattle.overlap_law.proofs.CoursesOfScript.{BeganOn, asked_by}
-use Rattle.overlap_law.proofs.DisksOfWriters.{AsksToWrite, plain_course}
+use Rattle.overlap_law.proofs.DisksOfWriters.{AsksToWrite, plain_course, some_asked}
 use Rattle.overlap_law.proofs.MomentTrails.{leads_joined}
 use Rattle.overlap_law.proofs.PiecesUnderWay.{whole_blocks}
 use Rattle.overlap_law.proofs.ReadsToldDisks.{placed_at}
@@ -99,7 +99,7 @@ pub record Comes (stepping : SteppingNode) (so_far : StepState) (req : ℕ) : Ty
   pub from : input_of_cause stepping.cause ≡ inputs.Guest req session ask
   pub first : so_far ≡ at_first stepping.host.node
 
-module _ (script : List Statement) (range : RunsAreInRange script) (events : List Event) (start : MomentWithPast)
+module _ (script : List Statement) (range : RunsAreInRange script) (events : List Move) (start : MomentWithPast)
     (run : run_with_past script events ≡ Some start) (stepping : SteppingNode) (is : IsStepping script start.world stepping)
     (by : StepsByChanges stepping.cause) (so_far next : StepState) (within : IsWithinStep stepping so_far next) where
   rest : LeadsInStep stepping so_far (last_in_step stepping)
@@ -175,7 +175,8 @@ module _ (script : List Statement) (range : RunsAreInRange script) (events : Lis
     no_check_there : (session : ℕ) (course : Course) → HasRequest session req course so_far → ((check : Check) → course ≢ Checking check)
         → asked_by script req ≢ Some (asks.Vdi disk_commands.Check)
     no_check_there session course there never checks =
-        let at = placed session req course there in
+        let at = placed_by_ask (asked_by script) (BeganOn script (progress_at_cause stepping.cause start.world)) req
+        (asks.Vdi disk_commands.Check) checks (session_at session so_far.node).disk course (placed session req course there) in
         let on = is_checking (asked_by script req) checks (session_at session so_far.node).disk at.0 course at.2 in
         never on.check on.checks
 
@@ -223,7 +224,9 @@ module _ (script : List Statement) (range : RunsAreInRange script) (events : Lis
     ended_so session outcome moved (ObjectBegins what arrival) to =
         inr (record { session = session; ask = asks.Object what; from = arrival.from; first = arrival.first })
     ended_so session outcome moved (ObjectIsDone number work attempt status bytes what ends) to =
-        absurd (placed session req (DoingWork what) ends.ends.request).2
+        let (ask, asks_it) = some_asked (asked_by script req) (asks_to script req block writer) in
+        let none : asked_by script req ≡ None = placed session req (DoingWork what) ends.ends.request in
+        absurd (cc (none, asks_it))
     ended_so session outcome moved (EntryBegins entry arrival) to =
         inr (record { session = session; ask = asks.Entry entry; from = arrival.from; first = arrival.first })
     ended_so session outcome moved (EntryDecided entry wanted from read there waits) to =

@@ -24,7 +24,7 @@ use Rattle.sheep_world.specs.Effects.{open_disk_at}
 use Rattle.sheep_world.specs.HistoryAdditions.{added_by, begins_on, block_checked, block_in, block_written, blocks_read, check_write_adds}
 use Rattle.sheep_world.specs.HistoryAdditions.{check_write_grown, is_on_disk, reply_adds, write_ended}
 use Rattle.sheep_world.specs.NodeCauses.{NodeCause, GuestAsks, RequestComes, ReplyComes, LossIsTold, EntryIsRead, EntryIsPut, RecoveryTicks}
-use Rattle.sheep_world.specs.NodeCauses.{WorkIsRetried}
+use Rattle.sheep_world.specs.NodeCauses.{WorkIsRetried, ClientAsks}
 use Rattle.sheep_world.specs.World.{World}
 use Rattle.overlap_law.specs.HistoryGrowth.{added_at_cause, check_write_at}
 
@@ -187,3 +187,4 @@ module _ (vid block : ℕ) (bytes : List ℕ) where
   cause_told script world (EntryIsPut entry) among = absurd (Contains-nil (Read vid block bytes) among)
   cause_told script world RecoveryTicks among = absurd (Contains-nil (Read vid block bytes) among)
   cause_told script world WorkIsRetried among = absurd (Contains-nil (Read vid block bytes) among)
+  cause_told script world (ClientAsks req ask) among = absurd (Contains-nil (Read vid block bytes) among)

@@ -8,7 +8,6 @@ use Rattle.cluster_script.specs.declared.statement.Statement.{Statement}
 use Rattle.gateway_queue.specs.declared.queue.Queued.{Queued}
 use Rattle.gateway_queue.specs.Queue.{may_run, AreApart}
 use Rattle.guest_driver.specs.Driver.{Driver}
-use Rattle.sheep_node.specs.declared.event.Event.{Event}
 use Rattle.sheep_node.specs.declared.course.Request.{Request}
 use Rattle.sheep_node.specs.declared.course.Course.TheVariants.{Driving}
 use Rattle.sheep_node.specs.declared.session.Session.{Session}
@@ -20,14 +19,18 @@ use Rattle.overlap_law.specs.Sessions.{HaveBegun, BegunRequestsAreApart}
 use Rattle.overlap_law.proofs.NoRecoveredDue.{began-with_past}
 use Rattle.overlap_law.proofs.QueueOnce.{IsOnce, runs_apart}
 use Rattle.overlap_law.proofs.RoomOfSessions.{HasSoundGuests, guests_sound}
+use Rattle.sheep_world.specs.RunsWithAsks.{Move}
 
 -- a read or write that has begun may run
 may_run_begun : (node : Node) → HasSoundGuests node → (number req : ℕ) (driver : Driver)
-    → tree.get node.requests req ≡ Some (record { session = number; course = Driving driver }) → may_run req (queue_in number node.sessions) ≡ true
+    → tree.get node.requests req ≡ Some (record { session = number; course = Driving driver })
+    → may_run req (queue_in number node.sessions) ≡ true
 may_run_begun node sound number req driver there =
-    subst (λ (o : Option Request). IfSome o (λ (request : Request). IsInTurn req (queue_in request.session node.sessions) request.course)) there (sound.in_turn req)
+    subst (λ (o : Option Request). IfSome o (λ (request : Request). IsInTurn req (queue_in request.session node.sessions) request.course))
+    there (sound.in_turn req)
 
-begun_apart : (node : Node) → HasSoundGuests node → (number : ℕ) (session : Session) (one two : Queued) → tree.get node.sessions number ≡ Some session
+begun_apart : (node : Node) → HasSoundGuests node → (number : ℕ) (session : Session) (one two : Queued)
+    → tree.get node.sessions number ≡ Some session
     → HaveBegun node session number one two → AreApart one two
 begun_apart node sound number session one two there begun =
     let queue : queue_in number node.sessions ≡ session.queue = ap (λ (o : Option Session). (unwrap_or o new_session).queue) there in
@@ -46,7 +49,7 @@ begun_apart node sound number session one two there begun =
     λ index own its. flipped index its own)
     (cases_lt begun.place begun.other)
 
-module _ (script : List Statement) (range : RunsAreInRange script) (events : List Event) (moment : MomentWithPast)
+module _ (script : List Statement) (range : RunsAreInRange script) (events : List Move) (moment : MomentWithPast)
     (is : run_with_past script events ≡ Some moment) where
   pub begun_apart-in_run : BegunRequestsAreApart moment.world.hosts
   begun_apart-in_run n host there up =

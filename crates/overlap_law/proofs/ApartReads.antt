@@ -23,7 +23,6 @@ use Rattle.sheep_node.specs.declared.ask.Ask.TheVariants as asks
 use Rattle.sheep_node.specs.declared.course.Course.{Course}
 use Rattle.sheep_node.specs.declared.course.Course.TheVariants.{Waiting, Driving, Commanding, Checking, DoingWork, AwaitingDecision}
 use Rattle.sheep_node.specs.declared.course.Request.{Request}
-use Rattle.sheep_node.specs.declared.event.Event.{Event}
 use Rattle.sheep_node.specs.Changes.{HasRequest}
 use Rattle.sheep_node.specs.May.{is_disk_course}
 use Rattle.sheep_node.specs.OneWork.{may_work, may_work_at}
@@ -35,6 +34,7 @@ use Rattle.sheep_world.specs.Began.{Began}
 use Rattle.sheep_world.specs.HistoryAdditions.{disk_of}
 use Rattle.sheep_world.specs.NodeCauses.{host_with_node, progress_at_cause}
 use Rattle.sheep_world.specs.World.{Host}
+use Rattle.sheep_world.specs.RunsWithAsks.{Move}
 use Rattle.overlap_law.specs.HistoryGrowth.{world_at_cause}
 use Rattle.overlap_law.specs.MomentChanges.{MomentTrail, RunsAreInRange}
 use Rattle.overlap_law.specs.Past.{MomentWithPast, run_with_past}
@@ -48,7 +48,7 @@ use Rattle.overlap_law.proofs.AnswersInMoments.{not_lost}
 use Rattle.overlap_law.proofs.ApartNumbers.{AwaitsIt}
 use Rattle.overlap_law.proofs.CausedWorks.{HasWellWorks}
 use Rattle.overlap_law.proofs.ClaimsInRuns.{claims-in_run}
-use Rattle.overlap_law.proofs.CoursesOfAsks.{IsPlacedAt}
+use Rattle.overlap_law.proofs.CoursesOfAsks.{IsPlacedAt, IsPlacedAs, placed_by_ask}
 use Rattle.overlap_law.proofs.CoursesOfScript.{BeganOn, asked_by}
 use Rattle.overlap_law.proofs.CoveredCourses.{IsCovered, shift_open, size_and_queue}
 use Rattle.overlap_law.proofs.DisksOfWriters.{plain_course}
@@ -114,7 +114,7 @@ pub data WritesBlock (script : List Statement) (req block : ℕ) : Type 0 where
 
 -- ---- a point of a step
 
-module _ (script : List Statement) (range : RunsAreInRange script) (events : List Event) (start : MomentWithPast)
+module _ (script : List Statement) (range : RunsAreInRange script) (events : List Move) (start : MomentWithPast)
     (run : run_with_past script events ≡ Some start) (stepping : SteppingNode) (is : IsStepping script start.world stepping)
     (by : StepsByChanges stepping.cause) (x : StepState) (leads : LeadsInStep stepping (first_in_step stepping) x)
     (rest : LeadsInStep stepping x (last_in_step stepping)) where
@@ -186,34 +186,48 @@ module _ (script : List Statement) (range : RunsAreInRange script) (events : Lis
         by_request None got may = absurd (cc (may))
         by_request (Some request) got may = (request, got, may)
 
-    placed : IsPlacedAt (asked_by script) (BeganOn script (progress_at_cause stepping.cause start.world)) req
+    placed_so : IsPlacedAt (asked_by script) (BeganOn script (progress_at_cause stepping.cause start.world)) req
         (session_at begun.0.session x.node).disk begun.0.course
-    placed = placed_at script range events start run stepping is by x leads begun.0.session req begun.0.course begun.1
+    placed_so = placed_at script range events start run stepping is by x leads begun.0.session req begun.0.course begun.1
 
     -- a write on this disk has its lock
     module _ (offset : ℕ) (payload : List ℕ) (writes : asked_by script req ≡ Some (asks.Disk (disk_asks.Write offset payload))) (vid : ℕ)
         (on_it : IsBegunOn req vid) where
-      writing : IsWriting (session_at begun.0.session x.node).disk placed.0 begun.0.course
+      written_at : IsPlacedAs (asked_by script) (BeganOn script (progress_at_cause stepping.cause start.world)) req
+          (session_at begun.0.session x.node).disk begun.0.course
+      written_at =
+          placed_by_ask (asked_by script) (BeganOn script (progress_at_cause stepping.cause start.world)) req
+          (asks.Disk (disk_asks.Write offset payload)) writes
+          (session_at begun.0.session x.node).disk begun.0.course placed_so
+
+      writing : IsWriting (session_at begun.0.session x.node).disk written_at.0 begun.0.course
       writing =
-          is_writing (asked_by script req) offset payload writes (session_at begun.0.session x.node).disk placed.0 begun.0.course placed.2
-          begun.2
+          is_writing (asked_by script req) offset payload writes (session_at begun.0.session x.node).disk written_at.0 begun.0.course
+          written_at.2 begun.2
 
       write_lock : Lock begun.0.session vid
       write_lock =
           subst (Lock begun.0.session)
-          (same_disk req (session_at begun.0.session x.node).disk placed.0 placed.1 writing.on vid on_it)
+          (same_disk req (session_at begun.0.session x.node).disk written_at.0 written_at.1 writing.on vid on_it)
           (holders.locked script range events start here run trail stepping.n was there up req begun.0 begun.1 writing.on.disk
           writing.on.there writing.payload writing.stage writing.piece writing.rest writing.driven)
 
     -- and so does a check
     module _ (checks : asked_by script req ≡ Some (asks.Vdi disk_commands.Check)) (vid : ℕ) (on_it : IsBegunOn req vid) where
-      checking : IsCheckingOn (session_at begun.0.session x.node).disk placed.0 begun.0.course
-      checking = is_checking (asked_by script req) checks (session_at begun.0.session x.node).disk placed.0 begun.0.course placed.2
+      checked_at : IsPlacedAs (asked_by script) (BeganOn script (progress_at_cause stepping.cause start.world)) req
+          (session_at begun.0.session x.node).disk begun.0.course
+      checked_at =
+          placed_by_ask (asked_by script) (BeganOn script (progress_at_cause stepping.cause start.world)) req
+          (asks.Vdi disk_commands.Check) checks
+          (session_at begun.0.session x.node).disk begun.0.course placed_so
+
+      checking : IsCheckingOn (session_at begun.0.session x.node).disk checked_at.0 begun.0.course
+      checking = is_checking (asked_by script req) checks (session_at begun.0.session x.node).disk checked_at.0 begun.0.course checked_at.2
 
       check_lock : Lock begun.0.session vid
       check_lock =
           subst (Lock begun.0.session)
-          (same_disk req (session_at begun.0.session x.node).disk placed.0 placed.1 checking.on vid on_it)
+          (same_disk req (session_at begun.0.session x.node).disk checked_at.0 checked_at.1 checking.on vid on_it)
           (checkers.locked script range events start here run trail stepping.n was there up req begun.0 begun.1 checking.on.disk
           checking.on.there checking.check checking.checks)
 

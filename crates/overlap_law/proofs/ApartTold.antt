@@ -38,7 +38,6 @@ use Rattle.sheep_node.specs.declared.ask.Ask.TheVariants as asks
 use Rattle.sheep_node.specs.declared.course.Course.{Course}
 use Rattle.sheep_node.specs.declared.course.Course.TheVariants.{Waiting, Driving, Commanding, Checking, DoingWork}
 use Rattle.sheep_node.specs.declared.course.Request.{Request}
-use Rattle.sheep_node.specs.declared.event.Event.{Event}
 use Rattle.sheep_node.specs.declared.input.Input.{Input}
 use Rattle.sheep_node.specs.declared.input.Input.TheVariants as inputs
 use Rattle.sheep_node.specs.Changes as changes
@@ -53,6 +52,7 @@ use Rattle.sheep_world.specs.Asking.{ask_of_statement}
 use Rattle.sheep_world.specs.Began.{Began}
 use Rattle.sheep_world.specs.HistoryAdditions.{disk_of}
 use Rattle.sheep_world.specs.NodeCauses.{input_of_cause}
+use Rattle.sheep_world.specs.RunsWithAsks.{Move}
 use Rattle.overlap_law.specs.HistoryGrowth.{world_at_cause}
 use Rattle.overlap_law.specs.MomentChanges.{RunsAreInRange}
 use Rattle.overlap_law.specs.Past.{MomentWithPast, run_with_past}
@@ -108,7 +108,7 @@ one_number inputs.RecoverTick number other status later one two = absurd one
 one_number inputs.RetryTick number other status later one two = absurd one
 one_number (inputs.Back entries) number other status later one two = absurd one
 
-module _ (script : List Statement) (range : RunsAreInRange script) (events : List Event) (start : MomentWithPast)
+module _ (script : List Statement) (range : RunsAreInRange script) (events : List Move) (start : MomentWithPast)
     (run : run_with_past script events ≡ Some start) (stepping : SteppingNode) (is : IsStepping script start.world stepping)
     (by : StepsByChanges stepping.cause) where
   began : Began script start.world

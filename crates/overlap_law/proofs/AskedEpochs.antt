@@ -1,5 +1,6 @@
 -- The epochs in which a node asks: its recovery is of one that the node came to, and a tick asks in the recovery's.
-use Rattle.std.proofs.Common.{◌≡◌, ◌⊎◌, inl, inr, ⊎_elim, arith, ℕ, ◌+◌, ◌≤◌, nat_lt, Bool, true, false, cond, List, [], ◌∷◌, map, All, Contains, Option, Some, None, refl, sym, ap, ◌∙◌}
+use Rattle.std.proofs.Common.{◌≡◌, ◌⊎◌, inl, inr, ⊎_elim, arith, ℕ, ◌+◌, ◌≤◌, nat_lt, Bool, true, false, cond, List, [], ◌∷◌, map, All}
+use Rattle.std.proofs.Common.{Contains, Option, Some, None, refl, sym, ap, ◌∙◌}
 use Rattle.std.specs.Option.{option_map_or}
 use Rattle.std.proofs.lemmas.List.Elements.{All-nil, All-cons, All-map, All-contains}
 use Rattle.proof_tools.proofs.Booleans.{cond_either}
@@ -23,15 +24,18 @@ use Rattle.recovery.specs.Shown.{live_policy, shown_with_pending}
 use Rattle.recovery.specs.State.{Message, Recovery, RecoveryState, Search, is_listed}
 use Rattle.recovery.specs.Steps as recovery_steps
 use Rattle.recovery.specs.Steps.{to_recover, at_start, recovery_from_epoch}
-use Rattle.recovery.specs.Tick.{request_message, messages_to, lists_asked, asked_of, level_asked, next_search, level_messages, tick_messages, tick_sends}
+use Rattle.recovery.specs.Tick.{request_message, messages_to, lists_asked, asked_of, level_asked, next_search, level_messages}
+use Rattle.recovery.specs.Tick.{tick_messages, tick_sends}
 use Rattle.recovery.proofs.StepLemmas.{frame_of_tick, frame_of_end}
 use Rattle.sheep_node.specs.declared.input.Input.{Input}
 use Rattle.sheep_node.specs.declared.input.Input.TheVariants as inputs
 use Rattle.sheep_node.specs.State.{Node}
 use Rattle.sheep_node.specs.RecoveryView.{recovery_state_of, with_recovered_rows}
 use Rattle.sheep_node.specs.StepState.{StepState, at_first}
-use Rattle.sheep_node.specs.LogReading.{epoch_members, peer_with_entry, node_with_entry, recovery_in_epoch, begins_recovery, recovery_with_entry, with_settled, entry_read, come_back_with, on_back}
-use Rattle.sheep_node.specs.Step.{on_request, recovery_stepped, on_put, on_recover_tick, on_input, is_due, with_recovered, recovered_put, node_step}
+use Rattle.sheep_node.specs.LogReading.{epoch_members, peer_with_entry, node_with_entry, recovery_in_epoch, begins_recovery}
+use Rattle.sheep_node.specs.LogReading.{recovery_with_entry, with_settled, entry_read, come_back_with, on_back}
+use Rattle.sheep_node.specs.Step.{on_request, recovery_stepped, on_put, on_recover_tick, on_input, is_due, with_recovered, recovered_put}
+use Rattle.sheep_node.specs.Step.{node_step}
 use Rattle.sheep_node.specs.Changes.{input_received}
 use Rattle.sheep_node.proofs.StepResults.{step_peer, step_recovery}
 
@@ -49,21 +53,25 @@ SendsInThePast input node = (send : NodeId × PeerReq) → Contains (node_step i
 abbrev IsIn : ℕ → Message → Type 0
 IsIn epoch message = message.request.epoch.0 ≡ epoch
 
-tick_in_epoch : (first : ℕ) (state : RecoveryState) → All (λ (send : NodeId × PeerReq). send.1.epoch.0 ≡ state.recovery.epoch) (tick_sends first state)
+tick_in_epoch : (first : ℕ) (state : RecoveryState)
+    → All (λ (send : NodeId × PeerReq). send.1.epoch.0 ≡ state.recovery.epoch) (tick_sends first state)
 unfolding tick_sends tick_messages
 tick_in_epoch first state =
     All-map (λ (send : NodeId × PeerReq). send.1.epoch.0 ≡ state.recovery.epoch) (λ (message : Message). (message.to, message.request))
     (tick_messages first state)
-    (cond_either (All (IsIn state.recovery.epoch)) (is_listed state.recovery) (option_map_or (level_messages first state) (next_search state) [])
-    (lists_asked first state.recovery) (of_search (next_search state)) (to_each first 0 asks.List state.recovery.lists.waiting))
+    (cond_either (All (IsIn state.recovery.epoch)) (is_listed state.recovery)
+    (option_map_or (level_messages first state) (next_search state) []) (lists_asked first state.recovery) (of_search (next_search state))
+    (to_each first 0 asks.List state.recovery.lists.waiting))
   where
-    to_each : (first wanted : ℕ) (ask : PeerAsk) (nodes : List NodeId) → All (IsIn state.recovery.epoch) (messages_to state.recovery first wanted ask nodes)
+    to_each : (first wanted : ℕ) (ask : PeerAsk) (nodes : List NodeId)
+        → All (IsIn state.recovery.epoch) (messages_to state.recovery first wanted ask nodes)
     to_each first wanted ask [] = All-nil (IsIn state.recovery.epoch)
     to_each first wanted ask (node ∷ nodes) =
-        All-cons (IsIn state.recovery.epoch) (request_message state.recovery wanted ask (first, node)) (messages_to state.recovery (first + 1) wanted ask nodes)
-        refl (to_each (first + 1) wanted ask nodes)
+        All-cons (IsIn state.recovery.epoch) (request_message state.recovery wanted ask (first, node))
+        (messages_to state.recovery (first + 1) wanted ask nodes) refl (to_each (first + 1) wanted ask nodes)
 
-    of_level : (search : Search) (policy : Option Policy) → All (IsIn state.recovery.epoch) (option_map_or (level_asked first state search) policy [])
+    of_level : (search : Search) (policy : Option Policy)
+        → All (IsIn state.recovery.epoch) (option_map_or (level_asked first state search) policy [])
     of_level search None = All-nil (IsIn state.recovery.epoch)
     of_level search (Some policy) =
         to_each first (wanted_of policy (kind_of search.oid)) (asks.RecoverRead search.oid (record { 0 = search.level }))
@@ -83,8 +91,8 @@ ticked_in_epoch node send there =
   where
     of_tick : Contains (tick_sends node.sends (recovery_state_of node)) send → send.1.epoch.0 ≡ node.recovery.epoch
     of_tick there =
-        All-contains (λ (send : NodeId × PeerReq). send.1.epoch.0 ≡ node.recovery.epoch) (tick_sends node.sends (recovery_state_of node)) send
-        (tick_in_epoch node.sends (recovery_state_of node)) there
+        All-contains (λ (send : NodeId × PeerReq). send.1.epoch.0 ≡ node.recovery.epoch) (tick_sends node.sends (recovery_state_of node))
+        send (tick_in_epoch node.sends (recovery_state_of node)) there
 
 -- ---- the epoch of a recovery
 
@@ -108,17 +116,21 @@ settled_epoch settled peer =
 pub read_epoch : (entry : Entry) (node : Node) → (entry_read entry node).peer.epoch ≡ (peer_with_entry entry node).epoch
 unfolding entry_read
 read_epoch entry node =
-    settled_epoch (settled_of (read_entry entry node.peer).entries) (with_recovered_rows (recovery_with_entry entry node) (peer_with_entry entry node))
+    settled_epoch (settled_of (read_entry entry node.peer).entries)
+    (with_recovered_rows (recovery_with_entry entry node) (peer_with_entry entry node))
 
 read_recovers : (entry : Entry) (node : Node) → RecoversAs node (entry_read entry node)
 unfolding entry_read
 read_recovers entry node = ⊎_elim
     (λ (old : (recovery_with_entry entry node).recovery.epoch ≡ node.recovery.epoch). inl old)
-    (λ (new : (recovery_with_entry entry node).recovery.epoch ≡ (peer_with_entry entry node).epoch). inr (new ∙ sym (read_epoch entry node)))
-    (by_begins (begins_recovery entry node))
+    (λ (new : (recovery_with_entry entry node).recovery.epoch ≡ (peer_with_entry entry node).epoch). inr
+    (new ∙ sym (read_epoch entry node))) (by_begins (begins_recovery entry node))
   where
-    by_begins : (b : Bool) → ((cond b (recovery_in_epoch (node_with_entry entry node)) (recovery_state_of (node_with_entry entry node))).recovery.epoch ≡ node.recovery.epoch)
-        ⊎ ((cond b (recovery_in_epoch (node_with_entry entry node)) (recovery_state_of (node_with_entry entry node))).recovery.epoch ≡ (peer_with_entry entry node).epoch)
+    by_begins : (b : Bool)
+        → ((cond b (recovery_in_epoch (node_with_entry entry node)) (recovery_state_of (node_with_entry entry node))).recovery.epoch
+        ≡ node.recovery.epoch)
+        ⊎ ((cond b (recovery_in_epoch (node_with_entry entry node)) (recovery_state_of (node_with_entry entry node))).recovery.epoch
+        ≡ (peer_with_entry entry node).epoch)
     by_begins true =
         let entered = node_with_entry entry node in
         inr (begun_epoch entered.peer.epoch (map (λ (member : Member). member.node) (epoch_members entered)) (recovery_state_of entered))
@@ -157,7 +169,8 @@ received_recovers inputs.RetryTick node = inl refl
 received_recovers (inputs.Back entries) node = inr (back_epoch entries node)
 
 -- a step leaves the recovery in the past, where the node's epoch doesn't fall
-pub step_recovers : (input : Input) (node : Node) → node.peer.epoch ≤ (node_step input node).node.peer.epoch → node.recovery.epoch ≤ node.peer.epoch
+pub step_recovers : (input : Input) (node : Node) → node.peer.epoch ≤ (node_step input node).node.peer.epoch
+    → node.recovery.epoch ≤ node.peer.epoch
     → (node_step input node).node.recovery.epoch ≤ (node_step input node).node.peer.epoch
 step_recovers input node rises past =
     let new = (node_step input node).node in

@@ -1,6 +1,7 @@
 -- While answers of a search's level are awaited, and none was refused or lost, those awaited and those kept are all that the level is asked
 -- of: each step of a recovery keeps it, whatever the placing, if that is the node's own where it asks.
-use Rattle.std.proofs.Common.{◌≡◌, inl, inr, ⊎_elim, ℕ, ◌≤◌, ◌==◌, ◌&&◌, ◌||◌, not, Bool, true, false, cond, List, [], ◌∷◌, ◌++◌, filter, Contains, Option, Some, None, refl, sym, ap, subst, ◌∙◌}
+use Rattle.std.proofs.Common.{◌≡◌, inl, inr, ⊎_elim, ℕ, ◌≤◌, ◌==◌, ◌&&◌, ◌||◌, not, Bool, true, false, cond, List, [], ◌∷◌, ◌++◌, filter}
+use Rattle.std.proofs.Common.{Contains, Option, Some, None, refl, sym, ap, subst, ◌∙◌}
 use Rattle.std.specs.Option.{option_map_or}
 use Rattle.std.specs.List.{list_any}
 use Rattle.std.proofs.lemmas.Bool.{and_parts, eq-eqb, eqb-true, or_cases, or_left, or_right}
@@ -22,9 +23,12 @@ use Rattle.peer_proto.specs.declared.say.PeerSay.TheVariants as says
 use Rattle.recovery.specs.declared.search.RowAnswer.{RowAnswer}
 use Rattle.recovery.specs.Level.{is_read_of, is_of_search, level_over, searching}
 use Rattle.recovery.specs.Shown.{first_in, live_policy, shown_with_pending}
-use Rattle.recovery.specs.State.{Message, Search, Recovery, RecoveryState, search_at, still_on, search_on, is_listed, has_number, message_of, can_tick}
-use Rattle.recovery.specs.Steps.{to_recover, at_start, recovery_from_epoch, without_unanswered, with_answer, search_after_answer, after_list, after_read, after_ask, message_end}
-use Rattle.recovery.specs.Tick.{asked_of, level_asked, level_messages, lists_asked, or_next, next_search, tick_messages, with_messages, state_after_tick}
+use Rattle.recovery.specs.State.{Message, Search, Recovery, RecoveryState, search_at, still_on, search_on, is_listed, has_number}
+use Rattle.recovery.specs.State.{message_of, can_tick}
+use Rattle.recovery.specs.Steps.{to_recover, at_start, recovery_from_epoch, without_unanswered, with_answer, search_after_answer}
+use Rattle.recovery.specs.Steps.{after_list, after_read, after_ask, message_end}
+use Rattle.recovery.specs.Tick.{asked_of, level_asked, level_messages, lists_asked, or_next, next_search, tick_messages, with_messages}
+use Rattle.recovery.specs.Tick.{state_after_tick}
 use Rattle.recovery.proofs.FoundLemmas.{live_known}
 use Rattle.recovery.proofs.StepLemmas.{judged_each}
 use Rattle.overlap_law.specs.Each.{Placing}
@@ -33,7 +37,8 @@ use Rattle.overlap_law.proofs.FirstSearches.{WaitsFirst, is_on, unlisted_at}
 use Rattle.overlap_law.proofs.ListMessages.{AsksListsIn}
 use Rattle.overlap_law.proofs.RecoveriesOfSteps.{IsLessPending}
 use Rattle.overlap_law.proofs.RecoveryMessages.{idle_before_tick}
-use Rattle.overlap_law.proofs.AskedMessages.{asked_by, IsAwaitedOrKept, AreNumberedApart, IsRowSay, awaited_each, without_any, any_there, there_any, stays_there, none_numbered, other_number, still_less, same_oid, next_fresh}
+use Rattle.overlap_law.proofs.AskedMessages.{asked_by, IsAwaitedOrKept, AreNumberedApart, IsRowSay, awaited_each, without_any, any_there}
+use Rattle.overlap_law.proofs.AskedMessages.{there_any, stays_there, none_numbered, other_number, still_less, same_oid, next_fresh}
 
 module _ (T : Placing) (known : ℕ → Option Policy) (bound : ℕ) where
   -- those awaited and those kept are all that a search's level is asked of

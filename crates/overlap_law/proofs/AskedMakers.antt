@@ -21,7 +21,8 @@ use Rattle.gateway.specs.Work.{is_making, ask_for, targets_asked}
 use Rattle.gateway.specs.Attempt.{message_for, send_of}
 use Rattle.recovery.specs.State.{Message, Search, RecoveryState, is_listed}
 use Rattle.recovery.specs.Shown.{live_policy}
-use Rattle.recovery.specs.Tick.{request_message, messages_to, lists_asked, level_asked, level_messages, asked_of, next_search, tick_messages, tick_sends}
+use Rattle.recovery.specs.Tick.{request_message, messages_to, lists_asked, level_asked, level_messages, asked_of, next_search}
+use Rattle.recovery.specs.Tick.{tick_messages, tick_sends}
 use Rattle.sheep_node.specs.declared.input.Input.TheVariants as inputs
 use Rattle.sheep_node.specs.State.{Node}
 use Rattle.sheep_node.specs.RecoveryView.{recovery_state_of}

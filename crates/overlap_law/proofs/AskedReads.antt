@@ -1,5 +1,6 @@
 -- A client's read is a step that begins no attempt to create or write, and leaves the node's rows, epochs and recovery as they are.
-use Rattle.std.proofs.Common.{◌≡◌, ◌≢◌, ◌⊎◌, inl, inr, ⊎_elim, arith, ℕ, ◌-◌, nat_lt, ◌&&◌, Bool, true, false, cond, [], Option, Some, None, option_map, refl, sym, ap, subst, ◌∙◌}
+use Rattle.std.proofs.Common.{◌≡◌, ◌≢◌, ◌⊎◌, inl, inr, ⊎_elim, arith, ℕ, ◌-◌, nat_lt, ◌&&◌, Bool, true, false, cond, [], Option, Some, None}
+use Rattle.std.proofs.Common.{option_map, refl, sym, ap, subst, ◌∙◌}
 use Rattle.std.specs.Option.{option_map_or}
 use Rattle.std.specs.FinMap as tree
 use Rattle.std.proofs.lemmas.Bool.{cases_eq}
@@ -19,7 +20,8 @@ use Rattle.peer_proto.specs.Work.{oid_of, policy_of}
 use Rattle.gateway.specs.Work.{is_making, zones_for}
 use Rattle.gateway.specs.Attempt as gateways
 use Rattle.gateway.specs.State.{Work, WorkStage, Open, Ended, WaitsForMembers, is_touched}
-use Rattle.gateway.specs.Step.{GatewayStep, with_work, waiting_step, refusal_step, open_step, next_attempt, attempt_step, start_step, without_touch}
+use Rattle.gateway.specs.Step.{GatewayStep, with_work, waiting_step, refusal_step, open_step, next_attempt, attempt_step, start_step}
+use Rattle.gateway.specs.Step.{without_touch}
 use Rattle.gateway.proofs.MapLaws.{without_touch-own, without_touch-others}
 use Rattle.guest_driver.specs.InodeQueue.{may_open_work, queue_with_open, queue_with_waiting}
 use Rattle.vdi_ops.specs.declared.end.OpEnd.{OpEnd}
@@ -32,7 +34,8 @@ use Rattle.sheep_node.specs.declared.course.Course.TheVariants.{Waiting, Driving
 use Rattle.sheep_node.specs.declared.input.Input.{Input}
 use Rattle.sheep_node.specs.declared.input.Input.TheVariants as inputs
 use Rattle.sheep_node.specs.State.{Node}
-use Rattle.sheep_node.specs.StepState.{StepState, at_first, session_in, with_gateway, with_inode_queue, with_optional_entry, with_sole_request, request_ended}
+use Rattle.sheep_node.specs.StepState.{StepState, at_first, session_in, with_gateway, with_inode_queue, with_optional_entry}
+use Rattle.sheep_node.specs.StepState.{with_sole_request, request_ended}
 use Rattle.sheep_node.specs.RequestWorks.{command_refused, course_refused, queue_left, after_start, work_begun, work_asked}
 use Rattle.sheep_node.specs.Guests.{on_guest}
 use Rattle.sheep_node.specs.OneWork.{NumbersAreBelow}
@@ -40,9 +43,8 @@ use Rattle.sheep_node.specs.Step.{on_input, is_due, with_recovered, recovered_pu
 use Rattle.sheep_world.specs.World.{Host, World, host_at}
 use Rattle.sheep_world.specs.NodeCauses.{host_with_node}
 use Rattle.sheep_world.specs.NodeSteps.{world_after_step, node_stepped}
-use Rattle.sheep_world.specs.ClientAsks.{next_ask_number}
+use Rattle.sheep_world.specs.ClientAsks.{next_ask_number, is_read_ask}
 use Rattle.sheep_world.specs.ClientSteps.{ask_begun, ask_effect}
-use Rattle.sheep_world.specs.RunsWithAsks.{is_read_ask}
 use Rattle.overlap_law.specs.Attempts.{is_first, beginning, beginning_with, attempt_begun_with, attempts_begun_by}
 use Rattle.overlap_law.specs.BegunAttempts.{attempts_begun_in, attempts_begun}
 use Rattle.overlap_law.proofs.BegunNumbers.{filter_map-none, begun-none}
@@ -53,7 +55,8 @@ module _ (node : Node) where
   -- what a read leaves of a node: each work of its gateway was there, or reads; rows, epochs and recovery are the same; and it touches no
   -- request
   pub record IsBehindRead (now : Node) : Type 0 where
-    pub works : (q : ℕ) (work : Work) → tree.get now.gateway.works q ≡ Some work → (tree.get node.gateway.works q ≡ Some work) ⊎ (is_making work.work ≡ false)
+    pub works : (q : ℕ) (work : Work) → tree.get now.gateway.works q ≡ Some work
+        → (tree.get node.gateway.works q ≡ Some work) ⊎ (is_making work.work ≡ false)
     pub peer : now.peer ≡ node.peer
     pub epochs : now.epochs ≡ node.epochs
     pub recovery : now.recovery ≡ node.recovery
@@ -78,7 +81,8 @@ module _ (node : Node) where
         (cases_eq q req);
   }
 
-  refused : (session req : ℕ) (cause : Cause) (course : Course) (so_far : StepState) → IsSo so_far → IsSo (course_refused session req cause course so_far)
+  refused : (session req : ℕ) (cause : Cause) (course : Course) (so_far : StepState) → IsSo so_far
+      → IsSo (course_refused session req cause course so_far)
   refused session req cause (Waiting ask) so_far is = is
   refused session req cause (Driving driver) so_far is = ended session req (replies.Refused cause) so_far is
   refused session req cause (Commanding op) so_far is = by_end (on_refusal cause op)
@@ -106,7 +110,8 @@ module _ (node : Node) where
         (get-insert_cases lined.node.gateway.works req (read_at stage) q other got)
 
     -- or has none any more
-    without_read : (lined : StepState) → IsSo lined → (q : ℕ) (other : Work) → tree.get (tree.remove lined.node.gateway.works req) q ≡ Some other
+    without_read : (lined : StepState) → IsSo lined → (q : ℕ) (other : Work)
+        → tree.get (tree.remove lined.node.gateway.works req) q ≡ Some other
         → (tree.get node.gateway.works q ≡ Some other) ⊎ (is_making other.work ≡ false)
     without_read lined is q other got = ⊎_elim
         (λ (own : q ≡ req).
@@ -135,10 +140,12 @@ module _ (node : Node) where
         Begins step = IsSo (after_start session step.act (with_gateway step.gateway lined))
 
         denied : StepState
-        denied = queue_left session work (with_gateway (refusal_step lined.node.gateway req work (Halt zones (zones_for work))).gateway lined)
+        denied =
+            queue_left session work (with_gateway (refusal_step lined.node.gateway req work (Halt zones (zones_for work))).gateway lined)
 
         denied_so : IsSo denied
-        denied_so = record { works = without_read lined is; peer = is.peer; epochs = is.epochs; recovery = is.recovery; touched = is.touched }
+        denied_so =
+            record { works = without_read lined is; peer = is.peer; epochs = is.epochs; recovery = is.recovery; touched = is.touched }
 
         by_request : (request : Option Request) → IsSo (option_map_or
             (λ (request : Request). course_refused request.session req (Halt zones (zones_for work)) request.course denied) request denied)
@@ -149,9 +156,23 @@ module _ (node : Node) where
             (cond touched (waiting_step (with_work req (record asked { stage = WaitsForMembers epoch }) lined.node.gateway))
             (refusal_step lined.node.gateway req work (Halt zones (zones_for work))))
             (open_step lined.node.gateway req asked attempt))
-        by_zones true true = record { works = with_read (WaitsForMembers epoch) lined is; peer = is.peer; epochs = is.epochs; recovery = is.recovery; touched = is.touched }
+        by_zones true true =
+            record {
+              works = with_read (WaitsForMembers epoch) lined is;
+              peer = is.peer;
+              epochs = is.epochs;
+              recovery = is.recovery;
+              touched = is.touched;
+            }
         by_zones true false = by_request (tree.get lined.node.requests req)
-        by_zones false touched = record { works = with_read (Open attempt) lined is; peer = is.peer; epochs = is.epochs; recovery = is.recovery; touched = is.touched }
+        by_zones false touched =
+            record {
+              works = with_read (Open attempt) lined is;
+              peer = is.peer;
+              epochs = is.epochs;
+              recovery = is.recovery;
+              touched = is.touched;
+            }
 
     come_to : (so_far : StepState) → IsSo so_far → IsSo (work_asked session req work so_far)
     unfolding work_asked
@@ -162,7 +183,8 @@ module _ (node : Node) where
 
         by_test : (b : Bool) → IsSo (cond b (work_begun session req work opened)
             (with_inode_queue session (queue_with_waiting (session_in session so_far).inode_queue req work) so_far))
-        by_test true = begun opened (record { works = is.works; peer = is.peer; epochs = is.epochs; recovery = is.recovery; touched = is.touched })
+        by_test true =
+            begun opened (record { works = is.works; peer = is.peer; epochs = is.epochs; recovery = is.recovery; touched = is.touched })
         by_test false = record { works = is.works; peer = is.peer; epochs = is.epochs; recovery = is.recovery; touched = is.touched }
 
     pub behind_read : IsSo (node_step (inputs.Guest req session (asks.Object work)) node)
@@ -179,18 +201,21 @@ module _ (node : Node) where
         by_due false is = is
 
 -- an ask that reads is a work that makes nothing
-read_behind : (node : Node) (req session : ℕ) (ask : Ask) → is_read_ask ask ≡ true → IsBehindRead node (node_step (inputs.Guest req session ask) node).node
+pub read_behind : (node : Node) (req session : ℕ) (ask : Ask) → is_read_ask ask ≡ true
+    → IsBehindRead node (node_step (inputs.Guest req session ask) node).node
 read_behind node req session (asks.Disk ask) reads = absurd (cc (reads))
 read_behind node req session (asks.Vdi ask) reads = absurd (cc (reads))
 read_behind node req session (asks.Object (object_works.Create oid policy size offset bytes)) reads = absurd (cc (reads))
 read_behind node req session (asks.Object (object_works.Write oid policy offset bytes)) reads = absurd (cc (reads))
-read_behind node req session (asks.Object (object_works.Read oid policy offset size)) reads = behind_read node session req (object_works.Read oid policy offset size) refl
+read_behind node req session (asks.Object (object_works.Read oid policy offset size)) reads =
+    behind_read node session req (object_works.Read oid policy offset size) refl
 read_behind node req session (asks.Object (object_works.ReadAll oid policy size)) reads = absurd (cc (reads))
 read_behind node req session (asks.Entry entry) reads = absurd (cc (reads))
 
 -- ---- in the world
 
-module _ (node : ℕ) (ask : Ask) (world : World) (host : Host) (reads : is_read_ask ask ≡ true) (there : host_at node world ≡ Some host) where
+module _ (node : ℕ) (ask : Ask) (world : World) (host : Host) (reads : is_read_ask ask ≡ true)
+    (there : host_at node world ≡ Some host) where
   abbrev input : Input
   input = inputs.Guest (next_ask_number world) 0 ask
 
@@ -201,15 +226,17 @@ module _ (node : ℕ) (ask : Ask) (world : World) (host : Host) (reads : is_read
   behind = read_behind host.node (next_ask_number world) 0 ask reads
 
   -- the node is as its step leaves it
-  host_then : host_at node (ask_effect node ask world) ≡ Some (host_with_node host now)
+  pub host_then : host_at node (ask_effect node ask world) ≡ Some (host_with_node host now)
   unfolding ask_effect node_stepped
   host_then =
       ap (λ (o : Option Host). host_at node
-      (option_map_or (λ (host : Host). world_after_step [] node input host (node_step input host.node) (ask_begun world)) o (ask_begun world))) there
+      (option_map_or (λ (host : Host). world_after_step [] node input host (node_step input host.node) (ask_begun world)) o
+      (ask_begun world))) there
       ∙ get-insert_same world.hosts node (host_with_node host now)
 
   -- a work that reads begins no attempt to create or write
-  reads_nothing : (k q : ℕ) (work : ObjWork) (stage : WorkStage) → is_making work ≡ false → beginning_with (host_with_node host now) k q work stage ≡ None
+  reads_nothing : (k q : ℕ) (work : ObjWork) (stage : WorkStage) → is_making work ≡ false
+      → beginning_with (host_with_node host now) k q work stage ≡ None
   reads_nothing k q work (Open attempt) none =
       ap (λ (b : Bool). cond (b && is_first k attempt.messages)
       (option_map (beginning (host_with_node host now) k q work attempt) (tree.get now.requests q)) None) none
@@ -224,12 +251,14 @@ module _ (node : ℕ) (ask : Ask) (world : World) (host : Host) (reads : is_read
       (λ (none : is_making work.work ≡ false). reads_nothing k q work.work work.stage none)
       (behind.works q work got)))
 
-  pub read-begins_none : NumbersAreBelow host.node.sends host.node.gateway.works → attempts_begun node world (ask_effect node ask world) ≡ []
+  pub read-begins_none : NumbersAreBelow host.node.sends host.node.gateway.works
+      → attempts_begun node world (ask_effect node ask world) ≡ []
   read-begins_none given = (λ i. attempts_begun_in (there i) (host_then i)) ∙ none_begun given
 
   -- rows, epochs and recovery stay
   pub read-leaves : (after : Host) → host_at node (ask_effect node ask world) ≡ Some after → IsBehindRead host.node after.node
-  read-leaves after got = subst (λ (h : Host). IsBehindRead host.node h.node) (same_Some (host_with_node host now) after (sym host_then ∙ got)) behind
+  read-leaves after got =
+      subst (λ (h : Host). IsBehindRead host.node h.node) (same_Some (host_with_node host now) after (sym host_then ∙ got)) behind
 
 -- the other nodes stay, and the log does
 module _ (node : ℕ) (ask : Ask) (world : World) where
@@ -241,7 +270,8 @@ module _ (node : ℕ) (ask : Ask) (world : World) where
       input = inputs.Guest (next_ask_number world) 0 ask
 
       by_host : (o : Option Host) → host_at n (option_map_or
-          (λ (host : Host). world_after_step [] node input host (node_step input host.node) (ask_begun world)) o (ask_begun world)) ≡ host_at n world
+          (λ (host : Host). world_after_step [] node input host (node_step input host.node) (ask_begun world)) o (ask_begun world))
+          ≡ host_at n world
       by_host None = refl
       by_host (Some host) = get-insert_other world.hosts node (host_with_node host (node_step input host.node).node) n apart
 
@@ -253,7 +283,8 @@ module _ (node : ℕ) (ask : Ask) (world : World) where
       input = inputs.Guest (next_ask_number world) 0 ask
 
       by_host : (o : Option Host) → (option_map_or
-          (λ (host : Host). world_after_step [] node input host (node_step input host.node) (ask_begun world)) o (ask_begun world)).log ≡ world.log
+          (λ (host : Host). world_after_step [] node input host (node_step input host.node) (ask_begun world)) o (ask_begun world)).log
+          ≡ world.log
       by_host None = refl
       by_host (Some host) = refl
 
@@ -265,7 +296,8 @@ module _ (node : ℕ) (ask : Ask) (world : World) where
     pub host_so : host_with_node old (node_step (inputs.Guest (next_ask_number world) 0 ask) old.node).node ≡ host
 
   -- each node was so, or has stepped on it
-  pub ask-hosts : (q : ℕ) (host : Host) → host_at q (ask_effect node ask world) ≡ Some host → (host_at q world ≡ Some host) ⊎ StepsOnAsk q host
+  pub ask-hosts : (q : ℕ) (host : Host) → host_at q (ask_effect node ask world) ≡ Some host
+      → (host_at q world ≡ Some host) ⊎ StepsOnAsk q host
   unfolding ask_effect node_stepped
   ask-hosts q host = by_host (host_at node world) refl
     where
@@ -273,7 +305,8 @@ module _ (node : ℕ) (ask : Ask) (world : World) where
       input = inputs.Guest (next_ask_number world) 0 ask
 
       by_host : (o : Option Host) → host_at node world ≡ o → host_at q (option_map_or
-          (λ (host : Host). world_after_step [] node input host (node_step input host.node) (ask_begun world)) o (ask_begun world)) ≡ Some host
+          (λ (host : Host). world_after_step [] node input host (node_step input host.node) (ask_begun world)) o (ask_begun world))
+          ≡ Some host
           → (host_at q world ≡ Some host) ⊎ StepsOnAsk q host
       by_host None at got = inl got
       by_host (Some old) at got = ⊎_elim

@@ -29,7 +29,7 @@ use Rattle.sheep_node.proofs.StepResults.{step_recovery}
 use Rattle.sheep_world.specs.World.{Host, World}
 use Rattle.sheep_world.specs.Opening.{format_entry, initial_world}
 use Rattle.sheep_world.specs.NodeCauses.{NodeCause, GuestAsks, RequestComes, ReplyComes, LossIsTold, EntryIsRead, EntryIsPut, RecoveryTicks}
-use Rattle.sheep_world.specs.NodeCauses.{WorkIsRetried, IsCause, input_of_cause}
+use Rattle.sheep_world.specs.NodeCauses.{WorkIsRetried, ClientAsks, IsCause, input_of_cause}
 use Rattle.sheep_world.specs.EventKinds.{log_after_return}
 use Rattle.sheep_world.specs.HostChanges.{HostsKeep}
 use Rattle.sheep_world.specs.Began.{Began}
@@ -146,6 +146,7 @@ ticks_later script world n host RecoveryTicks so begun is =
     by_epoch true one unfinished = absurd (cc (unfinished))
     by_epoch false other unfinished = later host.node.recovery.epoch begun other
 ticks_later script world n host WorkIsRetried so begun is = absurd (cc (is))
+ticks_later script world n host (ClientAsks req ask) so begun is = absurd (cc (is))
 
 -- ---- every world, and every moment
 

@@ -19,7 +19,8 @@ pub record IsMessageAt (work : ObjWork) (number at : ℕ) (message : Message) : 
   pub index_so : message.index ≡ index_at (policy_of work) (kind_of (oid_of work)) at
 
 pub message_at_place : (work : ObjWork) (first from : ℕ) (targets : List NodeId) (place : ℕ) (message : Message)
-    → slice_get (map (message_for work) (enumerate_from first (enumerate_from from targets))) place ≡ Some message → IsMessageAt work (first + place) (from + place) message
+    → slice_get (map (message_for work) (enumerate_from first (enumerate_from from targets))) place ≡ Some message
+    → IsMessageAt work (first + place) (from + place) message
 message_at_place work first from [] place message got = absurd (cc (got))
 message_at_place work first from (target ∷ targets) zero message got =
     let same = same_Some (message_for work (first, (from, target))) message got in
@@ -36,7 +37,8 @@ message_at_place work first from (target ∷ targets) (suc place) message got =
     record { number_so = later.number_so ∙ one; index_so = later.index_so ∙ ap (index_at (policy_of work) (kind_of (oid_of work))) two }
 
 -- a create or write asks each target
-pub targets-of_making : (work : ObjWork) (ended : ℕ) (targets : List NodeId) → is_making work ≡ true → targets_asked work ended targets ≡ enumerate_from 0 targets
+pub targets-of_making : (work : ObjWork) (ended : ℕ) (targets : List NodeId) → is_making work ≡ true
+    → targets_asked work ended targets ≡ enumerate_from 0 targets
 targets-of_making (obj_works.Create oid policy size offset bytes) ended targets making = refl
 targets-of_making (obj_works.Write oid policy offset bytes) ended targets making = refl
 targets-of_making (obj_works.Read oid policy offset size) ended targets making = absurd (cc (making))

@@ -15,17 +15,20 @@ use Rattle.sheep_node.specs.Step.{node_step}
 use Rattle.sheep_node.specs.Changes.{IsSoundStep}
 use Rattle.sheep_node.proofs.StepResults.{step_says}
 use Rattle.sheep_world.specs.World.{Host, World, host_at}
-use Rattle.sheep_world.specs.NodeCauses.{NodeCause, GuestAsks, RequestComes, ReplyComes, LossIsTold, EntryIsRead, EntryIsPut, RecoveryTicks, WorkIsRetried, input_of_cause, event_of_cause, IsCause, host_with_node}
+use Rattle.sheep_world.specs.NodeCauses.{NodeCause, GuestAsks, RequestComes, ReplyComes, LossIsTold, EntryIsRead, EntryIsPut, RecoveryTicks}
+use Rattle.sheep_world.specs.NodeCauses.{WorkIsRetried, ClientAsks, input_of_cause, event_of_cause, IsCause, host_with_node}
 use Rattle.sheep_world.proofs.AskedWorks.{ToldIsBelow}
 use Rattle.overlap_law.specs.Attempts.{AttemptRecord, Flying, Doomed, attempts_with_fate, fate_of_say, attempts_begun_by}
 use Rattle.overlap_law.specs.BegunAttempts.{attempts_begun_in, attempts_begun, attempts_after_delivery, attempts_after}
 use Rattle.overlap_law.specs.Past.{MomentWithPast, past_after_event}
-use Rattle.overlap_law.specs.StepMoments.{SteppingNode, IsStepping, StepsByChanges, StepsAtOnce, first_in_step, last_in_step, IsWithinStep, world_in_step, moment_in_step, attempts_at_cause, attempts_of_change}
+use Rattle.overlap_law.specs.StepMoments.{SteppingNode, IsStepping, StepsByChanges, StepsAtOnce, first_in_step, last_in_step, IsWithinStep}
+use Rattle.overlap_law.specs.StepMoments.{world_in_step, moment_in_step, attempts_at_cause, attempts_of_change}
 use Rattle.overlap_law.proofs.BegunNumbers.{begun-at_first}
 use Rattle.overlap_law.proofs.AttemptsOfChanges.{begun-grows}
 use Rattle.overlap_law.proofs.SendsOfChanges.{received_nothing}
 
-module _ (script : List Statement) (world : World) (n : ℕ) (host : Host) (there : host_at n world ≡ Some host) (attempts : List AttemptRecord) where
+module _ (script : List Statement) (world : World) (n : ℕ) (host : Host) (there : host_at n world ≡ Some host)
+    (attempts : List AttemptRecord) where
   abbrev after : NodeCause → StepState → World
   after cause so_far = world_in_step script (record { n = n; host = host; cause = cause }) world so_far
 
@@ -49,15 +52,18 @@ module _ (script : List Statement) (world : World) (n : ℕ) (host : Host) (ther
       ≡ attempts_at_cause host.node (LossIsTold name packet) attempts ++ begun so_far
   unfolding attempts_after
   told_of_loss name (Request to bytes) so_far here =
-      begun_behind name.sender.0 (LossIsTold name (Request to bytes)) so_far (attempts_with_fate Doomed name.sender name.number attempts) here
+      begun_behind name.sender.0 (LossIsTold name (Request to bytes)) so_far (attempts_with_fate Doomed name.sender name.number attempts)
+      here
   told_of_loss name (Reply from bytes) so_far here = begun_behind name.sender.0 (LossIsTold name (Reply from bytes)) so_far attempts here
 
   pub attempts-by_changes : (cause : NodeCause) → StepsByChanges cause → IsCause script world n host cause → (so_far : StepState)
-      → attempts_after script (event_of_cause n cause) world (after cause so_far) attempts ≡ attempts_at_cause host.node cause attempts ++ begun so_far
+      → attempts_after script (event_of_cause n cause) world (after cause so_far) attempts ≡ attempts_at_cause host.node cause attempts
+      ++ begun so_far
   unfolding attempts_after
   attempts-by_changes (GuestAsks session req ask) by so so_far =
       ap (λ (o : Option ScriptSession). attempts
-      ++ option_map_or (λ (asking : ScriptSession). attempts_begun asking.node world (after (GuestAsks session req ask) so_far)) o []) so.declared
+      ++ option_map_or (λ (asking : ScriptSession). attempts_begun asking.node world (after (GuestAsks session req ask) so_far)) o [])
+      so.declared
       ∙ begun_behind session.node (GuestAsks session req ask) so_far attempts so.gateway
   attempts-by_changes (RequestComes name to request) by so so_far = absurd by
   attempts-by_changes (ReplyComes name from rsp) by so so_far =
@@ -68,6 +74,7 @@ module _ (script : List Statement) (world : World) (n : ℕ) (host : Host) (ther
   attempts-by_changes (EntryIsPut entry) by so so_far = absurd by
   attempts-by_changes RecoveryTicks by so so_far = absurd by
   attempts-by_changes WorkIsRetried by so so_far = begun_behind n WorkIsRetried so_far attempts refl
+  attempts-by_changes (ClientAsks req ask) by so so_far = begun_behind n (ClientAsks req ask) so_far attempts refl
 
   pub attempts-at_once : (cause : NodeCause) → StepsAtOnce cause → IsCause script world n host cause
       → attempts_after script (event_of_cause n cause) world (after cause (node_step (input_of_cause cause) host.node)) attempts
@@ -77,14 +84,15 @@ module _ (script : List Statement) (world : World) (n : ℕ) (host : Host) (ther
   attempts-at_once (RequestComes name to request) by so =
       ap (λ (o : Option Packet). attempts_after_delivery o name world
       (after (RequestComes name to request) (node_step (inputs.Request request) host.node)) attempts) so.there
-      ∙ ap (λ (say : Option PeerRsp). attempts_with_fate (option_map_or (λ (rsp : PeerRsp). fate_of_say rsp.say) say Flying) name.sender name.number attempts)
-      (step_says (inputs.Request request) host.node)
+      ∙ ap (λ (say : Option PeerRsp). attempts_with_fate (option_map_or (λ (rsp : PeerRsp). fate_of_say rsp.say) say Flying) name.sender
+      name.number attempts) (step_says (inputs.Request request) host.node)
   attempts-at_once (ReplyComes name from rsp) by so = absurd by
   attempts-at_once (LossIsTold name packet) by so = absurd by
   attempts-at_once (EntryIsRead entry) by so = absurd by
   attempts-at_once (EntryIsPut entry) by so = refl
   attempts-at_once RecoveryTicks by so = refl
   attempts-at_once WorkIsRetried by so = absurd by
+  attempts-at_once (ClientAsks req ask) by so = absurd by
 
 module _ (script : List Statement) (start : MomentWithPast) (stepping : SteppingNode) (is : IsStepping script start.world stepping) where
   abbrev moment : StepState → MomentWithPast
@@ -93,7 +101,8 @@ module _ (script : List Statement) (start : MomentWithPast) (stepping : Stepping
   -- the attempts of a moment in a step that goes by changes
   pub attempts-in_step : StepsByChanges stepping.cause → (so_far : StepState)
       → (moment so_far).past.attempts
-      ≡ attempts_at_cause stepping.host.node stepping.cause start.past.attempts ++ attempts_begun_by stepping.host (host_with_node stepping.host so_far.node)
+      ≡ attempts_at_cause stepping.host.node stepping.cause start.past.attempts
+      ++ attempts_begun_by stepping.host (host_with_node stepping.host so_far.node)
   unfolding past_after_event
   attempts-in_step by so_far =
       attempts-by_changes script start.world stepping.n stepping.host is.there start.past.attempts stepping.cause by is.caused so_far
@@ -114,7 +123,8 @@ module _ (script : List Statement) (start : MomentWithPast) (stepping : Stepping
   attempts-at_end by = attempts-at_once script start.world stepping.n stepping.host is.there start.past.attempts stepping.cause by is.caused
 
   -- each change of the node adds those that it begins
-  pub attempts-grow : IsSoundStep (input_of_cause stepping.cause) stepping.host.node → ToldIsBelow (input_of_cause stepping.cause) stepping.host.node.sends
+  pub attempts-grow : IsSoundStep (input_of_cause stepping.cause) stepping.host.node
+      → ToldIsBelow (input_of_cause stepping.cause) stepping.host.node.sends
       → StepsByChanges stepping.cause → (so_far next : StepState) (within : IsWithinStep stepping so_far next)
       → (moment next).past.attempts ≡ (moment so_far).past.attempts ++ attempts_of_change stepping.host so_far next within.change
   attempts-grow sound given by so_far next within =

@@ -1,6 +1,7 @@
 -- What a step has begun grows by what each change of the node begins: an attempt to create or write begins where one opens, and nowhere
 -- else.
-use Rattle.std.proofs.Common.{◌≡◌, ◌≢◌, arith, ℕ, ◌+◌, ◌≤◌, ◌<◌, ◌&&◌, ◌||◌, Bool, true, false, cond, List, [], ◌∷◌, ◌++◌, map, length, Option, Some, None, option_map, option_and_then, is_some, refl, sym, ap, ◌∙◌, append-nil, ⊎_elim}
+use Rattle.std.proofs.Common.{◌≡◌, ◌≢◌, arith, ℕ, ◌+◌, ◌≤◌, ◌<◌, ◌&&◌, ◌||◌, Bool, true, false, cond, List, [], ◌∷◌, ◌++◌, map, length}
+use Rattle.std.proofs.Common.{Option, Some, None, option_map, option_and_then, is_some, refl, sym, ap, ◌∙◌, append-nil, ⊎_elim}
 use Rattle.std.specs.List.{cons_option, filter_map, range_with_len, enumerate_from, list_any}
 use Rattle.std.specs.Option.{option_to_list}
 use Rattle.std.specs.FinMap as tree
@@ -24,7 +25,9 @@ use Rattle.sheep_node.specs.State.{Node}
 use Rattle.sheep_node.specs.StepState.{StepState, at_first, with_gateway}
 use Rattle.sheep_node.specs.OneWork.{NumbersAreOfOneWork, NumbersAreBelow, may_work_at}
 use Rattle.sheep_node.specs.Changes as changes
-use Rattle.sheep_node.specs.Changes.{input_received, IsSoundStep, LearnsStatus, gateway_with_touch, without_ended_work, ToWork, ToEntry, ToReply, zones_of_members, attempt_in, with_open_attempt, without_denied_work, WorkIsNext, Change, Leads}
+use Rattle.sheep_node.specs.Changes.{input_received, IsSoundStep, LearnsStatus, gateway_with_touch, without_ended_work, ToWork, ToEntry}
+use Rattle.sheep_node.specs.Changes.{ToReply, zones_of_members, attempt_in, with_open_attempt, without_denied_work, WorkIsNext, Change}
+use Rattle.sheep_node.specs.Changes.{Leads}
 use Rattle.sheep_node.proofs.AwaitedWorks.{found_got, got_found}
 use Rattle.sheep_node.proofs.MessageNumbers.{fresh_apart}
 use Rattle.sheep_node.proofs.OneWorkChanges.{never_alone}
@@ -34,15 +37,20 @@ use Rattle.sheep_world.specs.NodeCauses.{host_with_node}
 use Rattle.sheep_world.proofs.AskedWorks.{ToldIsBelow}
 use Rattle.overlap_law.specs.Attempts.{AttemptRecord, is_first, beginning, beginning_with, attempt_begun_with, attempts_begun_by}
 use Rattle.overlap_law.specs.StepMoments.{attempts_of_change}
-use Rattle.overlap_law.proofs.BegunNumbers.{filter_map-none, begins-same, AreAlike, begun-alike, begun-none, DifferAtRequest, alike_elsewhere, differ_twice, begun-so_far, begun-with_more}
+use Rattle.overlap_law.proofs.BegunNumbers.{filter_map-none, begins-same, AreAlike, begun-alike, begun-none, DifferAtRequest}
+use Rattle.overlap_law.proofs.BegunNumbers.{alike_elsewhere, differ_twice, begun-so_far, begun-with_more}
 use Rattle.overlap_law.proofs.MarkedMessages.{awaited-marked, begins-marked}
-use Rattle.overlap_law.proofs.RequestDifferences.{awaits_none-idle, course_differs, ended_differs, refused_differs, refused_if_there_differs, work_differs, gone_differs, awaits_none-over, ended_work_differs, steps_differ, next_differs}
-use Rattle.overlap_law.proofs.SendsOfChanges.{steps_send_nothing, next_sends_nothing, refusal_sends_nothing, denial_sends_nothing, end_sends_nothing, count_above}
+use Rattle.overlap_law.proofs.RequestDifferences.{awaits_none-idle, course_differs, ended_differs, refused_differs}
+use Rattle.overlap_law.proofs.RequestDifferences.{refused_if_there_differs, work_differs, gone_differs, awaits_none-over}
+use Rattle.overlap_law.proofs.RequestDifferences.{ended_work_differs, steps_differ, next_differs}
+use Rattle.overlap_law.proofs.SendsOfChanges.{steps_send_nothing, next_sends_nothing, refusal_sends_nothing, denial_sends_nothing}
+use Rattle.overlap_law.proofs.SendsOfChanges.{end_sends_nothing, count_above}
 
 -- ---- an attempt that opens
 
 module _ (host : Host) (req : ℕ) (asked : Work) (lined : StepState)
-    (once : NumbersAreOfOneWork (with_open_attempt req asked lined).node.gateway.works) (given : NumbersAreBelow lined.node.sends lined.node.gateway.works) where
+    (once : NumbersAreOfOneWork (with_open_attempt req asked lined).node.gateway.works)
+    (given : NumbersAreBelow lined.node.sends lined.node.gateway.works) where
   abbrev first : ℕ
   first = lined.node.sends
 
@@ -59,10 +67,12 @@ module _ (host : Host) (req : ℕ) (asked : Work) (lined : StepState)
   now = record asked { stage = stage }
 
   abbrev places : List (ℕ × NodeId)
-  places = targets_asked asked.work asked.ended (targets_in lined.node.epochs lined.node.peer.epoch (oid_of asked.work) (policy_of asked.work))
+  places =
+      targets_asked asked.work asked.ended (targets_in lined.node.epochs lined.node.peer.epoch (oid_of asked.work) (policy_of asked.work))
 
   -- what waits for a new number is the new work
-  new_only : (k q : ℕ) (work : Work) → first ≤ k → tree.get then.gateway.works q ≡ Some work → is_awaited_in k work ≡ true → (q ≡ req) × (now ≡ work)
+  new_only : (k q : ℕ) (work : Work) → first ≤ k → tree.get then.gateway.works q ≡ Some work → is_awaited_in k work ≡ true
+      → (q ≡ req) × (now ≡ work)
   new_only k q work from got awaits = ⊎_elim (λ own. own)
       (λ other. let below = given k q work other.1 awaits in absurd (omega (arith, below, from)))
       (get-insert_cases lined.node.gateway.works req now q work got)
@@ -84,7 +94,8 @@ module _ (host : Host) (req : ℕ) (asked : Work) (lined : StepState)
       not_first q none = by_making (is_making asked.work) (is_first k (attempt_in asked lined.node).messages) none
         where
           by_making : (b c : Bool) → c ≡ false
-              → cond (b && c) (option_map (beginning (host_with_node host then) k q asked.work (attempt_in asked lined.node)) (tree.get then.requests q)) None ≡ None
+              → cond (b && c) (option_map (beginning (host_with_node host then) k q asked.work (attempt_in asked lined.node))
+              (tree.get then.requests q)) None ≡ None
           by_making true true none = absurd (cc (none))
           by_making true false none = refl
           by_making false c none = refl
@@ -120,7 +131,8 @@ module _ (host : Host) (req : ℕ) (asked : Work) (lined : StepState)
   none_first true o = refl
   none_first false o = refl
 
-  by_places : (ps : List (ℕ × NodeId)) → places ≡ ps → filter_map (attempt_begun_with (host_with_node host then)) (range_with_len first (more ps))
+  by_places : (ps : List (ℕ × NodeId)) → places ≡ ps
+      → filter_map (attempt_begun_with (host_with_node host then)) (range_with_len first (more ps))
       ≡ option_to_list (beginning_with (host_with_node host lined.node) first req asked.work (Open (attempt_with ps)))
   by_places [] is = sym (none_first (is_making asked.work)
       (option_map (beginning (host_with_node host lined.node) first req asked.work (attempt_with [])) (tree.get lined.node.requests req)))
@@ -134,7 +146,8 @@ module _ (host : Host) (req : ℕ) (asked : Work) (lined : StepState)
       (λ k from below. later_none k (omega (arith, from))) in
       (λ i. cons_option (first_begun awaits i) (later i))
       ∙ one_of (beginning_with (host_with_node host then) first req asked.work stage)
-      ∙ ap (λ (ps : List (ℕ × NodeId)). option_to_list (beginning_with (host_with_node host lined.node) first req asked.work (Open (attempt_with ps)))) is
+      ∙ ap (λ (ps : List (ℕ × NodeId)). option_to_list (beginning_with (host_with_node host lined.node) first req asked.work
+      (Open (attempt_with ps)))) is
 
   -- those that begin by the numbers that are given
   pub begun-by_opening : filter_map (attempt_begun_with (host_with_node host then)) (range_with_len first (more places))
@@ -156,13 +169,16 @@ module _ (input : Input) (host : Host) (sound : IsSoundStep input host.node) (gi
       → DifferAtRequest low so_far.node.sends req so_far.node next.node → begun_at next ≡ begun_at so_far ++ []
   none_begins so_far next req both sends d =
       begun-so_far host so_far.node next.node sends (λ k from below.
-      begun-alike host k so_far.node next.node both.1.once (alike_elsewhere host low so_far.node.sends req so_far.node next.node d k from below))
+      begun-alike host k so_far.node next.node both.1.once (alike_elsewhere host low so_far.node.sends req so_far.node next.node d k from
+      below))
       ∙ sym (append-nil (begun_at so_far))
 
   -- a message is marked
-  marked_alike : (so_far : StepState) (req number : ℕ) (work : Work) (attempt : gateways.Attempt) (status : Status) → LearnsStatus input host.node so_far req number work attempt status
+  marked_alike : (so_far : StepState) (req number : ℕ) (work : Work) (attempt : gateways.Attempt) (status : Status)
+      → LearnsStatus input host.node so_far req number work attempt status
       → (k : ℕ) → k ≢ number → AreAlike host k so_far.node
-      (with_gateway (with_work req (record work { stage = Open (attempt_with_status number status attempt) }) (gateway_with_touch req work status so_far)) so_far).node
+      (with_gateway (with_work req (record work { stage = Open (attempt_with_status number status attempt) })
+      (gateway_with_touch req work status so_far)) so_far).node
   marked_alike so_far req number work attempt status learns k apart =
       let works = so_far.node.gateway.works in
       let now : Work = record work { stage = Open (attempt_with_status number status attempt) } in
@@ -190,10 +206,12 @@ module _ (input : Input) (host : Host) (sound : IsSoundStep input host.node) (gi
             (get-insert_cases works req now q later got);
       }
 
-  opening_begins : (so_far : StepState) (session req : ℕ) (asked : Work) (lined : StepState) → WorkIsNext input host.node so_far session req asked lined
+  opening_begins : (so_far : StepState) (session req : ℕ) (asked : Work) (lined : StepState)
+      → WorkIsNext input host.node so_far session req asked lined
       → HasOneWorkAndNumber so_far → low ≤ so_far.node.sends → HasOneWorkAndNumber (with_open_attempt req asked lined)
       → begun_at (with_open_attempt req asked lined)
-      ≡ begun_at so_far ++ option_to_list (beginning_with (host_with_node host lined.node) lined.node.sends req asked.work (Open (attempt_in asked lined.node)))
+      ≡ begun_at so_far ++ option_to_list (beginning_with (host_with_node host lined.node) lined.node.sends req asked.work
+      (Open (attempt_in asked lined.node)))
   opening_begins so_far session req asked lined comes both above after =
       let high = so_far.node.sends in
       let then = (with_open_attempt req asked lined).node in
@@ -202,7 +220,8 @@ module _ (input : Input) (host : Host) (sound : IsSoundStep input host.node) (gi
       let sends = (next_sends_nothing so_far session req asked lined comes).0 in
       let numbered = comes_numbered so_far session req asked lined comes both.1 in
       let now : Work = record asked { stage = Open (attempt_in asked lined.node) } in
-      let places = targets_asked asked.work asked.ended (targets_in lined.node.epochs lined.node.peer.epoch (oid_of asked.work) (policy_of asked.work)) in
+      let places = targets_asked asked.work asked.ended (targets_in lined.node.epochs lined.node.peer.epoch (oid_of asked.work)
+      (policy_of asked.work)) in
       let count = length (map (send_of lined.node.gateway.me epoch asked.work) (attempt_in asked lined.node).messages) in
       let one = next_differs low high req sound given so_far session asked lined comes both.0 in
       let two : DifferAtRequest low high req lined.node then = record {
@@ -221,7 +240,8 @@ module _ (input : Input) (host : Host) (sound : IsSoundStep input host.node) (gi
       (ap (λ (n : ℕ). filter_map (attempt_begun_with (host_with_node host then)) (range_with_len n count)) (sym sends)
       ∙ begun-by_opening host req asked lined after.1.once numbered.given)
 
-  pub change_begins : (so_far next : StepState) (change : Change input host.node so_far next) → HasOneWorkAndNumber so_far → low ≤ so_far.node.sends → HasOneWorkAndNumber next
+  pub change_begins : (so_far next : StepState) (change : Change input host.node so_far next) → HasOneWorkAndNumber so_far
+      → low ≤ so_far.node.sends → HasOneWorkAndNumber next
       → begun_at next ≡ begun_at so_far ++ attempts_of_change host so_far next change
   change_begins so_far next (changes.Marks req number work attempt status learns over) both above after =
       let told : number < low = given number status learns.told in
@@ -231,8 +251,9 @@ module _ (input : Input) (host : Host) (sound : IsSoundStep input host.node) (gi
       ∙ sym (append-nil (begun_at so_far))
   change_begins so_far next (changes.Fails session req number work attempt status course ends done why) both above after =
       none_begins so_far next req after refl
-      (work_differs low so_far.node.sends req (record work { ended = work.ended + 1; stage = Ended }) so_far (gateway_with_touch req work status so_far) refl
-      (λ k from below. refl) (awaits_none-over low so_far.node.sends req sound given so_far number work attempt status ends.learns ends.over))
+      (work_differs low so_far.node.sends req (record work { ended = work.ended + 1; stage = Ended }) so_far
+      (gateway_with_touch req work status so_far) refl (λ k from below. refl)
+      (awaits_none-over low so_far.node.sends req sound given so_far number work attempt status ends.learns ends.over))
   change_begins so_far next (changes.Stops session req number work attempt status course bytes ends over) both above after =
       none_begins so_far next req after refl
       (ended_work_differs low so_far.node.sends req sound given so_far session number work attempt status ends.ends.learns ends.ends.over)
@@ -241,13 +262,14 @@ module _ (input : Input) (host : Host) (sound : IsSoundStep input host.node) (gi
       none_begins so_far next req after (refusal_sends_nothing session req cause course freed).0
       (refused_differs low so_far.node.sends req so_far session cause course freed
       (ended_work_differs low so_far.node.sends req sound given so_far session number work attempt status ends.learns ends.over))
-  change_begins so_far next (changes.Opens session req asked lined comes enough) both above after = opening_begins so_far session req asked lined comes both above after
+  change_begins so_far next (changes.Opens session req asked lined comes enough) both above after =
+      opening_begins so_far session req asked lined comes both above after
   change_begins so_far next (changes.Holds session req asked lined comes short touched) both above after =
       let one = next_differs low so_far.node.sends req sound given so_far session asked lined comes both.0 in
       none_begins so_far next req after (next_sends_nothing so_far session req asked lined comes).0
       (differ_twice low so_far.node.sends req so_far.node lined.node next.node one
-      (work_differs low so_far.node.sends req (record asked { stage = WaitsForMembers (record { 0 = lined.node.peer.epoch }) }) lined lined.node.gateway refl
-      (λ k from below. refl) one.is))
+      (work_differs low so_far.node.sends req (record asked { stage = WaitsForMembers (record { 0 = lined.node.peer.epoch }) }) lined
+      lined.node.gateway refl (λ k from below. refl) one.is))
   change_begins so_far next (changes.Denies session req asked lined request comes short untouched there own) both above after =
       let one = next_differs low so_far.node.sends req sound given so_far session asked lined comes both.0 in
       let denied = without_denied_work session req asked lined in
@@ -255,8 +277,10 @@ module _ (input : Input) (host : Host) (sound : IsSoundStep input host.node) (gi
       none_begins so_far next req after
       ((denial_sends_nothing req cause request denied).0 ∙ (next_sends_nothing so_far session req asked lined comes).0)
       (refused_if_there_differs low so_far.node.sends req so_far cause request denied
-      (differ_twice low so_far.node.sends req so_far.node lined.node denied.node one (gone_differs low so_far.node.sends req session asked lined one.is)))
-  change_begins so_far next (changes.Strays req work gateway there none apart) both above after = absurd (never_alone req work so_far there none both.0)
+      (differ_twice low so_far.node.sends req so_far.node lined.node denied.node one
+      (gone_differs low so_far.node.sends req session asked lined one.is)))
+  change_begins so_far next (changes.Strays req work gateway there none apart) both above after =
+      absurd (never_alone req work so_far there none both.0)
   change_begins so_far next (changes.Lines session req work moved steps waits) both above after =
       let d = steps_differ low so_far.node.sends req sound given so_far session (ToWork work) moved steps both.0 in
       none_begins so_far next req after (steps_send_nothing so_far session req (ToWork work) moved steps).0
@@ -268,7 +292,8 @@ module _ (input : Input) (host : Host) (sound : IsSoundStep input host.node) (gi
   change_begins so_far next (changes.Replies session req reply moved steps) both above after =
       none_begins so_far next req after
       ((end_sends_nothing session req reply moved).0 ∙ (steps_send_nothing so_far session req (ToReply reply) moved steps).0)
-      (ended_differs low so_far.node.sends req so_far session reply moved (steps_differ low so_far.node.sends req sound given so_far session (ToReply reply) moved steps both.0))
+      (ended_differs low so_far.node.sends req so_far session reply moved
+      (steps_differ low so_far.node.sends req sound given so_far session (ToReply reply) moved steps both.0))
   change_begins so_far next (changes.Arrives session req ask disk arrival on) both above after =
       let d = course_differs low so_far.node.sends req session (Waiting ask) so_far
       (awaits_none-idle low so_far.node.sends req so_far both.0 (ap may_work_at (arrival.none sound))) in

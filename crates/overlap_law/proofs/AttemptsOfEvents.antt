@@ -1,5 +1,6 @@
 -- The attempts after an event at which no node steps, or a node comes back: a lost request dooms its message, and nothing else is told.
-use Rattle.std.proofs.Common.{◌≡◌, ℕ, zero, suc, ◌-◌, Bool, true, false, cond, List, [], ◌∷◌, ◌++◌, Option, Some, None, refl, sym, ap, ◌∙◌, append-nil}
+use Rattle.std.proofs.Common.{◌≡◌, ℕ, zero, suc, ◌-◌, Bool, true, false, cond, List, [], ◌∷◌, ◌++◌, Option, Some, None, refl, sym, ap, ◌∙◌}
+use Rattle.std.proofs.Common.{append-nil}
 use Rattle.std.specs.Ordering.{nat_cmp}
 use Rattle.std.specs.Option.{option_map_or}
 use Rattle.std.specs.FinMap as tree
@@ -13,8 +14,10 @@ use Rattle.sheep_node.specs.declared.event.Event.{Event}
 use Rattle.sheep_world.specs.World.{Host, World, host_at}
 use Rattle.sheep_world.specs.Enabled.{loss_of}
 use Rattle.sheep_world.specs.Step.{EventOutcome}
-use Rattle.sheep_world.specs.EventKinds.{IsUntoldLoss, IsUnreadDelivery, IsNodeLoss, IsNodeLeave, IsNodeReweight, IsNodeJoin, IsNodeReturn, IsPhaseEnd}
-use Rattle.overlap_law.specs.Attempts.{MessageFate, Flying, Served, Doomed, AttemptRecord, has_message, known_fate, fates_with, attempts_with_fate, fate_of_say}
+use Rattle.sheep_world.specs.EventKinds.{IsUntoldLoss, IsUnreadDelivery, IsNodeLoss, IsNodeLeave, IsNodeReweight, IsNodeJoin, IsNodeReturn}
+use Rattle.sheep_world.specs.EventKinds.{IsPhaseEnd}
+use Rattle.overlap_law.specs.Attempts.{MessageFate, Flying, Served, Doomed, AttemptRecord, has_message, known_fate, fates_with}
+use Rattle.overlap_law.specs.Attempts.{attempts_with_fate, fate_of_say}
 use Rattle.overlap_law.specs.BegunAttempts.{attempts_begun_in, attempts_begun, attempts_after_delivery, attempts_after}
 use Rattle.overlap_law.specs.StepMoments.{attempts_with_loss}
 use Rattle.overlap_law.proofs.BegunNumbers.{begun-at_first}
@@ -49,7 +52,8 @@ flying_if number attempt true =
     ap (λ (fates : List MessageFate). record attempt { fates = fates }) (fates-flying (number - attempt.first) attempt.fates)
 flying_if number attempt false = refl
 
-attempts-flying : (sender : NodeId) (number : ℕ) (attempts : List AttemptRecord) → attempts_with_fate Flying sender number attempts ≡ attempts
+attempts-flying : (sender : NodeId) (number : ℕ) (attempts : List AttemptRecord)
+    → attempts_with_fate Flying sender number attempts ≡ attempts
 unfolding attempts_with_fate
 attempts-flying sender number [] = refl
 attempts-flying sender number (attempt ∷ attempts) =
@@ -57,18 +61,22 @@ attempts-flying sender number (attempt ∷ attempts) =
 
 -- ---- the kinds of events
 
-untold : (script : List Statement) (world new : World) (attempts : List AttemptRecord) (name : MessageName) (packet : Packet) → new.hosts ≡ world.hosts
+untold : (script : List Statement) (world new : World) (attempts : List AttemptRecord) (name : MessageName) (packet : Packet)
+    → new.hosts ≡ world.hosts
     → attempts_after script (loss_of name packet) world new attempts ≡ attempts_with_loss name packet attempts
 unfolding attempts_after
 untold script world new attempts name (Request to bytes) same =
-    none_more (attempts_with_fate Doomed name.sender name.number attempts) (attempts_begun name.sender.0 world new) (none_begun name.sender.0 world new same)
+    none_more (attempts_with_fate Doomed name.sender name.number attempts) (attempts_begun name.sender.0 world new)
+    (none_begun name.sender.0 world new same)
 untold script world new attempts name (Reply from bytes) same =
     none_more attempts (attempts_begun name.sender.0 world new) (none_begun name.sender.0 world new same)
 
-unread : (world new : World) (attempts : List AttemptRecord) (name : MessageName) (packet : Packet) → new.hosts ≡ world.hosts → new.outputs.say ≡ None
+unread : (world new : World) (attempts : List AttemptRecord) (name : MessageName) (packet : Packet) → new.hosts ≡ world.hosts
+    → new.outputs.say ≡ None
     → attempts_after_delivery (Some packet) name world new attempts ≡ attempts
 unread world new attempts name (Request to bytes) same silent =
-    ap (λ (say : Option PeerRsp). attempts_with_fate (option_map_or (λ (rsp : PeerRsp). fate_of_say rsp.say) say Flying) name.sender name.number attempts) silent
+    ap (λ (say : Option PeerRsp). attempts_with_fate (option_map_or (λ (rsp : PeerRsp). fate_of_say rsp.say) say Flying) name.sender
+    name.number attempts) silent
     ∙ attempts-flying name.sender name.number attempts
 unread world new attempts name (Reply from bytes) same silent =
     none_more attempts (attempts_begun name.sender.0 world new) (none_begun name.sender.0 world new same)

@@ -1,6 +1,8 @@
 -- What is good is available at each moment, and so of each epoch that counts the newest one has as many targets as a read needs, if no
 -- attempt is of an epoch before its object's birth.
-use Rattle.std.proofs.Common.{◌≡◌, ◌≢◌, ◌⊎◌, inl, inr, ⊎_elim, arith, ℕ, zero, suc, ◌+◌, ◌-◌, ◌≤◌, ◌<◌, ◌==◌, ◌&&◌, max, not, Bool, true, false, cond, List, [], ◌∷◌, ◌++◌, length, filter, map, Option, Some, None, refl, sym, ap, subst, ◌∙◌, slice_get}
+use Rattle.std.proofs.Common.{◌≡◌, ◌≢◌, ◌⊎◌, inl, inr, ⊎_elim, arith, ℕ, zero, suc, ◌+◌, ◌-◌, ◌≤◌, ◌<◌, ◌==◌, ◌&&◌, max, not, Bool, true}
+use Rattle.std.proofs.Common.{false, cond, List, [], ◌∷◌, ◌++◌, length, filter, map, Option, Some, None, refl, sym, ap, subst, ◌∙◌}
+use Rattle.std.proofs.Common.{slice_get}
 use Rattle.std.specs.List.{find, list_all, range_with_len}
 use Rattle.std.specs.Option.{option_map, option_map_or}
 use Rattle.std.specs.FinMap as tree
@@ -21,8 +23,10 @@ use Rattle.sheep_node.specs.declared.event.Event.{Event}
 use Rattle.sheep_world.specs.World.{Host, World}
 use Rattle.sheep_world.specs.Step.{EventOutcome}
 use Rattle.sheep_world.specs.Incarnations.{EndedIncarnation, incarnation_in, is_incarnation_kept}
+use Rattle.sheep_world.specs.RunsWithAsks.{Move}
 use Rattle.overlap_law.specs.Attempts.{AttemptRecord, object_of, attempts_on}
-use Rattle.overlap_law.specs.Holders.{targets_by, creates, first_create, is_kept_in, is_available_since, is_available, born_objects, is_dead_by_log, lacks_holders, unavailable_in, is_object_among, is_live_object, is_good}
+use Rattle.overlap_law.specs.Holders.{targets_by, creates, first_create, is_kept_in, is_available_since, is_available, born_objects}
+use Rattle.overlap_law.specs.Holders.{is_dead_by_log, lacks_holders, unavailable_in, is_object_among, is_live_object, is_good}
 use Rattle.overlap_law.specs.Past.{MomentWithPast, run_with_past, past_after_event, moment_after, counts}
 use Rattle.overlap_law.specs.Each.{EachAttempt, policy_in}
 use Rattle.overlap_law.specs.Fates.{AttemptsAreShaped}
@@ -68,7 +72,8 @@ among_filter p (first ∷ oids) oid among passes =
     by_test false is (inr later) rest = rest later
 
 -- what holds of each number of a range
-all_in_range : (p : ℕ → Bool) (start count k : ℕ) → list_all p (range_with_len start count) ≡ true → start ≤ k → k < start + count → p k ≡ true
+all_in_range : (p : ℕ → Bool) (start count k : ℕ) → list_all p (range_with_len start count) ≡ true → start ≤ k → k < start + count
+    → p k ≡ true
 all_in_range p start zero k all from below = absurd (omega (arith, from, below))
 all_in_range p start (suc count) k all from below =
     let parts = and_parts (p start) (list_all p (range_with_len (start + 1) count)) all in
@@ -167,7 +172,8 @@ module _ (log : List Entry) (attempts : List AttemptRecord) (counts_in : NodeId 
           → need_of policy (kind_of oid) ≤ common (targets_by log) log epoch (epoch_of log) oid policy
       enough oid policy epoch kept =
           let targets : List NodeId = targets_by log epoch oid policy in
-          let counting : need_of policy (kind_of oid) ≤ length (filter (λ (node : NodeId). counts_in node epoch) (targets_by log epoch oid policy))
+          let counting : need_of policy (kind_of oid) ≤ length (filter (λ (node : NodeId). counts_in node epoch)
+          (targets_by log epoch oid policy))
           = leb-true (need_of policy (kind_of oid)) (length (filter (λ (node : NodeId). counts_in node epoch) targets)) kept in
           let more : length (filter (λ (node : NodeId). counts_in node epoch) (targets_by log epoch oid policy))
           ≤ common (targets_by log) log epoch (epoch_of log) oid policy
@@ -205,14 +211,16 @@ module _ (log : List Entry) (attempts : List AttemptRecord) (counts_in : NodeId 
       by_test false lacking =
           let lacks : lacks_holders counts_in log attempts oid ≡ true
           = and_from (not (is_dead_by_log log oid)) (not (is_available counts_in log attempts oid)) live.1 (ap not lacking) in
-          let among : is_object_among oid (filter (λ (o : ℕ). not (is_object_among o before)) (unavailable_in counts_in log attempts)) ≡ true
+          let among : is_object_among oid (filter (λ (o : ℕ). not (is_object_among o before)) (unavailable_in counts_in log attempts))
+          ≡ true
           = among_filter (λ (o : ℕ). not (is_object_among o before)) (unavailable_in counts_in log attempts) oid
           (among_filter (lacks_holders counts_in log attempts) (born_objects attempts) oid live.0 lacks) (ap not none.0) in
           let no = none.1 in
           absurd (cc (among, no))
 
 -- who counts is up, and so a member of the newest epoch
-pub counted_member : (log : List Entry) (ended : List EndedIncarnation) (world : World) → TheUpAreMembers log world.hosts → (node : NodeId) (epoch : ℕ)
+pub counted_member : (log : List Entry) (ended : List EndedIncarnation) (world : World) → TheUpAreMembers log world.hosts
+    → (node : NodeId) (epoch : ℕ)
     → counts ended world node epoch ≡ true → is_member node.0 (members_in log (epoch_of log)) ≡ true
 counted_member log ended world members node epoch is = by_host (tree.get world.hosts node.0) refl is
   where
@@ -238,11 +246,13 @@ after_event script event start made oid is =
     good_available made.world.log (moment_after script event start made).past.attempts
     (counts (moment_after script event start made).past.ended made.world) start.past.unavailable oid is
 
-pub available_now : (script : List Statement) {start before after : MomentWithPast} → MomentChange script start before after → IsAvailableNow after
+pub available_now : (script : List Statement) {start before after : MomentWithPast} → MomentChange script start before after
+    → IsAvailableNow after
 available_now script {start} change = behind_change script start IsAvailableNow (λ event made. after_event script event start made) change
 
-module _ (script : List Statement) (range : RunsAreInRange script) (events : List Event) (start before after : MomentWithPast)
-    (is : run_with_past script events ≡ Some start) (trail : MomentTrail script start before) (change : MomentChange script start before after) where
+module _ (script : List Statement) (range : RunsAreInRange script) (events : List Move) (start before after : MomentWithPast)
+    (is : run_with_past script events ≡ Some start) (trail : MomentTrail script start before)
+    (change : MomentChange script start before after) where
   abbrev good_now : ℕ → Bool
   good_now = is_good after.world.log after.past.attempts after.past.unavailable
 

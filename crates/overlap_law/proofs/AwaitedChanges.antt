@@ -1,5 +1,6 @@
 -- Each change of a node leaves the entries of its commands on their way awaited, once each, and its commands their sessions'.
-use Rattle.std.proofs.Common.{◌≡◌, ◌≢◌, ⊎_elim, arith, ℕ, ◌+◌, ◌≤◌, ◌<◌, Bool, true, false, List, [], ◌∷◌, ◌++◌, option_to_list, Option, Some, None, IfSome, refl, sym, ap, subst, ◌∙◌}
+use Rattle.std.proofs.Common.{◌≡◌, ◌≢◌, ⊎_elim, arith, ℕ, ◌+◌, ◌≤◌, ◌<◌, Bool, true, false, List, [], ◌∷◌, ◌++◌, option_to_list, Option}
+use Rattle.std.proofs.Common.{Some, None, IfSome, refl, sym, ap, subst, ◌∙◌}
 use Rattle.std.specs.Ordering.{nat_cmp}
 use Rattle.std.specs.Option.{option_map_or}
 use Rattle.std.specs.FinMap as tree
@@ -88,8 +89,8 @@ module _ (read : List Entry) (me : NodeId) where
           (λ (here : (other ≡ req) × (new ≡ second)).
           sole (ap (λ (r : Request). is_command r.course) here.1 ∙ is_too) one first there.1 is
           (same ∙ sym (ap (λ (r : Request). r.session) here.1)) ∙ sym here.0)
-          (λ (there_too : (other ≢ req) × (tree.get requests other ≡ Some second)). so.apart one other first second there.1 there_too.1 is is_too same)
-          (get-insert_cases requests req new other second got_too))
+          (λ (there_too : (other ≢ req) × (tree.get requests other ≡ Some second)). so.apart one other first second there.1 there_too.1 is
+          is_too same) (get-insert_cases requests req new other second got_too))
           (get-insert_cases requests req new one first got);
     }
       where
@@ -99,7 +100,8 @@ module _ (read : List Entry) (me : NodeId) where
     was_there : (q : ℕ) (request : Request) → tree.get (tree.remove requests req) q ≡ Some request → tree.get requests q ≡ Some request
     was_there q request got = ⊎_elim
         (λ (own : q ≡ req).
-        let none : tree.get (tree.remove requests req) q ≡ None = ap (tree.get (tree.remove requests req)) own ∙ get-remove_same requests req in
+        let none : tree.get (tree.remove requests req) q ≡ None = ap (tree.get (tree.remove requests req)) own
+        ∙ get-remove_same requests req in
         absurd (cc (none, got)))
         (λ (other : q ≢ req). sym (get-remove_other requests req q other) ∙ got)
         (cases_eq q req)
@@ -107,7 +109,8 @@ module _ (read : List Entry) (me : NodeId) where
     gone_own : AreOwnCommands (tree.remove requests req)
     gone_own = record {
       own = λ q request got. so.own q request (was_there q request got);
-      apart = λ one other first second got got_too. so.apart one other first second (was_there one first got) (was_there other second got_too);
+      apart = λ one other first second got got_too. so.apart one other first second (was_there one first got)
+          (was_there other second got_too);
     }
 
 -- and what of the log it hasn't read, and the entry that it just reads
@@ -127,7 +130,8 @@ module _ (read : List Entry) (me : NodeId) (unread : List Entry) (reading : Opti
   AreAwaitedSoFar so_far = AreAwaited so_far.node.me so_far.node.requests so_far.node.outbox
 
   -- who waited waits still, where the request that changes didn't
-  asker_elsewhere : (requests : Requests) (req : ℕ) (entry : Entry) → ((old : Request) → tree.get requests req ≡ Some old → WaitsNot entry old)
+  asker_elsewhere : (requests : Requests) (req : ℕ) (entry : Entry)
+      → ((old : Request) → tree.get requests req ≡ Some old → WaitsNot entry old)
       → (asker : HasAsker requests entry) → asker.req ≢ req
   asker_elsewhere requests req entry not asker same =
       let waits_not_so = not asker.request (ap (tree.get requests) (sym same) ∙ asker.there) in
@@ -135,7 +139,8 @@ module _ (read : List Entry) (me : NodeId) (unread : List Entry) (reading : Opti
       absurd (cc (waits_not_so, waits_so))
 
   module _ (now : NodeId) (requests : Requests) (outbox : List Entry) (so : AreAwaited now requests outbox) (req : ℕ)
-      (free : (entry : Entry) → IsCommandEntry me entry → 1 ≤ on_way entry outbox → (old : Request) → tree.get requests req ≡ Some old → WaitsNot entry old) where
+      (free : (entry : Entry) → IsCommandEntry me entry → 1 ≤ on_way entry outbox → (old : Request) → tree.get requests req ≡ Some old
+      → WaitsNot entry old) where
     pub put_awaited : (session : ℕ) (course : Course) → IsOwnCourse read me session course → IsSole read me requests req session course
         → AreAwaited now (tree.insert requests req (record { session = session; course = course })) outbox
     put_awaited session course own sole = record {
@@ -226,13 +231,15 @@ module _ (read : List Entry) (me : NodeId) (unread : List Entry) (reading : Opti
   abbrev pub WaitsForNone : Requests → ℕ → Type 0
   WaitsForNone requests req = (entry : Entry) (old : Request) → tree.get requests req ≡ Some old → WaitsNot entry old
 
-  pub ended_awaited : (session req : ℕ) (reply : GuestRsp) (so_far : StepState) → WaitsForNone so_far.node.requests req → AreAwaitedSoFar so_far
+  pub ended_awaited : (session req : ℕ) (reply : GuestRsp) (so_far : StepState) → WaitsForNone so_far.node.requests req
+      → AreAwaitedSoFar so_far
       → AreAwaitedSoFar (request_ended session req reply so_far)
   unfolding request_ended
   ended_awaited session req reply so_far none so =
       gone_awaited so_far.node.me so_far.node.requests so_far.node.outbox so req (λ entry is some old got. none entry old got)
 
-  this_waits_not : (requests : Requests) (session req : ℕ) (course : Course) → tree.get requests req ≡ Some (record { session = session; course = course })
+  this_waits_not : (requests : Requests) (session req : ℕ) (course : Course)
+      → tree.get requests req ≡ Some (record { session = session; course = course })
       → ((entry : Entry) → waits_for_entry entry course ≡ false) → WaitsForNone requests req
   this_waits_not requests session req course there none entry old got =
       let same : record { session = session; course = course } ≡ old = same_Some _ old (sym there ∙ got) in
@@ -243,7 +250,8 @@ module _ (read : List Entry) (me : NodeId) (unread : List Entry) (reading : Opti
       → AreAwaitedSoFar (course_refused session req cause course so_far)
   refused_awaited session req cause (Waiting ask) so_far there so = so
   refused_awaited session req cause (Driving driver) so_far there so =
-      ended_awaited session req (Refused cause) so_far (this_waits_not so_far.node.requests session req (Driving driver) there (λ entry. refl)) so
+      ended_awaited session req (Refused cause) so_far (this_waits_not so_far.node.requests session req (Driving driver) there
+      (λ entry. refl)) so
   refused_awaited session req cause (Commanding op) so_far there so = by_end (on_refusal cause op) (refused_waits_not me cause op)
     where
       by_end : (end : Option OpEnd) → IfSome end (EndsWaitingForNone me op) → AreAwaitedSoFar (command_refused session req end so_far)
@@ -253,16 +261,21 @@ module _ (read : List Entry) (me : NodeId) (unread : List Entry) (reading : Opti
           (this_waits_not so_far.node.requests session req (Commanding op) there is.waits)
           (more_if_awaited so_far.node.me so_far.node.requests so_far.node.outbox so end.unlock is.unlock)
   refused_awaited session req cause (Checking check) so_far there so =
-      ended_awaited session req (Refused cause) so_far (this_waits_not so_far.node.requests session req (Checking check) there (λ entry. refl)) so
+      ended_awaited session req (Refused cause) so_far (this_waits_not so_far.node.requests session req (Checking check) there
+      (λ entry. refl)) so
   refused_awaited session req cause (DoingWork work) so_far there so =
-      ended_awaited session req (Refused cause) so_far (this_waits_not so_far.node.requests session req (DoingWork work) there (λ entry. refl)) so
+      ended_awaited session req (Refused cause) so_far (this_waits_not so_far.node.requests session req (DoingWork work) there
+      (λ entry. refl)) so
   refused_awaited session req cause (AwaitingDecision entry) so_far there so = so
 
-  pub refused_if_there_awaited : (req : ℕ) (cause : Cause) (request : Option Request) (so_far : StepState) → tree.get so_far.node.requests req ≡ request
+  pub refused_if_there_awaited : (req : ℕ) (cause : Cause) (request : Option Request) (so_far : StepState)
+      → tree.get so_far.node.requests req ≡ request
       → AreAwaitedSoFar so_far
-      → AreAwaitedSoFar (option_map_or (λ (request : Request). course_refused request.session req cause request.course so_far) request so_far)
+      → AreAwaitedSoFar (option_map_or (λ (request : Request). course_refused request.session req cause request.course so_far) request
+      so_far)
   refused_if_there_awaited req cause None so_far there so = so
-  refused_if_there_awaited req cause (Some request) so_far there so = refused_awaited request.session req cause request.course so_far there so
+  refused_if_there_awaited req cause (Some request) so_far there so =
+      refused_awaited request.session req cause request.course so_far there so
 
   -- ---- a command goes on
 
@@ -287,19 +300,24 @@ module _ (read : List Entry) (me : NodeId) (unread : List Entry) (reading : Opti
       (λ (none : on_way entry outbox ≤ 0). omega (arith, none))
       (cases_lt 0 (on_way entry outbox))
     where
-      by_course : (asker : HasAsker requests entry) (course : Course) → asker.request.course ≡ course → IsOwnCourse read me asker.request.session course
-          → waits_for_entry entry course ≡ true → (is_command course ≡ true) × IsSessionsEntry (log_effects read) me asker.request.session entry
+      by_course : (asker : HasAsker requests entry) (course : Course) → asker.request.course ≡ course
+          → IsOwnCourse read me asker.request.session course
+          → waits_for_entry entry course ≡ true
+          → (is_command course ≡ true) × IsSessionsEntry (log_effects read) me asker.request.session entry
       by_course asker (Waiting ask) is own waits = absurd (cc (waits))
       by_course asker (Driving driver) is own waits = absurd (cc (waits))
-      by_course asker (Commanding op) is own waits = (refl, waited_own (log_effects read) me asker.request.session entry op.stage own.stage waits)
+      by_course asker (Commanding op) is own waits =
+          (refl, waited_own (log_effects read) me asker.request.session entry op.stage own.stage waits)
       by_course asker (Checking check) is own waits = absurd (cc (waits))
       by_course asker (DoingWork work) is own waits = absurd (cc (waits))
       by_course asker (AwaitingDecision wanted) is own waits = absurd own
 
       waiting : HasAsker requests entry → ⊥
       waiting asker =
-          let (command, its) = by_course asker asker.request.course refl (so.commands.own asker.req asker.request asker.there) asker.waits in
-          nobody asker.req asker.request asker.there command (session_of_entry read me asker.request.session session entry its own) entry asker.waits
+          let (command, its) = by_course asker asker.request.course refl (so.commands.own asker.req asker.request asker.there)
+          asker.waits in
+          nobody asker.req asker.request asker.there command (session_of_entry read me asker.request.session session entry its own) entry
+          asker.waits
 
   -- a command is put with its act
   pub command_awaited : (now : NodeId) (requests : Requests) (outbox : List Entry) (session req : ℕ) (op : Op) (act : OpAct)

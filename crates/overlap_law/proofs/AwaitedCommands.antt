@@ -1,5 +1,6 @@
 -- Which entry a request waits for, as a command goes on: the one that its step puts; and behind a decision none is put.
-use Rattle.std.proofs.Common.{◌≡◌, ℕ, Bool, true, false, List, Option, Some, None, IfSome, option_map, option_and_then, refl, sym, ap, subst, ◌∙◌}
+use Rattle.std.proofs.Common.{◌≡◌, ℕ, Bool, true, false, List, Option, Some, None, IfSome, option_map, option_and_then, refl, sym, ap}
+use Rattle.std.proofs.Common.{subst, ◌∙◌}
 use Rattle.std.specs.Option.{option_map_or}
 use Rattle.object_id.specs.declared.cause.Cause.{Cause}
 use Rattle.object_id.specs.declared.oid.Vid.{Vid}
@@ -20,7 +21,8 @@ use Rattle.vdi_ops.specs.declared.act.OpAct.{OpAct}
 use Rattle.vdi_ops.specs.declared.act.OpAct.TheVariants as op_acts
 use Rattle.vdi_ops.specs.declared.end.OpEnd.{OpEnd}
 use Rattle.vdi_ops.specs.Op.{OpStage, Asked, Working, Publishing, Answered, Op, OpStep, entry_wanted_at, IsAwaitedAtOpStage}
-use Rattle.vdi_ops.specs.Steps.{tag_step, copy_step, step_after_grant, step_after_decision, decided_at, on_decision, done_at, op_on_done, refused_at, on_refusal}
+use Rattle.vdi_ops.specs.Steps.{tag_step, copy_step, step_after_grant, step_after_decision, decided_at, on_decision, done_at, op_on_done}
+use Rattle.vdi_ops.specs.Steps.{refused_at, on_refusal}
 use Rattle.sheep_node.specs.declared.course.Course.{Course}
 use Rattle.sheep_node.specs.declared.course.Course.TheVariants.{Waiting, Driving, Commanding, Checking, DoingWork, AwaitingDecision}
 use Rattle.overlap_law.specs.AwaitedEntries.{IsCommandEntry, IsSessionsEntry, IsSessionsStage}
@@ -40,11 +42,13 @@ is_command (DoingWork work) = false
 is_command (AwaitingDecision entry) = false
 
 -- an entry that is waited for is the session's
-pub waited_own : (known : List Effect) (me : NodeId) (session : ℕ) (entry : Entry) (stage : OpStage) → IsSessionsStage known me session stage
+pub waited_own : (known : List Effect) (me : NodeId) (session : ℕ) (entry : Entry) (stage : OpStage)
+    → IsSessionsStage known me session stage
     → waits_at entry stage ≡ true → IsSessionsEntry known me session entry
 waited_own known me session entry (Asked wanted) own waits = subst (IsSessionsEntry known me session) (same_entry wanted entry waits) own
 waited_own known me session entry (Working vid task) own waits = absurd (cc (waits))
-waited_own known me session entry (Publishing wanted opened) own waits = subst (IsSessionsEntry known me session) (same_entry wanted entry waits) own
+waited_own known me session entry (Publishing wanted opened) own waits =
+    subst (IsSessionsEntry known me session) (same_entry wanted entry waits) own
 waited_own known me session entry (Answered change) own waits = absurd (cc (waits))
 
 -- at most one entry is waited for
@@ -57,9 +61,11 @@ one_is_waited_for entry other (Answered change) one two = absurd (cc (one))
 -- ---- what is put is waited for, and where a reply is given none is
 
 pub put_waited : (entry : Entry) (stage : OpStage) → IsAwaitedAtOpStage (op_acts.Append entry) stage → waits_at entry stage ≡ true
-put_waited entry (Asked wanted) awaited = let same : entry ≡ wanted = cc (awaited) in ap (λ (e : Entry). is_same_entry e entry) (sym same) ∙ itself entry
+put_waited entry (Asked wanted) awaited =
+    let same : entry ≡ wanted = cc (awaited) in ap (λ (e : Entry). is_same_entry e entry) (sym same) ∙ itself entry
 put_waited entry (Working vid task) awaited = absurd (cc (awaited.1))
-put_waited entry (Publishing wanted opened) awaited = let same : entry ≡ wanted = cc (awaited) in ap (λ (e : Entry). is_same_entry e entry) (sym same) ∙ itself entry
+put_waited entry (Publishing wanted opened) awaited =
+    let same : entry ≡ wanted = cc (awaited) in ap (λ (e : Entry). is_same_entry e entry) (sym same) ∙ itself entry
 put_waited entry (Answered change) awaited = absurd (cc (awaited.1))
 
 -- of an act that puts nothing nothing is waited for
@@ -68,7 +74,8 @@ PutsNothing (op_acts.Append entry) = ⊥
 PutsNothing (op_acts.Work work) = Unit {0}
 PutsNothing (op_acts.Reply reply) = Unit {0}
 
-pub none_waited : (act : OpAct) (stage : OpStage) → PutsNothing act → IsAwaitedAtOpStage act stage → (entry : Entry) → waits_at entry stage ≡ false
+pub none_waited : (act : OpAct) (stage : OpStage) → PutsNothing act → IsAwaitedAtOpStage act stage → (entry : Entry)
+    → waits_at entry stage ≡ false
 none_waited (op_acts.Append put) stage nothing awaited entry = absurd nothing
 none_waited (op_acts.Work work) (Asked wanted) nothing awaited entry = absurd (cc (awaited))
 none_waited (op_acts.Work work) (Working vid task) nothing awaited entry = refl
@@ -81,7 +88,8 @@ none_waited (op_acts.Reply reply) (Answered change) nothing awaited entry = refl
 
 -- ---- a command whose work is done or refused waited for no entry
 
-pub done_waits_not : (bytes : List ℕ) (op : Op) (step : OpStep) → op_on_done bytes op ≡ Some step → (entry : Entry) → waits_at entry op.stage ≡ false
+pub done_waits_not : (bytes : List ℕ) (op : Op) (step : OpStep) → op_on_done bytes op ≡ Some step → (entry : Entry)
+    → waits_at entry op.stage ≡ false
 unfolding op_on_done
 done_waits_not bytes op step is entry = by_stage op.stage is
   where
@@ -142,7 +150,8 @@ module _ (op : Op) where
   decision_puts_nothing known disk entry decisions.None = tt
   decision_puts_nothing known disk entry (decisions.Granted vid) = by_header (header_of known vid.0)
     where
-      by_header : (header : Option Header) → IfSome (option_and_then (step_after_grant op vid (chain_of known vid.0) disk entry) header) PutsNothingStep
+      by_header : (header : Option Header)
+          → IfSome (option_and_then (step_after_grant op vid (chain_of known vid.0) disk entry) header) PutsNothingStep
       by_header None = tt
       by_header (Some header) = granted_puts_nothing vid (chain_of known vid.0) disk entry header
   decision_puts_nothing known disk entry (decisions.Refused cause) = tt

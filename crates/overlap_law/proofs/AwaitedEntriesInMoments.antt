@@ -1,6 +1,7 @@
 -- In each world of a run in range, and at each moment on the way of its events, the entries of a node's commands that are on their way are
 -- awaited, once each; and each command is its session's.
-use Rattle.std.proofs.Common.{◌≡◌, ◌≢◌, ⊎_elim, arith, ℕ, ◌+◌, Bool, true, false, not, List, [], ◌∷◌, ◌++◌, All, drop, length, Option, Some, None, is_none, refl, sym, ap, subst, ◌∙◌, append_assoc}
+use Rattle.std.proofs.Common.{is_some, ◌≡◌, ◌≢◌, ⊎_elim, arith, ℕ, ◌+◌, Bool, true, false, not, List, [], ◌∷◌, ◌++◌, All, drop, length}
+use Rattle.std.proofs.Common.{Option, Some, None, is_none, refl, sym, ap, subst, ◌∙◌, append_assoc}
 use Rattle.std.specs.Prelude.{nat_le}
 use Rattle.std.specs.List.{slice_get}
 use Rattle.std.specs.FinMap as tree
@@ -41,7 +42,8 @@ use Rattle.sheep_world.specs.Began.{Began}
 use Rattle.sheep_world.specs.Conditions.{fits_beside}
 use Rattle.sheep_world.specs.HostChanges.{NodesKeep}
 use Rattle.sheep_world.specs.LogFronts.{IsFront}
-use Rattle.sheep_world.specs.NodeCauses.{NodeCause, GuestAsks, RequestComes, ReplyComes, LossIsTold, EntryIsRead, EntryIsPut, RecoveryTicks, WorkIsRetried, input_of_cause, IsCause, host_with_node, log_after_cause}
+use Rattle.sheep_world.specs.NodeCauses.{NodeCause, GuestAsks, RequestComes, ReplyComes, LossIsTold, EntryIsRead, EntryIsPut, RecoveryTicks}
+use Rattle.sheep_world.specs.NodeCauses.{WorkIsRetried, ClientAsks, input_of_cause, IsCause, host_with_node, log_after_cause}
 use Rattle.sheep_world.specs.Opening.{format_entry}
 use Rattle.sheep_world.proofs.BegunWorlds.{each_began}
 use Rattle.sheep_world.proofs.HostChangeLaws.{hosts_of_nodes}
@@ -58,9 +60,12 @@ use Rattle.overlap_law.proofs.AwaitedInputs.{AreAwaitedAt, UnreadGoes, IsThen, r
 use Rattle.overlap_law.proofs.AwaitedSteps.{entry_of_input, MeetsCommands, chain_awaited}
 use Rattle.overlap_law.proofs.CountedEntries.{times, once_if, times-push, none_of_them, of_one_node}
 use Rattle.overlap_law.proofs.KnownSteps.{together}
-use Rattle.overlap_law.proofs.RoomOfSessions.{room, guests_sound}
+use Rattle.overlap_law.proofs.RoomOfSessions.{room, guests_sound, tied_of}
 use Rattle.overlap_law.proofs.SendsOfChanges.{in_order_so_far}
 use Rattle.overlap_law.proofs.UnansweredRequests.{brings_tied, requests_tied}
+use Rattle.sheep_world.specs.ClientAsks.{is_read_ask}
+use Rattle.sheep_world.proofs.AsksOfClients.{clients_ask}
+use Rattle.sheep_world.proofs.AsksTaken.{none_of_clients}
 
 -- what of a log a node hasn't read
 abbrev pub unread_of : List Entry → Node → List Entry
@@ -102,6 +107,7 @@ unread_goes script world n host (EntryIsRead entry) so front =
 unread_goes script world n host (EntryIsPut entry) so front = (entry, so.0, so.1, unread_more world.log host.node entry front)
 unread_goes script world n host RecoveryTicks so front = refl
 unread_goes script world n host WorkIsRetried so front = refl
+unread_goes script world n host (ClientAsks req ask) so front = refl
 
 -- ---- what a step meets
 
@@ -129,6 +135,10 @@ no_guest script world n host (EntryIsRead of) so req session entry from = absurd
 no_guest script world n host (EntryIsPut of) so req session entry from = absurd (cc (from))
 no_guest script world n host RecoveryTicks so req session entry from = absurd (cc (from))
 no_guest script world n host WorkIsRetried so req session entry from = absurd (cc (from))
+no_guest script world n host (ClientAsks begins what) so req session entry from =
+    let same : what ≡ asks.Entry entry = cc (from) in
+    let reads : false ≡ true = ap is_read_ask (sym same) ∙ so.reads in
+    cc (reads)
 
 -- of an input that is no guest's
 pub meets_otherwise : (input : Input) (node : Node) → ((req session : ℕ) (ask : Ask) → input ≡ inputs.Guest req session ask → ⊥)
@@ -141,7 +151,8 @@ meets_otherwise input node never = record {
 }
 
 -- a node's outbox has its own entries
-asks_own : (me : NodeId) (input : Input) → ((req session : ℕ) (entry : Entry) → input ≡ inputs.Guest req session (asks.Entry entry) → ⊥) → AsksForOwn me input
+asks_own : (me : NodeId) (input : Input) → ((req session : ℕ) (entry : Entry) → input ≡ inputs.Guest req session (asks.Entry entry) → ⊥)
+    → AsksForOwn me input
 asks_own me (inputs.Guest req session (asks.Disk ask)) never = tt
 asks_own me (inputs.Guest req session (asks.Vdi ask)) never = tt
 asks_own me (inputs.Guest req session (asks.Object work)) never = tt
@@ -155,7 +166,8 @@ asks_own me inputs.RecoverTick never = tt
 asks_own me inputs.RetryTick never = tt
 asks_own me (inputs.Back entries) never = tt
 
-pub own_entries : (script : List Statement) (world : World) → Began script world → (n : ℕ) (host : Host) → tree.get world.hosts n ≡ Some host
+pub own_entries : (script : List Statement) (world : World) → Began script world → (n : ℕ) (host : Host)
+    → tree.get world.hosts n ≡ Some host
     → HasOnlyOwnEntries host.node
 own_entries script = each_began script (λ (world : World) (n : ℕ) (host : Host). HasOnlyOwnEntries host.node)
     (hosts_of_nodes script (λ (n incarnation : ℕ) (node : Node). HasOnlyOwnEntries node) kept)
@@ -174,7 +186,8 @@ own_entries script = each_began script (λ (world : World) (n : ℕ) (host : Hos
 pub entries_so : (input : Input) (node : Node) (so_far : StepState) → Leads input node (input_received input (at_first node)) so_far
     → so_far.node.peer.entries ≡ read_after input node.peer.entries
 entries_so input node so_far leads =
-    ap (λ (u : Untouched). u.peer.entries) ((in_order_so_far so_far leads).same ∙ sym (in_order_so_far (node_step input node) (step_chain input node)).same)
+    ap (λ (u : Untouched). u.peer.entries) ((in_order_so_far so_far leads).same
+    ∙ sym (in_order_so_far (node_step input node) (step_chain input node)).same)
     ∙ step_reads input node
 
 -- ---- a step, as far as it has come
@@ -182,12 +195,13 @@ entries_so input node so_far leads =
 -- from what holds once its input was received
 pub along_chain : (log : List Entry) (input : Input) (node : Node) → MeetsCommands (read_after input node.peer.entries) input node
     → IsThen node input (drop (length (read_after input node.peer.entries)) log) (input_received input (at_first node))
-    → (so_far : StepState) → Leads input node (input_received input (at_first node)) so_far → AreAwaitedAt (unread_of log so_far.node) so_far.node
+    → (so_far : StepState) → Leads input node (input_received input (at_first node)) so_far
+    → AreAwaitedAt (unread_of log so_far.node) so_far.node
 along_chain log input node meets first so_far leads =
     let read = read_after input node.peer.entries in
     let after = drop (length read) log in
-    subst (λ (entries : List Entry). AreAwaited entries so_far.node.me (drop (length entries) log) None so_far.node.me so_far.node.requests so_far.node.outbox)
-    (sym (entries_so input node so_far leads))
+    subst (λ (entries : List Entry). AreAwaited entries so_far.node.me (drop (length entries) log) None so_far.node.me so_far.node.requests
+    so_far.node.outbox) (sym (entries_so input node so_far leads))
     (rests read node.me after (entry_of_input input) so_far.node.me so_far.node.requests so_far.node.outbox
     (chain_awaited read after input node meets leads first))
 
@@ -202,14 +216,19 @@ module _ (script : List Statement) (range : RunsAreInRange script) (world : Worl
   not_disk (AwaitingDecision entry) is = refl
 
   -- a session whose next request comes has no command
-  asks_free : (cause : NodeCause) → IsCause script world n host cause → (req session : ℕ) (ask : Ask) → input_of_cause cause ≡ inputs.Guest req session ask
+  asks_free : (cause : NodeCause) → IsCause script world n host cause → (req session : ℕ) (ask : Ask)
+      → input_of_cause cause ≡ inputs.Guest req session ask
       → (other : ℕ) (request : Request) → tree.get host.node.requests other ≡ Some request → is_command request.course ≡ true
       → request.session ≢ session
   asks_free (GuestAsks of own asked) so req session ask from other request got command same =
       let sound = guests_sound script range world began n host there in
-      let fits = (and_parts (nat_le (phase_of_request script own) world.phase) (fits_beside script own (progress_at of.number world).unanswered) so.may).1 in
-      let kind = (brings_tied script world n host (GuestAsks of own asked) so own of.number asked refl).kind in
-      let roomy = room script world.guests host.node sound (requests_tied script range world began n host there) of.number own asked kind fits in
+      let fits = (and_parts (nat_le (phase_of_request script own) world.phase)
+      (fits_beside script own (progress_at of.number world).unanswered) so.may).1 in
+      let kind = (brings_tied script world n host (GuestAsks of own asked) so own of.number asked refl
+      (ap (λ (o : Option Statement). is_some o) so.stands)).kind in
+      let roomy = room script world.guests host.node sound of.number
+      (tied_of script range.is_script world began n host there of so.declared (requests_tied script range world began n host there)) own
+      asked kind fits in
       let none : is_none (command_in of.number host.node.sessions) ≡ true = (and_parts (is_none (command_in of.number host.node.sessions))
       (nat_le (length (queue_in of.number host.node.sessions)) (queued_at_most asked)) roomy).0 in
       let number : of.number ≡ session = cc (from) in
@@ -224,12 +243,17 @@ module _ (script : List Statement) (range : RunsAreInRange script) (world : Worl
   asks_free (EntryIsPut entry) so req session ask from other second got command same = absurd (cc (from))
   asks_free RecoveryTicks so req session ask from other second got command same = absurd (cc (from))
   asks_free WorkIsRetried so req session ask from other second got command same = absurd (cc (from))
+  asks_free (ClientAsks begins what) so req session ask from other second got command same =
+      let zero : 0 ≡ session = cc (from) in
+      none_of_clients script world (clients_ask script range.is_script world began) n host there up begins what so other second got
+      (same ∙ sym zero)
 
   pub meets : (cause : NodeCause) → IsCause script world n host cause
       → MeetsCommands (read_after (input_of_cause cause) host.node.peer.entries) (input_of_cause cause) host.node
   meets cause so = record {
     no_entry = no_guest script world n host cause so;
-    sound = λ req session ask from. sound_step script world n host cause so (is_ready script world (together script range world began) n host there up);
+    sound = λ req session ask from. sound_step script world n host cause so
+        (is_ready script world (together script range world began) n host there up);
     free = asks_free cause so;
     read_so = λ entry from. ap (λ (input : Input). read_after input host.node.peer.entries) from;
   }
@@ -239,24 +263,29 @@ module _ (script : List Statement) (range : RunsAreInRange script) (world : Worl
     up_not_lost = not-true host.is_lost (and_parts (not host.is_lost) (has_numbers host.node) up).0
 
     -- the node that steps, once its input was received
-    pub own_first : IsThen host.node (input_of_cause cause) (drop (length (read_after (input_of_cause cause) host.node.peer.entries)) (log_after_cause cause world.log))
+    pub own_first : IsThen host.node (input_of_cause cause) (drop (length (read_after (input_of_cause cause) host.node.peer.entries))
+        (log_after_cause cause world.log))
         (input_received (input_of_cause cause) (at_first host.node))
     own_first =
         received_awaited host.node (unread_of world.log host.node) (input_of_cause cause)
         (drop (length (read_after (input_of_cause cause) host.node.peer.entries)) (log_after_cause cause world.log))
         (unread_goes script world n host cause so (all_read script world began n host there)) (all.each n host there up_not_lost)
 
-    own_step : (so_far : StepState) → Leads (input_of_cause cause) host.node (input_received (input_of_cause cause) (at_first host.node)) so_far
+    own_step : (so_far : StepState)
+        → Leads (input_of_cause cause) host.node (input_received (input_of_cause cause) (at_first host.node)) so_far
         → AreAwaitedAt (unread_of (log_after_cause cause world.log) so_far.node) so_far.node
-    own_step so_far leads = along_chain (log_after_cause cause world.log) (input_of_cause cause) host.node (meets cause so) own_first so_far leads
+    own_step so_far leads =
+        along_chain (log_after_cause cause world.log) (input_of_cause cause) host.node (meets cause so) own_first so_far leads
 
   -- what it puts is its own
   puts_own : (entry : Entry) → IsCause script world n host (EntryIsPut entry) → IsEntryOf host.node.me entry
   puts_own entry so =
-      All-head (IsEntryOf host.node.me) entry so.0 (subst (All (IsEntryOf host.node.me)) so.1 (own_entries script world began n host there).entries)
+      All-head (IsEntryOf host.node.me) entry so.0 (subst (All (IsEntryOf host.node.me)) so.1
+      (own_entries script world began n host there).entries)
 
   -- so no other node's
-  puts_for_none : (entry : Entry) → IsCause script world n host (EntryIsPut entry) → (q : ℕ) (me : NodeId) → me.0 ≡ q → q ≢ n → (other : Entry)
+  puts_for_none : (entry : Entry) → IsCause script world n host (EntryIsPut entry) → (q : ℕ) (me : NodeId) → me.0 ≡ q → q ≢ n
+      → (other : Entry)
       → IsCommandEntry me other → is_same_entry other entry ≡ false
   puts_for_none entry so q me number apart other is =
       none_of_them me other entry is (λ claims.
@@ -264,22 +293,27 @@ module _ (script : List Statement) (range : RunsAreInRange script) (world : Worl
       apart (sym number ∙ ap (λ (m : NodeId). m.0) (sym same) ∙ knows_its_number script world began n host there))
 
   -- another node
-  other_step : (cause : NodeCause) → IsCause script world n host cause → (q : ℕ) (other : Host) → q ≢ n → tree.get world.hosts q ≡ Some other
-      → AreAwaitedAt (unread_of world.log other.node) other.node → AreAwaitedAt (unread_of (log_after_cause cause world.log) other.node) other.node
+  other_step : (cause : NodeCause) → IsCause script world n host cause → (q : ℕ) (other : Host) → q ≢ n
+      → tree.get world.hosts q ≡ Some other
+      → AreAwaitedAt (unread_of world.log other.node) other.node
+      → AreAwaitedAt (unread_of (log_after_cause cause world.log) other.node) other.node
   other_step (GuestAsks session req ask) so q other apart at is = is
   other_step (RequestComes name to request) so q other apart at is = is
   other_step (ReplyComes name from rsp) so q other apart at is = is
   other_step (LossIsTold name packet) so q other apart at is = is
   other_step (EntryIsRead entry) so q other apart at is = is
   other_step (EntryIsPut entry) so q other apart at is =
-      subst (λ (unread : List Entry). AreAwaitedAt unread other.node) (sym (unread_more world.log other.node entry (all_read script world began q other at)))
+      subst (λ (unread : List Entry). AreAwaitedAt unread other.node)
+      (sym (unread_more world.log other.node entry (all_read script world began q other at)))
       (one_more_unread other.node.peer.entries other.node.me (unread_of world.log other.node) other.node.requests other.node.outbox entry
       (λ command claims. puts_for_none entry so q other.node.me (knows_its_number script world began q other at) apart command claims) is)
   other_step RecoveryTicks so q other apart at is = is
   other_step WorkIsRetried so q other apart at is = is
+  other_step (ClientAsks req ask) so q other apart at is = is
 
   -- one that isn't there
-  absent_step : (cause : NodeCause) → IsCause script world n host cause → (q : ℕ) → q ≢ n → (entry : Entry) → IsCommandEntry (record { 0 = q }) entry
+  absent_step : (cause : NodeCause) → IsCause script world n host cause → (q : ℕ) → q ≢ n → (entry : Entry)
+      → IsCommandEntry (record { 0 = q }) entry
       → times entry world.log ≡ 0 → times entry (log_after_cause cause world.log) ≡ 0
   absent_step (GuestAsks session req ask) so q apart entry is none = none
   absent_step (RequestComes name to request) so q apart entry is none = none
@@ -293,6 +327,7 @@ module _ (script : List Statement) (range : RunsAreInRange script) (world : Worl
       omega (arith, more, none)
   absent_step RecoveryTicks so q apart entry is none = none
   absent_step WorkIsRetried so q apart entry is none = none
+  absent_step (ClientAsks req ask) so q apart entry is none = none
 
   pub step_awaited : (cause : NodeCause) → IsCause script world n host cause → AreAwaitedAmong world.log world.hosts → (so_far : StepState)
       → Leads (input_of_cause cause) host.node (input_received (input_of_cause cause) (at_first host.node)) so_far
@@ -300,9 +335,9 @@ module _ (script : List Statement) (range : RunsAreInRange script) (world : Worl
   step_awaited cause so all so_far leads = record {
     each = λ q other at up_too. ⊎_elim
         (λ (own : (q ≡ n) × (host_with_node host so_far.node ≡ other)).
-        subst (λ (h : Host). AreAwaitedAt (unread_of (log_after_cause cause world.log) h.node) h.node) own.1 (own_step cause so all so_far leads))
-        (λ (apart : (q ≢ n) × (tree.get world.hosts q ≡ Some other)). other_step cause so q other apart.0 apart.1 (all.each q other apart.1 up_too))
-        (get-insert_cases world.hosts n (host_with_node host so_far.node) q other at);
+        subst (λ (h : Host). AreAwaitedAt (unread_of (log_after_cause cause world.log) h.node) h.node) own.1
+        (own_step cause so all so_far leads)) (λ (apart : (q ≢ n) × (tree.get world.hosts q ≡ Some other)). other_step cause so q other
+        apart.0 apart.1 (all.each q other apart.1 up_too)) (get-insert_cases world.hosts n (host_with_node host so_far.node) q other at);
     absent = λ q entry gone is. ⊎_elim
         (λ (own : q ≡ n).
         let here = ap (tree.get (tree.insert world.hosts n (host_with_node host so_far.node))) own

@@ -1,5 +1,5 @@
--- What is in the wire of an attempt of a node that isn't lost is awaited by the attempt's own work: when a script opens, after each change of a
--- moment, and so in every run in range.
+-- What is in the wire of an attempt of a node that isn't lost is awaited by the attempt's own work: when a script opens, after each change
+-- of a moment, and so in every run in range.
 use Rattle.std.proofs.Common.{◌≡◌, ⊎_elim, arith, ℕ, ◌≤◌, ◌<◌, true, false, List, Some, slice_get, sym, ap, subst, ◌∙◌}
 use Rattle.std.specs.FinMap as tree
 use Rattle.std.proofs.lemmas.Option.{same_Some}
@@ -10,10 +10,10 @@ use Rattle.gateway.specs.Work.{is_making}
 use Rattle.gateway.specs.Attempt as gateways
 use Rattle.gateway.specs.State.{Work}
 use Rattle.message_wire.specs.Message.{message_name}
-use Rattle.sheep_node.specs.declared.event.Event.{Event}
 use Rattle.sheep_node.specs.State.{Node}
 use Rattle.sheep_world.specs.World.{Host}
 use Rattle.sheep_world.specs.Began.{Began}
+use Rattle.sheep_world.specs.RunsWithAsks.{Move}
 use Rattle.overlap_law.specs.Attempts.{AttemptRecord, MessageFate}
 use Rattle.overlap_law.specs.Past.{MomentWithPast, first_moment, run_with_past}
 use Rattle.overlap_law.specs.Packets.{message_name_at, is_name_in_wire, HasPacket}
@@ -31,7 +31,8 @@ use Rattle.overlap_law.proofs.UnansweredInMoments.{HasHeard, WasUp, IsNewer, eac
 use Rattle.overlap_law.proofs.UnansweredMessages.{StaysUnanswered}
 
 -- the record of an attempt is still that of what is open, whatever its fates are
-pub same_later : (old new : Node) (req : ℕ) (work : Work) (current : gateways.Attempt) (place : ℕ) (attempt : AttemptRecord) (fates : List MessageFate) → new.me ≡ old.me
+pub same_later : (old new : Node) (req : ℕ) (work : Work) (current : gateways.Attempt) (place : ℕ) (attempt : AttemptRecord)
+    (fates : List MessageFate) → new.me ≡ old.me
     → (s : StaysUnanswered new.gateway.works req work current place) → IsTheSame old req work.work current attempt
     → IsTheSame new req s.now.work s.later (record attempt { fates = fates })
 same_later old new req work current place attempt fates me s same = record {
@@ -44,7 +45,8 @@ same_later old new req work current place attempt fates me s same = record {
 }
 
 -- what stays unanswered is awaited still
-pub awaited_still : (old new : Node) (attempt : AttemptRecord) (place : ℕ) (fates : List MessageFate) → new.me ≡ old.me → (a : IsAwaitedAt old attempt place)
+pub awaited_still : (old new : Node) (attempt : AttemptRecord) (place : ℕ) (fates : List MessageFate) → new.me ≡ old.me
+    → (a : IsAwaitedAt old attempt place)
     → StaysUnanswered new.gateway.works attempt.req a.work a.current place → IsAwaitedAt new (record attempt { fates = fates }) place
 awaited_still old new attempt place fates me a s = record {
   work = s.now;
@@ -63,21 +65,25 @@ awaited_still old new attempt place fates me a s = record {
 -- an awaited message's name
 pub awaited_name : (node : Node) (attempt : AttemptRecord) (place n : ℕ) → (a : IsAwaitedAt node attempt place) → attempt.gateway.0 ≡ n
     → message_name n a.message.number ≡ message_name_at attempt place
-awaited_name node attempt place n a gateway = λ i. record { sender = record { 0 = sym gateway i }; number = a.opened.same.numbers place a.message a.at i }
+awaited_name node attempt place n a gateway =
+    λ i. record { sender = record { 0 = sym gateway i }; number = a.opened.same.numbers place a.message a.at i }
 
 abbrev pub AreOfOpenWorks : MomentWithPast → Type 0
 AreOfOpenWorks moment = PacketsAreOfOpenWorks moment.world.hosts moment.world.wire moment.past.attempts
 
-pub opening_awaited : (script : List Statement) → PacketsAreOfOpenWorks (first_moment script).world.hosts (first_moment script).world.wire (first_moment script).past.attempts
+pub opening_awaited : (script : List Statement)
+    → PacketsAreOfOpenWorks (first_moment script).world.hosts (first_moment script).world.wire (first_moment script).past.attempts
 opening_awaited script = record { each = λ n host there up j attempt got. absurd (cc (got)) }
 
 -- an attempt that begins is open, and nothing came of its messages yet
-pub begun_awaited : (before after : MomentWithPast) (n : ℕ) (host : Host) → tree.get after.world.hosts n ≡ Some host → (attempt : AttemptRecord)
+pub begun_awaited : (before after : MomentWithPast) (n : ℕ) (host : Host) → tree.get after.world.hosts n ≡ Some host
+    → (attempt : AttemptRecord)
     → attempt.gateway.0 ≡ n → HasBegun before.world.hosts after.world.hosts attempt → (place : ℕ) (target : NodeId)
     → slice_get attempt.targets place ≡ Some target → IsAwaitedAt host.node attempt place
 begun_awaited before after n host there attempt gateway b place target among =
     let same : b.begun.sent_by.after ≡ host
-    = same_Some b.begun.sent_by.after host (sym b.begun.sent_by.there_after ∙ ap (tree.get after.world.hosts) (sym b.begun.gateway ∙ gateway) ∙ there) in
+    = same_Some b.begun.sent_by.after host (sym b.begun.sent_by.there_after
+    ∙ ap (tree.get after.world.hosts) (sym b.begun.gateway ∙ gateway) ∙ there) in
     let (message, at, node) = got_map (λ (message : Message). message.node) b.begun.current.messages place target
     (ap (λ (targets : List NodeId). slice_get targets place) (sym b.begun.opened.same.targets) ∙ among) in
     subst (λ (h : Host). IsAwaitedAt h.node attempt place) same (record {
@@ -90,9 +96,11 @@ begun_awaited before after n host there attempt gateway b place target among =
     })
 
 module _ (script : List Statement) (range : RunsAreInRange script) where
-  module _ (start before after : MomentWithPast) (began : Began script start.world) (change : MomentChange script start before after) (tied : IsTied before)
+  module _ (start before after : MomentWithPast) (began : Began script start.world) (change : MomentChange script start before after)
+      (tied : IsTied before)
       (tied_after : IsTied after) (awaited : PacketsAreOfOpenWorks before.world.hosts before.world.wire before.past.attempts) where
-    module _ (n : ℕ) (host : Host) (there : tree.get after.world.hosts n ≡ Some host) (up : host.is_lost ≡ false) (j : ℕ) (attempt : AttemptRecord)
+    module _ (n : ℕ) (host : Host) (there : tree.get after.world.hosts n ≡ Some host) (up : host.is_lost ≡ false) (j : ℕ)
+        (attempt : AttemptRecord)
         (got : slice_get after.past.attempts j ≡ Some attempt) (gateway : attempt.gateway.0 ≡ n) (place : ℕ) (target : NodeId)
         (packet : HasPacket after.world.wire attempt place target) where
       -- one that was there
@@ -118,12 +126,14 @@ module _ (script : List Statement) (range : RunsAreInRange script) where
             let a = awaited.each n v.old v.there v.up j w.was w.at own_gateway place target packet_then in
             ⊎_elim
             (λ (s : StaysUnanswered host.node.gateway.works w.was.req a.work a.current place).
-            subst (λ (one : AttemptRecord). IsAwaitedAt host.node one place) w.same (awaited_still v.old.node host.node w.was place w.fates v.me a s))
+            subst (λ (one : AttemptRecord). IsAwaitedAt host.node one place) w.same
+            (awaited_still v.old.node host.node w.was place w.fates v.me a s))
             (λ (heard : HasHeard script start before after n host w.was.req a.work a.message.number).
             let none = sym (ap (is_name_in_wire after.world.wire) (awaited_name v.old.node w.was place n a own_gateway)) ∙ heard.gone in
             let some = in_wire in
             absurd (cc (none, some)))
-            (v.goes w.was.req a.work a.current place a.message (record { there = a.opened.there; stage = a.opened.stage; at = a.at; status = a.unanswered }))
+            (v.goes w.was.req a.work a.current place a.message
+            (record { there = a.opened.there; stage = a.opened.stage; at = a.at; status = a.unanswered }))
 
         is_newer : IsNewer before n host → IsAwaitedAt host.node attempt place
         is_newer newer =
@@ -143,14 +153,20 @@ module _ (script : List Statement) (range : RunsAreInRange script) where
       awaited_then =
           ⊎_elim was_there (λ (b : HasBegun before.world.hosts after.world.hosts attempt).
           begun_awaited before after n host there attempt gateway b place target packet.among)
-          (came_from before.world.hosts after.world.hosts before.world.wire before.past.attempts (traffic script range start began change) j attempt got)
+          (came_from before.world.hosts after.world.hosts before.world.wire before.past.attempts (traffic script range start began change) j
+          attempt got)
 
     pub keeps_awaited : PacketsAreOfOpenWorks after.world.hosts after.world.wire after.past.attempts
-    keeps_awaited = record { each = λ n host there up j attempt got gateway place target packet. awaited_then n host there up j attempt got gateway place target packet }
+    keeps_awaited =
+        record {
+          each = λ n host there up j attempt got gateway place target packet. awaited_then n host there up j attempt got gateway place
+              target packet;
+        }
 
   -- ---- every run
 
-  pub change_awaited : (start before after : MomentWithPast) → Began script start.world → MomentChange script start before after → IsTied before
+  pub change_awaited : (start before after : MomentWithPast) → Began script start.world → MomentChange script start before after
+      → IsTied before
       → AreOfOpenWorks before → AreOfOpenWorks after
   change_awaited start before after began change tied awaited =
       keeps_awaited start before after began change tied (change_tied script range start before after began change tied) awaited
@@ -162,5 +178,5 @@ module _ (script : List Statement) (range : RunsAreInRange script) where
         (change_tied script range start before after began change both.0, change_awaited start before after began change both.0 both.1);
   }
 
-  pub awaited-in_run : (events : List Event) (moment : MomentWithPast) → run_with_past script events ≡ Some moment → AreOfOpenWorks moment
+  pub awaited-in_run : (events : List Move) (moment : MomentWithPast) → run_with_past script events ≡ Some moment → AreOfOpenWorks moment
   awaited-in_run events moment is = (run-kept script (λ moment. IsTied moment × AreOfOpenWorks moment) awaited_kept events moment is).1

@@ -30,9 +30,10 @@ use Rattle.sheep_world.specs.Opening.{format_entry, initial_world}
 use Rattle.sheep_world.specs.Step.{EventOutcome}
 use Rattle.sheep_world.proofs.BegunWorlds.{by_induction}
 use Rattle.sheep_world.proofs.ControlLaws.{next_fits}
-use Rattle.sheep_world.proofs.EventInversion.{happens}
+use Rattle.sheep_world.proofs.ClientReads.{goes_by_kind}
 use Rattle.sheep_world.proofs.LogFrontLaws.{all_read}
 use Rattle.sheep_world.proofs.WireAtOpening.{opening_found}
+use Rattle.sheep_world.specs.RunsWithAsks.{Move}
 use Rattle.overlap_law.specs.AwaitedEntries.{IsCommandEntry, CommandEntriesAreAwaited, CommandsAreTheSessions}
 use Rattle.overlap_law.specs.Past.{MomentWithPast, run_with_past}
 use Rattle.overlap_law.specs.MomentChanges.{MomentChange, MomentTrail, RunsAreInRange}
@@ -184,7 +185,7 @@ module _ (script : List Statement) (range : RunsAreInRange script) where
   pub awaited_in_worlds : (world : World) → Began script world → AreAwaitedAmong world.log world.hosts
   awaited_in_worlds = by_induction script (λ (world : World). AreAwaitedAmong world.log world.hosts) (record {
     opens = opens;
-    keeps = λ event world made began is all. kept event world made began (happens script event world made is) all;
+    keeps = λ event world made began is all. kept event world made began (goes_by_kind script event world made is) all;
   })
 
   -- ---- along trails
@@ -224,7 +225,7 @@ module _ (script : List Statement) (range : RunsAreInRange script) where
           ((all.each n host there up).commands.own req request got);
     }
 
-  module _ (events : List Event) (start moment : MomentWithPast) (is : run_with_past script events ≡ Some start)
+  module _ (events : List Move) (start moment : MomentWithPast) (is : run_with_past script events ≡ Some start)
       (trail : MomentTrail script start moment) where
     there_along : AreAwaitedAmong moment.world.log moment.world.hosts
     there_along = along_trail start (began-with_past script events start is) trail

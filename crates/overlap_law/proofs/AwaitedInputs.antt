@@ -52,7 +52,8 @@ none_awaited read me unread reading nothing = record {
   me_so = refl;
   commands = record {
     own = λ req request got. let none = tree.get-empty {X = Request} nat_cmp req in absurd (cc (none, got));
-    apart = λ one other first second got got_too is is_too same. let none = tree.get-empty {X = Request} nat_cmp one in absurd (cc (none, got));
+    apart = λ one other first second got got_too is is_too same. let none = tree.get-empty {X = Request} nat_cmp one in absurd
+        (cc (none, got));
   };
   awaited = λ entry is some. let none = nothing entry is in let empty = times-none entry in absurd (omega (arith, none, empty, some));
   once = λ entry is. let none = nothing entry is in let empty = times-none entry in omega (arith, none, empty);
@@ -108,11 +109,13 @@ module _ (node : Node) where
   IsThen input after = AreAwaitedSoFar (read_after input node.peer.entries) node.me after (entry_of_input input)
 
   -- a node that comes back has read all, and nothing else
-  pub back_awaited : (entries after : List Entry) → after ≡ [] → IsThen (inputs.Back entries) after (input_received (inputs.Back entries) (at_first node))
+  pub back_awaited : (entries after : List Entry) → after ≡ []
+      → IsThen (inputs.Back entries) after (input_received (inputs.Back entries) (at_first node))
   unfolding on_back
   back_awaited entries after goes = none_awaited entries node.me after None (λ entry is. ap (times entry) goes ∙ times-none entry)
 
-  pub received_awaited : (unread : List Entry) (input : Input) (after : List Entry) → UnreadGoes input node unread after → AreAwaitedAt unread node
+  pub received_awaited : (unread : List Entry) (input : Input) (after : List Entry) → UnreadGoes input node unread after
+      → AreAwaitedAt unread node
       → IsThen input after (input_received input (at_first node))
   unfolding entry_read on_request on_recover_tick on_back
   received_awaited unread (inputs.Guest req session ask) after goes so =
@@ -127,7 +130,8 @@ module _ (node : Node) where
       cond_either (IsThen (inputs.Lost number) after) (gateways.gateway_awaits number node.gateway) (at_first node)
       (recovery_stepped (recovery_steps.recovery_on_loss number (recovery_state_of node)) (at_first node)) now now
   received_awaited unread (inputs.LogEntry entry) after goes so =
-      reads_awaited node.peer.entries node.me entry after node.requests node.outbox (subst (λ (list : List Entry). AreAwaitedAt list node) goes so)
+      reads_awaited node.peer.entries node.me entry after node.requests node.outbox
+      (subst (λ (list : List Entry). AreAwaitedAt list node) goes so)
   received_awaited unread inputs.Put after (entry, later, first, goes) so =
       subst (λ (outbox : List Entry). IsThen inputs.Put after (on_put outbox (at_first node))) (sym first)
       (same_way node.peer.entries node.me unread after node.requests node.outbox later moves so)
@@ -144,7 +148,8 @@ module _ (node : Node) where
   received_awaited unread (inputs.Back entries) after goes so = back_awaited entries after goes
 
 -- a node that read an entry is at rest once its step is made
-pub rests : (read : List Entry) (me : NodeId) (unread : List Entry) (reading : Option Entry) (now : NodeId) (requests : Requests) (outbox : List Entry)
+pub rests : (read : List Entry) (me : NodeId) (unread : List Entry) (reading : Option Entry) (now : NodeId) (requests : Requests)
+    (outbox : List Entry)
     → AreAwaited read me unread reading now requests outbox → AreAwaited read now unread None now requests outbox
 rests read me unread reading now requests outbox so =
     subst (λ (whose : NodeId). AreAwaited read whose unread None now requests outbox) (sym so.me_so) (record {
@@ -167,7 +172,8 @@ one_more_unread read me unread requests outbox last not so = record {
   read_now = λ entry is reads. absurd (cc (reads));
 }
   where
-    as_before : (entry : Entry) → IsCommandEntry me entry → times entry (unread ++ last ∷ []) + times entry outbox ≡ times entry unread + times entry outbox
+    as_before : (entry : Entry) → IsCommandEntry me entry
+        → times entry (unread ++ last ∷ []) + times entry outbox ≡ times entry unread + times entry outbox
     as_before entry is =
         let more : times entry (unread ++ last ∷ []) ≡ times entry unread + 0
         = times-push entry unread last ∙ ap (λ (b : Bool). times entry unread + once_if b) (not entry is) in

@@ -1,5 +1,6 @@
 -- Along the changes of a step the entries of a node's commands that are on their way stay awaited.
-use Rattle.std.proofs.Common.{◌≡◌, ◌≢◌, arith, ℕ, ◌≤◌, Bool, true, false, List, [], ◌∷◌, ◌++◌, Option, Some, None, refl, sym, ap, subst, ◌∙◌}
+use Rattle.std.proofs.Common.{◌≡◌, ◌≢◌, arith, ℕ, ◌≤◌, Bool, true, false, List, [], ◌∷◌, ◌++◌, Option, Some, None, refl, sym, ap, subst}
+use Rattle.std.proofs.Common.{◌∙◌}
 use Rattle.std.specs.FinMap as tree
 use Rattle.std.proofs.lemmas.Option.{same_Some}
 use Rattle.proof_tools.proofs.FiniteMaps.{get-insert_same}
@@ -41,12 +42,18 @@ use Rattle.sheep_node.specs.AwaitedEntry.{waits_for_entry}
 use Rattle.sheep_node.specs.Courses.{inode_open, after_command_step}
 use Rattle.sheep_node.specs.LogReading.{entry_read}
 use Rattle.sheep_node.specs.Changes as changes
-use Rattle.sheep_node.specs.Changes.{IsSoundStep, HasRequest, IsTold, Arrival, EndsWork, Outcome, ToWork, ToEntry, ToReply, outcome_of_driver, outcome_of_command, outcome_of_check, without_ended_work, without_denied_work, zones_of_members, RequestSteps, DiskBegins, DiskGoesOn, CommandBegins, CommandGoesOn, CommandDecided, CheckBegins, CheckGoesOn, ObjectBegins, ObjectIsDone, EntryBegins, EntryDecided, WorkIsNext, AtOnce, InTurn, Again, AgainAlone, Change, Leads}
+use Rattle.sheep_node.specs.Changes.{IsSoundStep, HasRequest, IsTold, Arrival, EndsWork, Outcome, ToWork, ToEntry, ToReply}
+use Rattle.sheep_node.specs.Changes.{outcome_of_driver, outcome_of_command, outcome_of_check, without_ended_work, without_denied_work}
+use Rattle.sheep_node.specs.Changes.{zones_of_members, RequestSteps, DiskBegins, DiskGoesOn, CommandBegins, CommandGoesOn, CommandDecided}
+use Rattle.sheep_node.specs.Changes.{CheckBegins, CheckGoesOn, ObjectBegins, ObjectIsDone, EntryBegins, EntryDecided, WorkIsNext, AtOnce}
+use Rattle.sheep_node.specs.Changes.{InTurn, Again, AgainAlone, Change, Leads}
 use Rattle.sheep_node.proofs.OneWorkChanges.{awaited_of}
 use Rattle.sheep_node.proofs.PeerLog.{entries_reading}
 use Rattle.sheep_node.proofs.StepChain.{kept_by_chain}
 use Rattle.overlap_law.specs.AwaitedEntries.{IsCommandEntry, IsSessionsCommand}
-use Rattle.overlap_law.proofs.AwaitedChanges.{Requests, WaitsNot, IsOwnCourse, AreAwaited, AreAwaitedSoFar, put_awaited, more_awaited, WaitsForNone, ended_awaited, refused_awaited, refused_if_there_awaited, IsNextAwaited, IsNoneOnTheWay, none_on_the_way, command_awaited, on_way}
+use Rattle.overlap_law.proofs.AwaitedChanges.{Requests, WaitsNot, IsOwnCourse, AreAwaited, AreAwaitedSoFar, put_awaited, more_awaited}
+use Rattle.overlap_law.proofs.AwaitedChanges.{WaitsForNone, ended_awaited, refused_awaited, refused_if_there_awaited, IsNextAwaited}
+use Rattle.overlap_law.proofs.AwaitedChanges.{IsNoneOnTheWay, none_on_the_way, command_awaited, on_way}
 use Rattle.overlap_law.proofs.AwaitedCommands.{waits_at, is_command, one_is_waited_for, PutsNothing, done_waits_not, decided_puts_nothing}
 use Rattle.overlap_law.proofs.CountedEntries.{same_entry}
 use Rattle.overlap_law.proofs.SessionCommands.{IsReservedBy, reserved_by, begins-own, goes_on-own, decided-own}
@@ -64,7 +71,8 @@ entry_of_input inputs.RetryTick = None
 entry_of_input (inputs.Back entries) = None
 
 -- what is told of a message comes by no entry
-pub told_no_entry : (input : Input) (number : ℕ) (status : Status) → IsTold input number status → (entry : Entry) → entry_of_input input ≢ Some entry
+pub told_no_entry : (input : Input) (number : ℕ) (status : Status) → IsTold input number status → (entry : Entry)
+    → entry_of_input input ≢ Some entry
 told_no_entry (inputs.Guest req session ask) number status told entry is = told
 told_no_entry (inputs.Request request) number status told entry is = told
 told_no_entry (inputs.Reply rsp) number status told entry is = absurd (cc (is))
@@ -110,19 +118,22 @@ module _ (read : List Entry) (unread : List Entry) (input : Input) (node : Node)
         let same : record { session = session; course = course } ≡ old = same_Some _ old (sym there ∙ got) in
         subst (WaitsNot entry) same (none entry)
 
-  not_there : (so_far : StepState) (session req : ℕ) (ask : Ask) {refusal : Option Cause} → Arrival input node so_far session req ask refusal
+  not_there : (so_far : StepState) (session req : ℕ) (ask : Ask) {refusal : Option Cause}
+      → Arrival input node so_far session req ask refusal
       → WaitsForNone read me unread reading so_far.node.requests req
   not_there so_far session req ask arrival entry old got =
       let none = arrival.none (meets.sound req session ask arrival.from) in
       absurd (cc (none, got))
 
-  module _ (so_far : StepState) (so : Is so_far) (session req : ℕ) (course : Course) (own : Own session course) (plain : is_command course ≡ false)
+  module _ (so_far : StepState) (so : Is so_far) (session req : ℕ) (course : Course) (own : Own session course)
+      (plain : is_command course ≡ false)
       (none : WaitsForNone read me unread reading so_far.node.requests req) where
     -- a request that is no command is put
-    plain_put : AreAwaited read me unread reading so_far.node.me (tree.insert so_far.node.requests req (record { session = session; course = course })) so_far.node.outbox
+    plain_put : AreAwaited read me unread reading so_far.node.me
+        (tree.insert so_far.node.requests req (record { session = session; course = course })) so_far.node.outbox
     plain_put =
-        put_awaited read me unread reading so_far.node.me so_far.node.requests so_far.node.outbox so req (λ entry is some old got. none entry old got)
-        session course own (λ command. absurd (cc (plain, command)))
+        put_awaited read me unread reading so_far.node.me so_far.node.requests so_far.node.outbox so req
+        (λ entry is some old got. none entry old got) session course own (λ command. absurd (cc (plain, command)))
 
   -- and waits for no entry, if it is none that waits
   put_waits_not : (requests : Requests) (session req : ℕ) (course : Course) → ((entry : Entry) → waits_for_entry entry course ≡ false)
@@ -133,41 +144,51 @@ module _ (read : List Entry) (unread : List Entry) (input : Input) (node : Node)
       subst (WaitsNot entry) same (none entry)
 
   driver_next : (requests : Requests) (outbox : List Entry) (session req : ℕ) (driver : drivers.Driver) (act : DriverAct)
-      → IsNextAwaited read me unread reading (tree.insert requests req (record { session = session; course = Driving driver })) outbox req (outcome_of_driver act)
+      → IsNextAwaited read me unread reading (tree.insert requests req (record { session = session; course = Driving driver })) outbox req
+      (outcome_of_driver act)
   driver_next requests outbox session req driver (driver_acts.Work work) = tt
-  driver_next requests outbox session req driver (driver_acts.Reply reply) = put_waits_not requests session req (Driving driver) (λ entry. refl)
+  driver_next requests outbox session req driver (driver_acts.Reply reply) =
+      put_waits_not requests session req (Driving driver) (λ entry. refl)
 
   check_next : (requests : Requests) (outbox : List Entry) (session req : ℕ) (check : Check) (act : CheckAct)
-      → IsNextAwaited read me unread reading (tree.insert requests req (record { session = session; course = Checking check })) outbox req (outcome_of_check act)
+      → IsNextAwaited read me unread reading (tree.insert requests req (record { session = session; course = Checking check })) outbox req
+      (outcome_of_check act)
   check_next requests outbox session req check (check_acts.Work work) = tt
-  check_next requests outbox session req check (check_acts.Reply found) = put_waits_not requests session req (Checking check) (λ entry. refl)
+  check_next requests outbox session req check (check_acts.Reply found) =
+      put_waits_not requests session req (Checking check) (λ entry. refl)
 
   -- ---- commands
 
   -- a command takes a step
-  command_put : (so_far : StepState) → Is so_far → (session req : ℕ) (step : OpStep) → IsSessionsCommand (log_effects read) me session step.op
+  command_put : (so_far : StepState) → Is so_far → (session req : ℕ) (step : OpStep)
+      → IsSessionsCommand (log_effects read) me session step.op
       → IsAwaitedByCommand step
       → ((entry : Entry) → IsCommandEntry me entry → 1 ≤ on_way read me unread reading entry so_far.node.outbox → (old : Request)
       → tree.get so_far.node.requests req ≡ Some old → WaitsNot entry old)
       → ((other : ℕ) (request : Request) → tree.get so_far.node.requests other ≡ Some request → is_command request.course ≡ true
       → request.session ≡ session → other ≡ req)
       → ((entry : Entry) → step.act ≡ op_acts.Append entry → IsNoneOnTheWay read me unread reading so_far.node.outbox session)
-      → Is (after_command_step session req step so_far) × IsNext (after_command_step session req step so_far) req (outcome_of_command step.act)
+      → Is (after_command_step session req step so_far) × IsNext (after_command_step session req step so_far) req
+      (outcome_of_command step.act)
   command_put so_far so session req step own awaited free sole fresh = (
     put_awaited read me unread reading so_far.node.me so_far.node.requests so_far.node.outbox so req free session (Commanding step.op) own
         (λ command other request got is same. sole other request got is same),
-    command_awaited read me unread reading so_far.node.me so_far.node.requests so_far.node.outbox session req step.op step.act own awaited fresh,
+    command_awaited read me unread reading so_far.node.me so_far.node.requests so_far.node.outbox session req step.op step.act own awaited
+        fresh,
   )
 
   -- one that begins: its session has no other
-  command_begins : (so_far : StepState) → Is so_far → (session req : ℕ) (ask : VdiAsk) (step : OpStep) → Arrival input node so_far session req (asks.Vdi ask) None
+  command_begins : (so_far : StepState) → Is so_far → (session req : ℕ) (ask : VdiAsk) (step : OpStep)
+      → Arrival input node so_far session req (asks.Vdi ask) None
       → begin_command so_far.node.me session ask (inode_open (session_in session so_far).disk) ≡ Some step
-      → Is (after_command_step session req step so_far) × IsNext (after_command_step session req step so_far) req (outcome_of_command step.act)
+      → Is (after_command_step session req step so_far) × IsNext (after_command_step session req step so_far) req
+      (outcome_of_command step.act)
   command_begins so_far so session req ask step arrival is =
       let disk = inode_open (session_in session so_far).disk in
       let free : (other : ℕ) (request : Request) → tree.get so_far.node.requests other ≡ Some request → is_command request.course ≡ true
       → request.session ≢ session
-      = λ other request got. meets.free req session (asks.Vdi ask) arrival.from other request (ap (λ (s : StepState). tree.get s.node.requests other) (sym arrival.first) ∙ got) in
+      = λ other request got. meets.free req session (asks.Vdi ask) arrival.from other request
+      (ap (λ (s : StepState). tree.get s.node.requests other) (sym arrival.first) ∙ got) in
       command_put so_far so session req step
       (begins-own (log_effects read) me session ask disk step (ap (λ (by : NodeId). begin_command by session ask disk) (sym so.me_so) ∙ is))
       (awaited_of (begin_command so_far.node.me session ask disk) step (begin_awaited so_far.node.me session ask disk) is)
@@ -181,7 +202,8 @@ module _ (read : List Entry) (unread : List Entry) (input : Input) (node : Node)
       })
 
   -- one whose work is done
-  command_goes_on : (so_far : StepState) → Is so_far → (session req number : ℕ) (work : Work) (attempt : Attempt) (status : Status) (bytes : List ℕ) (op : Op) (step : OpStep)
+  command_goes_on : (so_far : StepState) → Is so_far
+      → (session req number : ℕ) (work : Work) (attempt : Attempt) (status : Status) (bytes : List ℕ) (op : Op) (step : OpStep)
       → EndsWork input node so_far session req number work attempt status (Commanding op) bytes → op_on_done bytes op ≡ Some step
       → Is (after_command_step session req step (without_ended_work session req work status so_far))
       × IsNext (after_command_step session req step (without_ended_work session req work status so_far)) req (outcome_of_command step.act)
@@ -190,7 +212,8 @@ module _ (read : List Entry) (unread : List Entry) (input : Input) (node : Node)
       let idle : (entry : Entry) → waits_at entry op.stage ≡ false = done_waits_not bytes op step is in
       let sole : (other : ℕ) (request : Request) → tree.get so_far.node.requests other ≡ Some request → is_command request.course ≡ true
       → request.session ≡ session → other ≡ req
-      = λ other request got command of. so.commands.apart other req request (record { session = session; course = Commanding op }) got there command refl of in
+      = λ other request got command of. so.commands.apart other req request (record { session = session; course = Commanding op }) got there
+      command refl of in
       command_put (without_ended_work session req work status so_far) so session req step
       (goes_on-own (log_effects read) me session bytes op step is (own_there so_far so session req (Commanding op) there))
       (awaited_of (op_on_done bytes op) step (done_awaited bytes op) is)
@@ -207,11 +230,13 @@ module _ (read : List Entry) (unread : List Entry) (input : Input) (node : Node)
       })
 
   -- one whose entry is read: that is on its way no more
-  command_decided : (so_far : StepState) → Is so_far → (session req : ℕ) (entry : Entry) (op : Op) (step : OpStep) → input ≡ inputs.LogEntry entry
+  command_decided : (so_far : StepState) → Is so_far → (session req : ℕ) (entry : Entry) (op : Op) (step : OpStep)
+      → input ≡ inputs.LogEntry entry
       → so_far.node.peer ≡ (entry_read entry node).peer → HasRequest session req (Commanding op) so_far
       → waits_for_entry entry (Commanding op) ≡ true
       → on_decision (effects_of so_far.node.peer) (inode_open (session_in session so_far).disk) (decision_on entry node.peer) op ≡ Some step
-      → Is (after_command_step session req step so_far) × IsNext (after_command_step session req step so_far) req (outcome_of_command step.act)
+      → Is (after_command_step session req step so_far) × IsNext (after_command_step session req step so_far) req
+      (outcome_of_command step.act)
   command_decided so_far so session req entry op step from peer there waits is =
       let disk = inode_open (session_in session so_far).disk in
       let read_so : read ≡ node.peer.entries ++ entry ∷ [] = meets.read_so entry from in
@@ -225,12 +250,13 @@ module _ (read : List Entry) (unread : List Entry) (input : Input) (node : Node)
       (λ wanted vid at granted.
       let same : wanted ≡ entry = same_entry wanted entry (ap (waits_at entry) (sym at) ∙ waits) in
       subst (IsReservedBy (log_effects read) vid) (sym same)
-      (subst (λ (all : List Entry). IsReservedBy (log_effects all) vid entry) (sym read_so) (reserved_by node.peer.entries entry vid granted))))
-      (awaited_of (on_decision (effects_of so_far.node.peer) disk (decision_on entry node.peer) op) step
+      (subst (λ (all : List Entry). IsReservedBy (log_effects all) vid entry) (sym read_so)
+      (reserved_by node.peer.entries entry vid granted)))) (awaited_of
+      (on_decision (effects_of so_far.node.peer) disk (decision_on entry node.peer) op) step
       (decision_awaited (effects_of so_far.node.peer) disk (decision_on entry node.peer) op) is)
       (λ other is some old got. by_test other is some (waits_for_entry other (Commanding op)) refl old got)
-      (λ other request got command of. so.commands.apart other req request (record { session = session; course = Commanding op }) got there command refl of)
-      (λ put puts. absurd (subst PutsNothing puts puts_nothing))
+      (λ other request got command of. so.commands.apart other req request (record { session = session; course = Commanding op }) got there
+      command refl of) (λ put puts. absurd (subst PutsNothing puts puts_nothing))
     where
       by_test : (other : Entry) → IsCommandEntry me other → 1 ≤ on_way read me unread reading other so_far.node.outbox → (b : Bool)
           → waits_for_entry other (Commanding op) ≡ b → (old : Request) → tree.get so_far.node.requests req ≡ Some old → WaitsNot other old
@@ -244,7 +270,8 @@ module _ (read : List Entry) (unread : List Entry) (input : Input) (node : Node)
 
   -- ---- a request takes a step
 
-  steps_awaited : (so_far : StepState) (session req : ℕ) (next : Outcome) (moved : StepState) → RequestSteps input node so_far session req next moved
+  steps_awaited : (so_far : StepState) (session req : ℕ) (next : Outcome) (moved : StepState)
+      → RequestSteps input node so_far session req next moved
       → Is so_far → Is moved × IsNext moved req next
   steps_awaited so_far session req next moved (DiskBegins ask disk there on may) so =
       let driver = (drivers.begin_driver disk ask).driver in (
@@ -252,20 +279,24 @@ module _ (read : List Entry) (unread : List Entry) (input : Input) (node : Node)
         driver_next so_far.node.requests so_far.node.outbox session req driver (drivers.begin_driver disk ask).act,
       )
   steps_awaited so_far session req next moved (DiskGoesOn number work attempt status bytes driver disk step ends on is) so = (
-    plain_put so_far so session req (Driving step.driver) tt refl (waits_not so_far so session req (Driving driver) ends.ends.request (λ entry. refl)),
+    plain_put so_far so session req (Driving step.driver) tt refl
+        (waits_not so_far so session req (Driving driver) ends.ends.request (λ entry. refl)),
     driver_next so_far.node.requests so_far.node.outbox session req step.driver step.act,
   )
-  steps_awaited so_far session req next moved (CommandBegins ask step arrival is) so = command_begins so_far so session req ask step arrival is
+  steps_awaited so_far session req next moved (CommandBegins ask step arrival is) so =
+      command_begins so_far so session req ask step arrival is
   steps_awaited so_far session req next moved (CommandGoesOn number work attempt status bytes op step ends is) so =
       command_goes_on so_far so session req number work attempt status bytes op step ends is
   steps_awaited so_far session req next moved (CommandDecided entry op step from peer there waits is) so =
       command_decided so_far so session req entry op step from peer there waits is
   steps_awaited so_far session req next moved (CheckBegins inode arrival on) so = (
-    plain_put so_far so session req (Checking (begin_check inode).check) tt refl (not_there so_far session req (asks.Vdi disk_commands.Check) arrival),
+    plain_put so_far so session req (Checking (begin_check inode).check) tt refl
+        (not_there so_far session req (asks.Vdi disk_commands.Check) arrival),
     check_next so_far.node.requests so_far.node.outbox session req (begin_check inode).check (begin_check inode).act,
   )
   steps_awaited so_far session req next moved (CheckGoesOn number work attempt status bytes check step ends is) so = (
-    plain_put so_far so session req (Checking step.check) tt refl (waits_not so_far so session req (Checking check) ends.ends.request (λ entry. refl)),
+    plain_put so_far so session req (Checking step.check) tt refl
+        (waits_not so_far so session req (Checking check) ends.ends.request (λ entry. refl)),
     check_next so_far.node.requests so_far.node.outbox session req step.check step.act,
   )
   steps_awaited so_far session req next moved (ObjectBegins asked arrival) so =
@@ -276,8 +307,10 @@ module _ (read : List Entry) (unread : List Entry) (input : Input) (node : Node)
   steps_awaited so_far session req next moved (EntryDecided entry wanted from peer there waits) so =
       absurd (own_there so_far so session req (AwaitingDecision wanted) there)
 
-  pub next_awaited : (so_far : StepState) (session req : ℕ) (asked : Work) (lined : StepState) → WorkIsNext input node so_far session req asked lined → Is so_far → Is lined
-  next_awaited so_far session req asked lined (AtOnce work moved steps begins) so = (steps_awaited so_far session req (ToWork work) moved steps so).0
+  pub next_awaited : (so_far : StepState) (session req : ℕ) (asked : Work) (lined : StepState)
+      → WorkIsNext input node so_far session req asked lined → Is so_far → Is lined
+  next_awaited so_far session req asked lined (AtOnce work moved steps begins) so =
+      (steps_awaited so_far session req (ToWork work) moved steps so).0
   next_awaited so_far session req asked lined (InTurn work later none is) so = so
   next_awaited so_far session req asked lined (Again work course from next there request) so = so
   next_awaited so_far session req asked lined (AgainAlone work from next there none) so = so
@@ -289,12 +322,14 @@ module _ (read : List Entry) (unread : List Entry) (input : Input) (node : Node)
   change_awaited so_far next (changes.Refuses session req number work attempt status course cause ends done why) so =
       refused_awaited read me unread reading session req cause course (without_ended_work session req work status so_far) ends.request so
   change_awaited so_far next (changes.Opens session req asked lined comes short) so = next_awaited so_far session req asked lined comes so
-  change_awaited so_far next (changes.Holds session req asked lined comes short touched) so = next_awaited so_far session req asked lined comes so
+  change_awaited so_far next (changes.Holds session req asked lined comes short touched) so =
+      next_awaited so_far session req asked lined comes so
   change_awaited so_far next (changes.Denies session req asked lined request comes short untouched there own) so =
       refused_if_there_awaited read me unread reading req (Halt (zones_of_members lined.node) (zones_for asked.work)) request
       (without_denied_work session req asked lined) there (next_awaited so_far session req asked lined comes so)
   change_awaited so_far next (changes.Strays req work gateway there none apart) so = so
-  change_awaited so_far next (changes.Lines session req work moved steps waits) so = (steps_awaited so_far session req (ToWork work) moved steps so).0
+  change_awaited so_far next (changes.Lines session req work moved steps waits) so =
+      (steps_awaited so_far session req (ToWork work) moved steps so).0
   change_awaited so_far next (changes.Appends session req entry moved steps) so =
       let took = steps_awaited so_far session req (ToEntry entry) moved steps so in
       more_awaited read me unread reading moved.node.me moved.node.requests moved.node.outbox took.0 entry took.1

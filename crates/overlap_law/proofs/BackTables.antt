@@ -22,13 +22,13 @@ use Rattle.sheep_node.specs.WantedWorks.{HasWork}
 use Rattle.sheep_node.specs.Changes.{IsSoundStep}
 use Rattle.sheep_node.specs.declared.course.Course.TheVariants.{Commanding}
 use Rattle.sheep_node.specs.declared.course.Request.{Request}
-use Rattle.sheep_node.specs.declared.event.Event.{Event}
 use Rattle.sheep_node.proofs.NumberChanges.{both_in_chain}
 use Rattle.sheep_node.proofs.OneWorkChanges.{StepHasOneWork}
 use Rattle.sheep_node.proofs.OneWorkParts.{Sessions}
 use Rattle.sheep_world.specs.Began.{Began}
 use Rattle.sheep_world.specs.NodeCauses.{input_of_cause, host_with_node}
 use Rattle.sheep_world.specs.World.{Host}
+use Rattle.sheep_world.specs.RunsWithAsks.{Move}
 use Rattle.overlap_law.specs.MomentChanges.{MomentChange, MomentTrail, RunsAreInRange}
 use Rattle.overlap_law.specs.OpenedTables.{EntriesReadAreKept, GivesEntry, WrittenBackHaveTables}
 use Rattle.overlap_law.specs.Past.{MomentWithPast, run_with_past}
@@ -45,7 +45,7 @@ use Rattle.overlap_law.proofs.TablesStay.{lived}
 use Rattle.overlap_law.proofs.WorksAtCourses.{IsAt, HaveAt, AtSoFar}
 use Rattle.overlap_law.proofs.WrittenBack.{back_entry, back_covers, header_long}
 
-module _ (script : List Statement) (range : RunsAreInRange script) (events : List Event) (start before after : MomentWithPast)
+module _ (script : List Statement) (range : RunsAreInRange script) (events : List Move) (start before after : MomentWithPast)
     (ran : run_with_past script events ≡ Some start) (trail : MomentTrail script start before)
     (change : MomentChange script start before after)
     (good_id : ℕ → Bool) (kept : EntriesReadAreKept script good_id start before)

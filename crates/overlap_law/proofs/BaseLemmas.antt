@@ -1,11 +1,13 @@
 -- What a base is, who served a made attempt, and what becomes of one whose targets went on.
-use Rattle.std.proofs.Common.{◌≡◌, ⊎_elim, ℕ, ◌==◌, ◌&&◌, Bool, true, false, cond, List, [], ◌∷◌, length, filter, Option, Some, None, refl, ap, subst}
+use Rattle.std.proofs.Common.{◌≡◌, ⊎_elim, ℕ, ◌==◌, ◌&&◌, Bool, true, false, cond, List, [], ◌∷◌, length, filter, Option, Some, None, refl}
+use Rattle.std.proofs.Common.{ap, subst}
 use Rattle.std.specs.List.{list_all, last_or, AllByRecursion}
 use Rattle.std.proofs.lemmas.Bool.{and_parts, or_left, or_right, or_cases}
 use Rattle.object_id.specs.declared.node.NodeId.{NodeId}
 use Rattle.object_list.specs.Gathered.{has_node}
 use Rattle.overlap_law.specs.Attempts.{MessageFate, Flying, Served, Doomed, AttemptRecord}
-use Rattle.overlap_law.specs.Words.{Hosts, is_beyond, is_served, is_made, is_one_in_vain, is_doomed, is_served_by, has_served, covers_unit, covering, last_of, base_of, own_base_of}
+use Rattle.overlap_law.specs.Words.{Hosts, is_beyond, is_served, is_made, is_one_in_vain, is_doomed, is_served_by, has_served, covers_unit}
+use Rattle.overlap_law.specs.Words.{covering, last_of, base_of, own_base_of}
 
 -- where every target is beyond the epoch, what isn't served is in vain
 unserved-in_vain : (hosts : Hosts) (epoch : ℕ) (targets : List NodeId) (fates : List MessageFate) → length fates ≡ length targets
@@ -30,7 +32,8 @@ all_served-each node [] fates long e there = absurd (cc)
 all_served-each node (target ∷ targets) [] long e there = absurd (cc)
 all_served-each node (target ∷ targets) (Flying ∷ fates) long e there = absurd (cc)
 all_served-each node (target ∷ targets) (Served ∷ fates) long e there = ⊎_elim
-    (λ (h : (target.0 == node.0) ≡ true). or_left ((target.0 == node.0) && true) (is_served_by node targets fates) (ap (λ (b : Bool). b && true) h))
+    (λ (h : (target.0 == node.0) ≡ true). or_left ((target.0 == node.0) && true) (is_served_by node targets fates)
+    (ap (λ (b : Bool). b && true) h))
     (λ (h : has_node node targets ≡ true). or_right ((target.0 == node.0) && true) (is_served_by node targets fates)
     (all_served-each node targets fates (cc (long)) e h))
     (or_cases (target.0 == node.0) (has_node node targets) there)
@@ -82,7 +85,9 @@ pub base-made : (attempts : List AttemptRecord) (base : AttemptRecord) → base_
 base-made attempts base h =
     last_of-holds (λ (attempt : AttemptRecord). is_made attempt ≡ true) (filter is_made attempts) base (filter-passes is_made attempts) h
 
-pub own_base-covers_unit : (unit : ℕ) (attempts : List AttemptRecord) (own : AttemptRecord) → own_base_of unit attempts ≡ Some own → covers_unit unit own ≡ true
+pub own_base-covers_unit : (unit : ℕ) (attempts : List AttemptRecord) (own : AttemptRecord) → own_base_of unit attempts ≡ Some own
+    → covers_unit unit own ≡ true
 own_base-covers_unit unit attempts own h = last_of-holds
     (λ (attempt : AttemptRecord). covers_unit unit attempt ≡ true) (filter is_made (covering unit attempts)) own
-    (filter-keeps (λ (attempt : AttemptRecord). covers_unit unit attempt ≡ true) is_made (covering unit attempts) (filter-passes (covers_unit unit) attempts)) h
+    (filter-keeps (λ (attempt : AttemptRecord). covers_unit unit attempt ≡ true) is_made (covering unit attempts)
+    (filter-passes (covers_unit unit) attempts)) h

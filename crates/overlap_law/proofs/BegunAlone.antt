@@ -1,6 +1,7 @@
 -- A create or write that was open and still is, is on another object than an attempt that begins: works are apart, and only the writer of
 -- an id has one open on it.
-use Rattle.std.proofs.Common.{◌≡◌, ◌≢◌, ⊎_elim, arith, ℕ, ◌+◌, ◌≤◌, ◌<◌, true, false, List, length, Option, Some, None, option_map, slice_get, sym, ap, ◌∙◌}
+use Rattle.std.proofs.Common.{◌≡◌, ◌≢◌, ⊎_elim, arith, ℕ, ◌+◌, ◌≤◌, ◌<◌, true, false, List, length, Option, Some, None, option_map}
+use Rattle.std.proofs.Common.{slice_get, sym, ap, ◌∙◌}
 use Rattle.std.specs.FinMap as tree
 use Rattle.std.proofs.lemmas.Bool.{cases_eq}
 use Rattle.std.proofs.lemmas.Option.{same_Some, slice_get-map, slice_get_within}
@@ -33,7 +34,8 @@ node_of_holder None = 0
 node_of_holder (Some holder) = holder.node.0
 
 module _ (log : List Entry) (hosts hosts_after : Hosts) (wire : Wire) (attempts : List AttemptRecord)
-    (of_incarnations : AttemptsAreOfIncarnations hosts wire attempts) (have : OpenAttemptsHaveMessages hosts_after) (apart : MakersAreApart hosts_after)
+    (of_incarnations : AttemptsAreOfIncarnations hosts wire attempts) (have : OpenAttemptsHaveMessages hosts_after)
+    (apart : MakersAreApart hosts_after)
     (writes : WorksMayWrite log hosts_after) where
   -- a create or write is open at a host that is up
   pub record IsOpenAt (n req : ℕ) (work : Work) (current : gateways.Attempt) : Type 0 where
@@ -69,7 +71,8 @@ module _ (log : List Entry) (hosts hosts_after : Hosts) (wire : Wire) (attempts 
   }
 
   -- two that are open on one object are so at one node
-  one_node : (n req k other : ℕ) (work second : Work) (current another : gateways.Attempt) → IsOpenAt n req work current → IsOpenAt k other second another
+  one_node : (n req k other : ℕ) (work second : Work) (current another : gateways.Attempt) → IsOpenAt n req work current
+      → IsOpenAt k other second another
       → oid_of work.work ≡ oid_of second.work → n ≡ k
   one_node n req k other work second current another one two same =
       let first = (writes.each n one.host one.there one.up req work one.got one.making).may.writer in
@@ -81,11 +84,13 @@ module _ (log : List Entry) (hosts hosts_after : Hosts) (wire : Wire) (attempts 
       → tree.get one.host.node.gateway.works other ≡ Some second → is_making second.work ≡ true → oid_of work.work ≡ oid_of second.work
       → req ≢ other → ⊥
   one_request n req other work second current another one got making same differs =
-      apart n one.host one.there one.up req other work second (record { first_one = one.got; second_one = got; apart = differs }) one.making making same
+      apart n one.host one.there one.up req other work second (record { first_one = one.got; second_one = got; apart = differs }) one.making
+      making same
 
   -- what stays open has smaller numbers than what begins
   not_begun : (n req : ℕ) (work : Work) (current : gateways.Attempt) → (stays : StaysOpen n req work current) → (k : ℕ)
-      (sends : List (NodeId × PeerReq)) (new : AttemptRecord) → (begun : IsBegunBy hosts hosts_after k sends new) → begun.sent_by.after ≡ stays.now.host
+      (sends : List (NodeId × PeerReq)) (new : AttemptRecord) → (begun : IsBegunBy hosts hosts_after k sends new) → begun.sent_by.after
+      ≡ stays.now.host
       → n ≡ k → req ≡ new.req → ⊥
   not_begun n req work current stays k sends new begun host_so node_so req_so =
       let work_so : begun.work ≡ work
@@ -96,7 +101,8 @@ module _ (log : List Entry) (hosts hosts_after : Hosts) (wire : Wire) (attempts 
       ∙ stays.now.got) in
       let current_so : begun.current ≡ current
       = open_of begun.current current (sym begun.opened.stage ∙ ap (λ (w : Work). w.stage) work_so ∙ stays.now.stage) in
-      let (message, first) = have.each n stays.now.host stays.now.there stays.now.up req work current stays.now.got stays.now.making stays.now.stage in
+      let (message, first) = have.each n stays.now.host stays.now.there stays.now.up req work current stays.now.got stays.now.making
+      stays.now.stage in
       let number : message.number ≡ new.first + 0
       = begun.opened.same.numbers 0 message (ap (λ (a : gateways.Attempt). slice_get a.messages 0) current_so ∙ first) in
       let (was, was_first, is) = stays.was_open.numbers_so 0 message first in

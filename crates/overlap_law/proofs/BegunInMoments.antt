@@ -1,6 +1,7 @@
 -- In each moment on the way of an event of a run in range a row begins with a create of its first epoch that its node served, or in an
 -- epoch to which each member came.
-use Rattle.std.proofs.Common.{◌≡◌, ◌⊎◌, inl, inr, ⊎_elim, arith, ℕ, ◌<◌, ◌≤◌, ◌==◌, nat_le, Bool, true, false, List, [], ◌∷◌, length, Option, Some, None, slice_get, refl, sym, ap, subst, ◌∙◌}
+use Rattle.std.proofs.Common.{◌≡◌, ◌⊎◌, inl, inr, ⊎_elim, arith, ℕ, ◌<◌, ◌≤◌, ◌==◌, nat_le, Bool, true, false, List, [], ◌∷◌, length}
+use Rattle.std.proofs.Common.{Option, Some, None, slice_get, refl, sym, ap, subst, ◌∙◌}
 use Rattle.std.specs.FinMap as tree
 use Rattle.std.specs.List.{list_all}
 use Rattle.std.specs.Option.{option_map_or}
@@ -27,10 +28,10 @@ use Rattle.peer_service.specs.State.{Peer}
 use Rattle.peer_service.specs.Fence.{epoch_refusal}
 use Rattle.recovery.specs.Shown.{first_in}
 use Rattle.recovery.specs.State.{is_listed}
-use Rattle.sheep_node.specs.declared.event.Event.{Event}
 use Rattle.sheep_node.specs.declared.input.Input.TheVariants as inputs
 use Rattle.sheep_world.specs.World.{Host}
 use Rattle.sheep_world.specs.Began.{Began}
+use Rattle.sheep_world.specs.RunsWithAsks.{Move}
 use Rattle.overlap_law.specs.Attempts.{AttemptRecord, attempts_with_fate, fate_of_say, object_of}
 use Rattle.overlap_law.specs.Holders.{is_create_work}
 use Rattle.overlap_law.specs.Words.{has_served}
@@ -289,7 +290,7 @@ begun-at moment holds live = record {
       own;
 }
 
-module _ (script : List Statement) (range : RunsAreInRange script) (events : List Event) (moment : MomentWithPast)
+module _ (script : List Statement) (range : RunsAreInRange script) (events : List Move) (moment : MomentWithPast)
     (is : run_with_past script events ≡ Some moment) where
   pub begun-in_run : (live : ℕ → Bool) → RowsAreBegun moment.world.log live moment.world.hosts moment.past.attempts
   begun-in_run = begun-at moment (run-kept script RowsBegin (kept_begun script range) events moment is)

@@ -1,6 +1,7 @@
 -- Which attempts begin by the numbers that a node gave in its step: in two nodes that differ at one request, by the numbers that this
 -- request's work waits for in neither, the same ones.
-use Rattle.std.proofs.Common.{◌≡◌, ◌≢◌, arith, ℕ, zero, suc, ◌+◌, ◌-◌, ◌≤◌, ◌<◌, true, false, ◌&&◌, cond, List, [], ◌∷◌, ◌++◌, Option, Some, None, is_some, option_map, option_and_then, refl, sym, ap, ◌∙◌, ⊎_elim}
+use Rattle.std.proofs.Common.{◌≡◌, ◌≢◌, arith, ℕ, zero, suc, ◌+◌, ◌-◌, ◌≤◌, ◌<◌, true, false, ◌&&◌, cond, List, [], ◌∷◌, ◌++◌, Option, Some}
+use Rattle.std.proofs.Common.{None, is_some, option_map, option_and_then, refl, sym, ap, ◌∙◌, ⊎_elim}
 use Rattle.std.specs.List.{cons_option, filter_map, range_with_len}
 use Rattle.std.specs.FinMap as tree
 use Rattle.std.proofs.lemmas.Bool.{cases_eq}
@@ -59,7 +60,8 @@ module _ (host : Host) (k : ℕ) where
 
   same_beginning : (old new : Node) → new.me ≡ old.me → (req : ℕ) (work : ObjWork) (attempt : gateways.Attempt) (was is : Option Request)
       → session_of_request is ≡ session_of_request was
-      → option_map (beginning (host_with_node host new) k req work attempt) is ≡ option_map (beginning (host_with_node host old) k req work attempt) was
+      → option_map (beginning (host_with_node host new) k req work attempt) is
+      ≡ option_map (beginning (host_with_node host old) k req work attempt) was
   same_beginning old new me req work attempt None None same = refl
   same_beginning old new me req work attempt None (Some r) same = absurd (cc (same))
   same_beginning old new me req work attempt (Some q) None same = absurd (cc (same))
@@ -68,7 +70,8 @@ module _ (host : Host) (k : ℕ) where
       λ i. Some (record (beginning (host_with_node host old) k req work attempt q) { session = session i; gateway = me i })
 
   pub begins-same : (old new : Node) → new.me ≡ old.me → (req : ℕ)
-      → session_of_request (tree.get new.requests req) ≡ session_of_request (tree.get old.requests req) → (work : ObjWork) (stage : WorkStage)
+      → session_of_request (tree.get new.requests req) ≡ session_of_request (tree.get old.requests req)
+      → (work : ObjWork) (stage : WorkStage)
       → beginning_with (host_with_node host new) k req work stage ≡ beginning_with (host_with_node host old) k req work stage
   begins-same old new me req same work (Open attempt) =
       ap (λ (o : Option AttemptRecord). cond (is_making work && is_first k attempt.messages) o None)
@@ -81,13 +84,15 @@ module _ (host : Host) (k : ℕ) where
   -- what waits for the number in one of two nodes does in the other, and begins alike
   pub record AreAlike (old new : Node) : Type 0 where
     pub forth : (req : ℕ) (work : Work) → tree.get old.gateway.works req ≡ Some work → is_awaited_in k work ≡ true
-        → (later : Work) × (tree.get new.gateway.works req ≡ Some later) × (is_awaited_in k later ≡ true) × (begins new req later ≡ begins old req work)
+        → (later : Work) × (tree.get new.gateway.works req ≡ Some later) × (is_awaited_in k later ≡ true)
+        × (begins new req later ≡ begins old req work)
     pub back : (req : ℕ) (later : Work) → tree.get new.gateway.works req ≡ Some later → is_awaited_in k later ≡ true
         → (work : Work) × (tree.get old.gateway.works req ≡ Some work) × (is_awaited_in k work ≡ true)
 
   by_asker : (old new : Node) → NumbersAreOfOneWork new.gateway.works → AreAlike old new → (was is : Option (ℕ × Work))
       → asker k old.gateway ≡ was → asker k new.gateway ≡ is
-      → option_and_then (λ (found : ℕ × Work). begins new found.0 found.1) is ≡ option_and_then (λ (found : ℕ × Work). begins old found.0 found.1) was
+      → option_and_then (λ (found : ℕ × Work). begins new found.0 found.1) is
+      ≡ option_and_then (λ (found : ℕ × Work). begins old found.0 found.1) was
   by_asker old new once alike None None was is = refl
   by_asker old new once alike (Some f) None was is =
       let (got, awaits) = found_got k old.gateway.works f was in
@@ -114,11 +119,13 @@ module _ (host : Host) (k : ℕ) where
   begun-alike old new once alike = by_asker old new once alike (asker k old.gateway) (asker k new.gateway) refl refl
 
   -- where each work that waits for the number begins nothing, nothing begins
-  pub begun-none : (node : Node) → ((req : ℕ) (work : Work) → tree.get node.gateway.works req ≡ Some work → is_awaited_in k work ≡ true → begins node req work ≡ None)
+  pub begun-none : (node : Node)
+      → ((req : ℕ) (work : Work) → tree.get node.gateway.works req ≡ Some work → is_awaited_in k work ≡ true → begins node req work ≡ None)
       → attempt_begun_with (host_with_node host node) k ≡ None
   begun-none node none = by_found (asker k node.gateway) refl
     where
-      by_found : (o : Option (ℕ × Work)) → asker k node.gateway ≡ o → option_and_then (λ (found : ℕ × Work). begins node found.0 found.1) o ≡ None
+      by_found : (o : Option (ℕ × Work)) → asker k node.gateway ≡ o
+          → option_and_then (λ (found : ℕ × Work). begins node found.0 found.1) o ≡ None
       by_found None is = refl
       by_found (Some f) is = let (got, awaits) = found_got k node.gateway.works f is in none f.0 f.1 got awaits
 
@@ -132,14 +139,20 @@ pub record DifferAtRequest (low high req : ℕ) (old new : Node) : Type 0 where
   pub was : (k : ℕ) → low ≤ k → k < high → (work : Work) → tree.get old.gateway.works req ≡ Some work → is_awaited_in k work ≡ false
   pub is : (k : ℕ) → low ≤ k → k < high → (work : Work) → tree.get new.gateway.works req ≡ Some work → is_awaited_in k work ≡ false
 
-pub alike_elsewhere : (host : Host) (low high req : ℕ) (old new : Node) → DifferAtRequest low high req old new → (k : ℕ) → low ≤ k → k < high
+pub alike_elsewhere : (host : Host) (low high req : ℕ) (old new : Node) → DifferAtRequest low high req old new → (k : ℕ) → low ≤ k
+    → k < high
     → AreAlike host k old new
 alike_elsewhere host low high req old new d k from below = record {
   forth = λ q work got awaits. ⊎_elim
       (λ (own : q ≡ req).
       let none = d.was k from below work (ap (tree.get old.gateway.works) (sym own) ∙ got) in absurd (cc (awaits, none)))
-      (λ (other : q ≢ req). (work, d.works_so q other ∙ got, awaits, begins-same host k old new d.me_so q (d.sessions_so q other) work.work work.stage))
-      (cases_eq q req);
+      (λ (other : q ≢ req). (
+        work,
+        d.works_so q other ∙ got,
+        awaits,
+        begins-same host k old new d.me_so q (d.sessions_so q other) work.work
+            work.stage,
+      )) (cases_eq q req);
   back = λ q later got awaits. ⊎_elim
       (λ (own : q ≡ req).
       let none = d.is k from below later (ap (tree.get new.gateway.works) (sym own) ∙ got) in absurd (cc (awaits, none)))
@@ -147,7 +160,8 @@ alike_elsewhere host low high req old new d k from below = record {
       (cases_eq q req);
 }
 
-pub differ_twice : (low high req : ℕ) (old middle new : Node) → DifferAtRequest low high req old middle → DifferAtRequest low high req middle new
+pub differ_twice : (low high req : ℕ) (old middle new : Node) → DifferAtRequest low high req old middle
+    → DifferAtRequest low high req middle new
     → DifferAtRequest low high req old new
 differ_twice low high req old middle new one two = record {
   me_so = two.me_so ∙ one.me_so;
@@ -167,19 +181,23 @@ begun-at_first host node sends =
 
 -- where no number is given and each so far began alike, all did
 pub begun-so_far : (host : Host) (old new : Node) → new.sends ≡ old.sends
-    → ((k : ℕ) → host.node.sends ≤ k → k < old.sends → attempt_begun_with (host_with_node host new) k ≡ attempt_begun_with (host_with_node host old) k)
+    → ((k : ℕ) → host.node.sends ≤ k → k < old.sends → attempt_begun_with (host_with_node host new) k
+    ≡ attempt_begun_with (host_with_node host old) k)
     → attempts_begun_by host (host_with_node host new) ≡ attempts_begun_by host (host_with_node host old)
 unfolding attempts_begun_by
 begun-so_far host old new sends alike =
-    ap (λ (count : ℕ). filter_map (attempt_begun_with (host_with_node host new)) (range_with_len host.node.sends (count - host.node.sends))) sends
-    ∙ filter_map-same (attempt_begun_with (host_with_node host new)) (attempt_begun_with (host_with_node host old)) host.node.sends (old.sends - host.node.sends)
-    (λ k from below. alike k from (omega (arith, from, below)))
+    ap (λ (count : ℕ). filter_map (attempt_begun_with (host_with_node host new)) (range_with_len host.node.sends (count - host.node.sends)))
+    sends
+    ∙ filter_map-same (attempt_begun_with (host_with_node host new)) (attempt_begun_with (host_with_node host old)) host.node.sends
+    (old.sends - host.node.sends) (λ k from below. alike k from (omega (arith, from, below)))
 
 -- and where the node gave more numbers, with those that begin by these
 pub begun-with_more : (host : Host) (old new : Node) (more : ℕ) → host.node.sends ≤ old.sends → new.sends ≡ old.sends + more
-    → ((k : ℕ) → host.node.sends ≤ k → k < old.sends → attempt_begun_with (host_with_node host new) k ≡ attempt_begun_with (host_with_node host old) k)
+    → ((k : ℕ) → host.node.sends ≤ k → k < old.sends → attempt_begun_with (host_with_node host new) k
+    ≡ attempt_begun_with (host_with_node host old) k)
     → attempts_begun_by host (host_with_node host new)
-    ≡ attempts_begun_by host (host_with_node host old) ++ filter_map (attempt_begun_with (host_with_node host new)) (range_with_len old.sends more)
+    ≡ attempts_begun_by host (host_with_node host old) ++ filter_map (attempt_begun_with (host_with_node host new))
+    (range_with_len old.sends more)
 unfolding attempts_begun_by
 begun-with_more host old new more above sends alike =
     let first = host.node.sends in
@@ -188,5 +206,6 @@ begun-with_more host old new more above sends alike =
     let start : first + count ≡ old.sends = omega (arith, above) in
     ap (filter_map (attempt_begun_with (host_with_node host new))) (range_in_two first count more (new.sends - first) old.sends total start)
     ∙ filter_map-append (attempt_begun_with (host_with_node host new)) (range_with_len first count) (range_with_len old.sends more)
-    ∙ ap (λ (front : List AttemptRecord). front ++ filter_map (attempt_begun_with (host_with_node host new)) (range_with_len old.sends more))
-    (filter_map-same (attempt_begun_with (host_with_node host new)) (attempt_begun_with (host_with_node host old)) first count (λ k from below. alike k from (omega (arith, above, below))))
+    ∙ ap (λ (front : List AttemptRecord). front ++ filter_map (attempt_begun_with (host_with_node host new))
+    (range_with_len old.sends more)) (filter_map-same (attempt_begun_with (host_with_node host new))
+    (attempt_begun_with (host_with_node host old)) first count (λ k from below. alike k from (omega (arith, above, below))))

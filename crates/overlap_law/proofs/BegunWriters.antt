@@ -1,11 +1,14 @@
 -- A request of which the history has that a write began was begun, and is a write or a check.
-use Rattle.std.proofs.Common.{◌≡◌, inl, inr, ⊎_elim, ℕ, Bool, true, false, List, [], ◌++◌, Contains, Option, Some, None, option_map, filter, refl, sym, ap, subst, ◌∙◌, arith}
+use Rattle.std.proofs.Common.{is_some}
+use Rattle.std.proofs.Common.{◌≡◌, inl, inr, ⊎_elim, ℕ, Bool, true, false, List, [], ◌++◌, Contains, Option, Some, None, option_map, filter}
+use Rattle.std.proofs.Common.{refl, sym, ap, subst, ◌∙◌, arith}
 use Rattle.std.specs.List.{list_any}
 use Rattle.std.specs.Option.{option_map_or, option_and_then}
 use Rattle.std.specs.FinMap as tree
 use Rattle.std.proofs.lemmas.Bool.{eq-eqb, or_cases}
 use Rattle.std.proofs.lemmas.List.Folds.{list_any-append}
 use Rattle.proof_tools.proofs.Lists.{list_any-none}
+use Rattle.cluster_script.specs.Statements.{is_check}
 use Rattle.cluster_script.specs.declared.statement.Statement.{Statement}
 use Rattle.cluster_script.specs.NumberedRequests.{request_at, numbered_requests}
 use Rattle.disk_history.specs.declared.event.HistEvent.{HistEvent}
@@ -20,9 +23,11 @@ use Rattle.sheep_world.specs.Began.{Began}
 use Rattle.sheep_world.specs.BegunRequests.{WasBegun}
 use Rattle.sheep_world.specs.Effects.{open_disk_at, request_started}
 use Rattle.sheep_node.specs.Step.{node_step}
-use Rattle.sheep_world.specs.EventKinds.{log_after_return, EventKind, NodeStep, UntoldLoss, UnreadDelivery, NodeLoss, NodeLeave, NodeReweight, NodeJoin, NodeReturn, PhaseEnd}
+use Rattle.sheep_world.specs.EventKinds.{log_after_return, EventKind, NodeStep, UntoldLoss, UnreadDelivery, NodeLoss, NodeLeave}
+use Rattle.sheep_world.specs.EventKinds.{NodeReweight, NodeJoin, NodeReturn, PhaseEnd}
 use Rattle.sheep_world.specs.HistoryAdditions.{check_write_by, check_write_grown, is_lost_write, replies_grown, request_grown}
-use Rattle.sheep_world.specs.NodeCauses.{NodeCause, GuestAsks, RequestComes, ReplyComes, LossIsTold, EntryIsRead, EntryIsPut, RecoveryTicks, WorkIsRetried, IsCause, history_of_cause, progress_at_cause, world_after_cause}
+use Rattle.sheep_world.specs.NodeCauses.{NodeCause, GuestAsks, RequestComes, ReplyComes, LossIsTold, EntryIsRead, EntryIsPut, RecoveryTicks}
+use Rattle.sheep_world.specs.NodeCauses.{WorkIsRetried, ClientAsks, IsCause, history_of_cause, progress_at_cause, world_after_cause}
 use Rattle.sheep_world.specs.Step.{EventOutcome}
 use Rattle.sheep_world.proofs.BegunRequestLaws.{Grows}
 use Rattle.overlap_law.proofs.ComingWrites.{coming}
@@ -31,6 +36,7 @@ use Rattle.overlap_law.proofs.ItemsAtBegin.{check_begins, entry_none, lost_none,
 use Rattle.overlap_law.proofs.ItemsOfReplies.{is_write_at, replies_none}
 use Rattle.overlap_law.proofs.ItemsOfRequests.{begins_write_of}
 use Rattle.overlap_law.proofs.RefusedInRuns.{found_brings, found_grows, node_begun, replies_grow, still_begun}
+use Rattle.overlap_law.proofs.SessionsOfRequests.{of_test}
 use Rattle.overlap_law.proofs.UnansweredRequests.{Guests}
 
 -- an event that begins a write of the request is one in which a write of it begins
@@ -95,7 +101,8 @@ module _ (script : List Statement) (req : ℕ) where
         left cause (record {
           session = session.number;
           begun = subst (λ (k : ℕ). WasBegun script (progress_at_cause cause world) session.number k) begins.0
-              (found_brings script world began n host there cause caused other session.number ask refl);
+              (found_brings script world began n host there cause caused other session.number ask refl
+              (ap (λ (o : Option Statement). is_some o) caused.stands));
           writer = inl (ap (is_write_at script) (sym begins.0) ∙ begins.2);
         }))
         (told (request_started session (Some other) world) None cause)
@@ -119,7 +126,7 @@ module _ (script : List Statement) (req : ℕ) where
         left cause (record {
           session = has.session;
           begun = node_begun script world began n host there req (record { session = has.session; course = Checking has.check })
-              (ap (tree.get host.node.requests) (sym own) ∙ has.there);
+              (ap (tree.get host.node.requests) (sym own) ∙ has.there) (of_test script is_check req checks);
           writer = inr checks;
         }))
         (told world write cause)
@@ -128,6 +135,7 @@ module _ (script : List Statement) (req : ℕ) where
     step_begins (EntryIsPut entry) caused is = let none = entry_none req world.log entry in absurd (cc (is, none))
     step_begins RecoveryTicks caused is = told world None RecoveryTicks is
     step_begins WorkIsRetried caused is = told world None WorkIsRetried is
+    step_begins (ClientAsks req ask) caused is = told world None (ClientAsks req ask) is
 
   -- ---- an event
 

@@ -1,10 +1,13 @@
--- At each moment on the way of an event: who is lost or came to an epoch is so later, a doomed attempt stays doomed, and an epoch that is dying
--- stays so. A node that isn't lost recovers its own epoch; and where one has recovered in an epoch, no target of an earlier one is in that.
-use Rattle.std.proofs.Common.{◌≡◌, ⊎_elim, arith, ℕ, ◌+◌, ◌≤◌, ◌<◌, ◌&&◌, ◌||◌, nat_le, not, Bool, true, false, List, [], ◌∷◌, zero, suc, Option, Some, None, is_some, refl, sym, ap, subst, ◌∙◌, slice_get}
+-- At each moment on the way of an event: who is lost or came to an epoch is so later, a doomed attempt stays doomed, and an epoch that is
+-- dying stays so. A node that isn't lost recovers its own epoch; and where one has recovered in an epoch, no target of an earlier one is in
+-- that.
+use Rattle.std.proofs.Common.{◌≡◌, ⊎_elim, arith, ℕ, ◌+◌, ◌≤◌, ◌<◌, ◌&&◌, ◌||◌, nat_le, not, Bool, true, false, List, [], ◌∷◌, zero, suc}
+use Rattle.std.proofs.Common.{Option, Some, None, is_some, refl, sym, ap, subst, ◌∙◌, slice_get}
 use Rattle.std.specs.List.{list_any}
 use Rattle.std.specs.Option.{option_map_or}
 use Rattle.std.specs.FinMap as tree
-use Rattle.std.proofs.lemmas.Bool.{and_parts, and_from, and_cases, cases_lt, eqb-true, eq-eqb, le-leb, leb-true, leb-false, or_cases, or_left, or_right, or_parts}
+use Rattle.std.proofs.lemmas.Bool.{and_parts, and_from, and_cases, cases_lt, eqb-true, eq-eqb, le-leb, leb-true, leb-false, or_cases}
+use Rattle.std.proofs.lemmas.Bool.{or_left, or_right, or_parts}
 use Rattle.std.proofs.lemmas.Option.{same_Some}
 use Rattle.object_id.specs.declared.node.NodeId.{NodeId}
 use Rattle.object_id.specs.declared.entry.Entry.{Entry}
@@ -74,7 +77,8 @@ pub record IsWithinEpoch (hosts : Hosts) (epoch : ℕ) (node : NodeId) : Type 0 
 pub not_beyond_within : (hosts : Hosts) (epoch : ℕ) (node : NodeId) → is_beyond hosts epoch node ≡ false → IsWithinEpoch hosts epoch node
 not_beyond_within hosts epoch node is = by_host (tree.get hosts node.0) refl is
   where
-    by_host : (o : Option Host) → tree.get hosts node.0 ≡ o → option_map_or (has_come_in (epoch + 1)) o true ≡ false → IsWithinEpoch hosts epoch node
+    by_host : (o : Option Host) → tree.get hosts node.0 ≡ o → option_map_or (has_come_in (epoch + 1)) o true ≡ false
+        → IsWithinEpoch hosts epoch node
     by_host None at is = absurd (cc (is))
     by_host (Some host) at is =
         let parts = or_parts host.is_lost (nat_le (epoch + 1) host.node.peer.epoch) is in
@@ -113,11 +117,13 @@ module _ (moment : MomentWithPast) (terms : TermsHold moment) where
       → is_member node.0 (members_in moment.world.log later) ≡ true
   within_stays epoch later node member is from most =
       let up = not_beyond_within moment.world.hosts epoch node is in
-      (have_stayed moment.world.log moment.world.hosts terms.stood).each node.0 up.host up.there up.up epoch later member up.within from most
+      (have_stayed moment.world.log moment.world.hosts terms.stood).each node.0 up.host up.there up.up epoch later member up.within from
+      most
 
   -- where each member of an epoch came to it, each member of an earlier one is beyond that
   pub come_leaves : (epoch level : ℕ) (node : NodeId)
-      → ((other : NodeId) → is_member other.0 (members_in moment.world.log epoch) ≡ true → has_reached moment.world.hosts epoch other ≡ true)
+      → ((other : NodeId) → is_member other.0 (members_in moment.world.log epoch) ≡ true → has_reached moment.world.hosts epoch other
+      ≡ true)
       → epoch ≤ epoch_of moment.world.log → level < epoch → is_member node.0 (members_in moment.world.log level) ≡ true
       → is_beyond moment.world.hosts level node ≡ false → ⊥
   come_leaves epoch level node all begun below member is = by_member (is_member node.0 (members_in moment.world.log epoch)) refl
@@ -128,7 +134,8 @@ module _ (moment : MomentWithPast) (terms : TermsHold moment) where
       by_member : (b : Bool) → is_member node.0 (members_in moment.world.log epoch) ≡ b → ⊥
       by_member true own =
           let reached : nat_le epoch up.host.node.peer.epoch ≡ true
-          = ap (λ (o : Option Host). nat_le epoch (option_map_or (λ (host : Host). host.node.peer.epoch) o 0)) (sym up.there) ∙ all node own in
+          = ap (λ (o : Option Host). nat_le epoch (option_map_or (λ (host : Host). host.node.peer.epoch) o 0)) (sym up.there)
+          ∙ all node own in
           let came = leb-true epoch up.host.node.peer.epoch reached in
           let within = up.within in
           omega (arith, came, within, below)
@@ -148,7 +155,8 @@ module _ (moment : MomentWithPast) (terms : TermsHold moment) where
   pub finished_leaves : (n epoch level : ℕ) (node : NodeId) → has_finished moment.world.hosts moment.world.log epoch (node_of n) ≡ true
       → level < epoch → is_member node.0 (members_in moment.world.log level) ≡ true → is_beyond moment.world.hosts level node ≡ false → ⊥
   finished_leaves n epoch level node finished below member is =
-      come_leaves epoch level node (λ other own. terms.came.members n epoch other finished own) (terms.came.begun n epoch finished) below member is
+      come_leaves epoch level node (λ other own. terms.came.members n epoch other finished own) (terms.came.begun n epoch finished) below
+      member is
 
 -- whether a member is beyond an epoch without a `Recovered` of it
 abbrev dies_in : Hosts → List Entry → ℕ → Member → Bool
@@ -164,7 +172,8 @@ lives_one hosts log epoch node unfinished first none same = ⊎_elim
     (λ (within : is_beyond hosts epoch first.node ≡ false). ap (λ (n : ℕ). is_beyond hosts epoch (node_of n)) (sym same) ∙ within)
     (and_cases (not (has_finished hosts log epoch first.node)) (is_beyond hosts epoch first.node) none)
 
-lives_among : (hosts : Hosts) (log : List Entry) (epoch : ℕ) (node : NodeId) → has_finished hosts log epoch node ≡ false → (members : List Member)
+lives_among : (hosts : Hosts) (log : List Entry) (epoch : ℕ) (node : NodeId) → has_finished hosts log epoch node ≡ false
+    → (members : List Member)
     → list_any (dies_in hosts log epoch) members ≡ false → is_member node.0 members ≡ true → is_beyond hosts epoch node ≡ false
 lives_among hosts log epoch node unfinished [] none among = absurd (cc (among))
 lives_among hosts log epoch node unfinished (first ∷ members) none among =
@@ -267,7 +276,8 @@ module _ (script : List Statement) (range : RunsAreInRange script) (start before
         → is_dying after.world.hosts after.world.log epoch ≡ true
     unfolding is_dying
     dying_later epoch begun dying =
-        ap (list_any (dies_in after.world.hosts after.world.log epoch)) (same_members before.world.log after.world.log (log_grows script change) terms.stood.some epoch begun)
+        ap (list_any (dies_in after.world.hosts after.world.log epoch))
+        (same_members before.world.log after.world.log (log_grows script change) terms.stood.some epoch begun)
         ∙ any_members (dies_in before.world.hosts before.world.log epoch) (dies_in after.world.hosts after.world.log epoch)
         (members_in before.world.log epoch) stays dying
       where
@@ -283,11 +293,13 @@ module _ (script : List Statement) (range : RunsAreInRange script) (start before
         unfinished member not_yet beyond false none = refl
 
         stays : (member : Member) → is_member member.node.0 (members_in before.world.log epoch) ≡ true
-            → dies_in before.world.hosts before.world.log epoch member ≡ true → dies_in after.world.hosts after.world.log epoch member ≡ true
+            → dies_in before.world.hosts before.world.log epoch member ≡ true
+            → dies_in after.world.hosts after.world.log epoch member ≡ true
         stays member among is =
             let parts = and_parts (not (has_finished before.world.hosts before.world.log epoch member.node))
             (is_beyond before.world.hosts epoch member.node) is in
             let beyond : is_beyond after.world.hosts epoch member.node ≡ true
             = come_later member.node.0 (epoch + 1) (terms.stood.seated member.node.0 epoch begun among) (omega (arith, begun)) parts.1 in
-            and_from (not (has_finished after.world.hosts after.world.log epoch member.node)) (is_beyond after.world.hosts epoch member.node)
-            (unfinished member parts.0 beyond (has_finished after.world.hosts after.world.log epoch member.node) refl) beyond
+            and_from (not (has_finished after.world.hosts after.world.log epoch member.node))
+            (is_beyond after.world.hosts epoch member.node) (unfinished member parts.0 beyond
+            (has_finished after.world.hosts after.world.log epoch member.node) refl) beyond

@@ -1,14 +1,17 @@
 -- The items of one block of a disk, event by event, where no event makes the disk anew.
-use Rattle.std.proofs.Common.{◌≡◌, ⊎_elim, ℕ, ◌==◌, Bool, true, false, not, ◌&&◌, cond, List, [], ◌∷◌, ◌++◌, map, filter, fold, Contains, Option, Some, None, option_map, refl, sym, ap, subst, ◌∙◌}
+use Rattle.std.proofs.Common.{◌≡◌, ⊎_elim, ℕ, ◌==◌, Bool, true, false, not, ◌&&◌, cond, List, [], ◌∷◌, ◌++◌, map, filter, fold, Contains}
+use Rattle.std.proofs.Common.{Option, Some, None, option_map, refl, sym, ap, subst, ◌∙◌}
 use Rattle.std.specs.Prelude.{nat_lt}
 use Rattle.std.specs.List.{list_any}
 use Rattle.std.specs.Option.{option_map_or}
 use Rattle.std.proofs.lemmas.Bool.{eqb-true, eq-eqb, or_parts}
 use Rattle.proof_tools.proofs.Lists.{Contains-nil, Contains-cons_cases}
 use Rattle.disk_history.specs.declared.event.HistEvent.{HistEvent}
-use Rattle.disk_history.specs.declared.event.HistEvent.TheVariants.{Create, Copy, Delete, WriteStart, WriteDone, WriteRefused, WriterLost, Read}
+use Rattle.disk_history.specs.declared.event.HistEvent.TheVariants.{Create, Copy, Delete, WriteStart, WriteDone, WriteRefused, WriterLost}
+use Rattle.disk_history.specs.declared.event.HistEvent.TheVariants.{Read}
 use Rattle.disk_history.specs.Changes.{items_in, blocks_in}
-use Rattle.disk_history.specs.Ledger.{Open, Acknowledged, Lost, Item, Disk, Ledger, is_item_of, item_with_mark, with_item, zeros_item, changed_at, has_block, ledger_after}
+use Rattle.disk_history.specs.Ledger.{Open, Acknowledged, Lost, Item, Disk, Ledger, is_item_of, item_with_mark, with_item, zeros_item}
+use Rattle.disk_history.specs.Ledger.{changed_at, has_block, ledger_after}
 
 -- what differs does so both ways
 pub apart_back : (a b : ℕ) → (a == b) ≡ false → (b == a) ≡ false

@@ -1,6 +1,7 @@
 -- Over each change of a moment what a block may come to be read as stays among what may be read of it, if the history grows so that it
 -- does, and if what works make may be read.
-use Rattle.std.proofs.Common.{◌≡◌, ◌≢◌, ◌⊎◌, inl, inr, ⊎_elim, arith, ℕ, ◌<◌, ◌≤◌, Bool, true, false, List, [], ◌∷◌, ◌++◌, All, fold, length, Option, Some, None, slice_get, get_or, refl, sym, ap, subst, ◌∙◌}
+use Rattle.std.proofs.Common.{◌≡◌, ◌≢◌, ◌⊎◌, inl, inr, ⊎_elim, arith, ℕ, ◌<◌, ◌≤◌, Bool, true, false, List, [], ◌∷◌, ◌++◌, All, fold}
+use Rattle.std.proofs.Common.{length, Option, Some, None, slice_get, get_or, refl, sym, ap, subst, ◌∙◌}
 use Rattle.std.proofs.lemmas.Bool.{both_ways, false_from_ne_true}
 use Rattle.std.proofs.lemmas.List.Sums.{fold-append}
 use Rattle.std.proofs.lemmas.Option.{same_Some, slice_get_cases}
@@ -20,8 +21,8 @@ use Rattle.vdi_directory.specs.Decisions.{log_effects}
 use Rattle.vdi_directory.proofs.DeadLemmas.{chained, chain-used}
 use Rattle.peer_proto.specs.declared.work.ObjWork.{ObjWork}
 use Rattle.peer_proto.specs.Work.{oid_of}
-use Rattle.sheep_node.specs.declared.event.Event.{Event}
 use Rattle.sheep_world.specs.Began.{Began}
+use Rattle.sheep_world.specs.RunsWithAsks.{Move}
 use Rattle.overlap_law.specs.Attempts.{AttemptRecord, MessageFate, object_of}
 use Rattle.overlap_law.specs.Grants.{writer_of}
 use Rattle.overlap_law.specs.Each.{spec_in}
@@ -29,7 +30,8 @@ use Rattle.overlap_law.specs.Headline.{ledger_of}
 use Rattle.overlap_law.specs.MomentChanges.{MomentChange, MomentTrail, Then, RunsAreInRange}
 use Rattle.overlap_law.specs.Past.{MomentWithPast, run_with_past}
 use Rattle.overlap_law.specs.ShapedAttempts.{AreShaped}
-use Rattle.overlap_law.specs.StayingBlocks.{IsBlockOfAnyDisk, WasServed, Stays, MayStay, IsHomeToCome, BlocksStayWritten, WorksMayStay, HasEntryOf, EntersWhatMayCome, GrowsKeeping, DisksArePublished, InodesAreLive}
+use Rattle.overlap_law.specs.StayingBlocks.{IsBlockOfAnyDisk, WasServed, Stays, MayStay, IsHomeToCome, BlocksStayWritten, WorksMayStay}
+use Rattle.overlap_law.specs.StayingBlocks.{HasEntryOf, EntersWhatMayCome, GrowsKeeping, DisksArePublished, InodesAreLive}
 use Rattle.overlap_law.specs.Tables.{entry_by, EntriesAreMade}
 use Rattle.overlap_law.specs.TiedAttempts.{IsTied}
 use Rattle.overlap_law.specs.ToCome.{IsToCome, IsEntryToCome}
@@ -64,7 +66,7 @@ use Rattle.overlap_law.proofs.StayingRows.{dead_later}
 
 -- ---- a change
 
-module _ (script : List Statement) (range : RunsAreInRange script) (events : List Event) (start before after : MomentWithPast)
+module _ (script : List Statement) (range : RunsAreInRange script) (events : List Move) (start before after : MomentWithPast)
     (is : run_with_past script events ≡ Some start) (trail : MomentTrail script start before)
     (change : MomentChange script start before after) where
   abbrev effects : List Effect
@@ -285,8 +287,8 @@ module _ (script : List Statement) (range : RunsAreInRange script) (events : Lis
         old_written =
             alike_written effects good_id hosts attempts (λ spec j. j < length before.past.attempts) attempts (λ req was. was) real
             (fold ledger_after (ledger_of before.past.history) grows_so.added) (ledger_of after.past.history) ledger_so
-            (events_hold effects good_id hosts attempts (λ spec j. j < length before.past.attempts) attempts (λ req was. was) real grows_so.added (ledger_of before.past.history)
-            (items_open before.past.history) grows_so.keep first)
+            (events_hold effects good_id hosts attempts (λ spec j. j < length before.past.attempts) attempts (λ req was. was) real
+            grows_so.added (ledger_of before.past.history) (items_open before.past.history) grows_so.keep first)
 
         -- a hole may be read as zeros
         pub holes_stay : (vid index unit : ℕ) (disk : Disk) (spec : VdiSpec)
@@ -300,7 +302,8 @@ module _ (script : List Statement) (range : RunsAreInRange script) (events : Lis
             → IsBlockOfAnyDisk (ledger_of after.past.history) effects good_id vid disk spec index unit
             → is_torn_here spec (items_at disk spec index unit) ≡ false → (home : ℕ) → IsHomeToCome hosts attempts vid index home
             → home ≢ 0 → (j : ℕ) (attempt : AttemptRecord) → IsToCome hosts attempts (object_number home index) unit j attempt
-            → j < length before.past.attempts → MayStay attempts (items_at disk spec index unit) (Some attempt.req) (bytes_by unit attempt.work)
+            → j < length before.past.attempts
+            → MayStay attempts (items_at disk spec index unit) (Some attempt.req) (bytes_by unit attempt.work)
         old_stays vid index unit disk spec block = (old_written vid disk spec index unit block).each
 
         module _ (live : ℕ → Bool) (inodes : InodesAreLive effects live good_id) (made : EntriesAreMade effects live good_id attempts)

@@ -1,6 +1,7 @@
 -- In each run in range a disk of the history has as many blocks as the log says that it was made with: a new disk has the blocks of its
 -- header, and one that is copied is of the spec of that which it is copied from.
-use Rattle.std.proofs.Common.{◌≡◌, ℕ, ◌==◌, Bool, true, false, cond, List, [], ◌∷◌, ◌++◌, fold, filter, Option, Some, None, option_map, refl, sym, ap, subst, ◌∙◌, All}
+use Rattle.std.proofs.Common.{◌≡◌, ℕ, ◌==◌, Bool, true, false, cond, List, [], ◌∷◌, ◌++◌, fold, filter, Option, Some, None, option_map}
+use Rattle.std.proofs.Common.{refl, sym, ap, subst, ◌∙◌, All}
 use Rattle.std.specs.Prelude.{◌/◌}
 use Rattle.std.specs.List.{list_any}
 use Rattle.std.specs.Option.{option_map_or}
@@ -29,13 +30,16 @@ use Rattle.sheep_node.specs.declared.event.Event.{Event}
 use Rattle.sheep_world.specs.World.{Host, World}
 use Rattle.sheep_world.specs.Began.{Began}
 use Rattle.sheep_world.specs.Effects.{open_disk_at, request_started}
-use Rattle.sheep_world.specs.EventKinds.{EventKind, NodeStep, UntoldLoss, UnreadDelivery, NodeLoss, NodeLeave, NodeReweight, NodeJoin, NodeReturn, PhaseEnd}
+use Rattle.sheep_world.specs.EventKinds.{EventKind, NodeStep, UntoldLoss, UnreadDelivery, NodeLoss, NodeLeave, NodeReweight, NodeJoin}
+use Rattle.sheep_world.specs.EventKinds.{NodeReturn, PhaseEnd}
 use Rattle.sheep_world.specs.Granted.{granted_header, disk_cloned, disk_made, granted_adds, decided_adds, entry_adds}
 use Rattle.sheep_world.specs.HistoryAdditions.{check_write_by, check_write_grown, is_lost_write, replies_grown, request_grown}
 use Rattle.sheep_world.specs.MembershipChanges.{join_of, last_weight}
-use Rattle.sheep_world.specs.NodeCauses.{NodeCause, GuestAsks, RequestComes, ReplyComes, LossIsTold, EntryIsRead, EntryIsPut, RecoveryTicks, WorkIsRetried, history_of_cause, world_after_cause}
+use Rattle.sheep_world.specs.NodeCauses.{NodeCause, GuestAsks, RequestComes, ReplyComes, LossIsTold, EntryIsRead, EntryIsPut, RecoveryTicks}
+use Rattle.sheep_world.specs.NodeCauses.{WorkIsRetried, ClientAsks, history_of_cause, world_after_cause}
 use Rattle.sheep_world.specs.Step.{EventOutcome}
-use Rattle.sheep_world.proofs.EventInversion.{happens}
+use Rattle.sheep_world.proofs.ClientReads.{goes_by_kind}
+use Rattle.sheep_world.specs.RunsWithAsks.{Move}
 use Rattle.overlap_law.specs.DiskBlocks.{HasItsBlocks, DisksHaveTheirBlocks}
 use Rattle.overlap_law.specs.DiskEvents.{begins_by_others}
 use Rattle.overlap_law.specs.Each.{spec_in}
@@ -212,6 +216,9 @@ module _ (script : List Statement) (range : RunsAreInRange script) where
     step_have n host WorkIsRetried =
         let after = world_after_cause script n host WorkIsRetried world in
         same (replies_grown script world None after) (λ vid. told_none world after vid world None)
+    step_have n host (ClientAsks req ask) =
+        let after = world_after_cause script n host (ClientAsks req ask) world in
+        same (replies_grown script world None after) (λ vid. told_none world after vid world None)
 
     kind_have : (event : Event) (made : EventOutcome) → EventKind script event world made → HaveThen history made
     kind_have event made (NodeStep h) = subst (HaveThen history) h.made_so (step_have h.n h.host h.cause)
@@ -239,9 +246,9 @@ module _ (script : List Statement) (range : RunsAreInRange script) where
   events_have : KeptByEvents script HaveAt
   unfolding past_after_event
   events_have event before made began is all =
-      kind_have before.world began before.past.history all event made (happens script event before.world made is)
+      kind_have before.world began before.past.history all event made (goes_by_kind script event before.world made is)
 
-  pub blocks-in_run : (events : List Event) (moment : MomentWithPast) → run_with_past script events ≡ Some moment
+  pub blocks-in_run : (events : List Move) (moment : MomentWithPast) → run_with_past script events ≡ Some moment
       → DisksHaveTheirBlocks moment.world.log moment.past.history
   blocks-in_run events moment is vid disk there =
       run-kept_by_events script HaveAt opens_have events_have events moment is vid disk.blocks (ap blocks_in there)

@@ -1,6 +1,7 @@
 -- Where a create of each object comes before its writes, the first attempt on an object is a create: so none is of an epoch before that in
 -- which the object was born. And a create that stands among the attempts stands there still after a change of a moment.
-use Rattle.std.proofs.Common.{◌≡◌, ◌⊎◌, inl, inr, ⊎_elim, arith, ℕ, zero, suc, ◌==◌, ◌≤◌, ◌<◌, Bool, true, false, cond, List, [], ◌∷◌, ◌++◌, filter, map, Some, option_map, slice_get, find, refl, sym, ap, ◌∙◌}
+use Rattle.std.proofs.Common.{◌≡◌, ◌⊎◌, inl, inr, ⊎_elim, arith, ℕ, zero, suc, ◌==◌, ◌≤◌, ◌<◌, Bool, true, false, cond, List, [], ◌∷◌, ◌++◌}
+use Rattle.std.proofs.Common.{filter, map, Some, option_map, slice_get, find, refl, sym, ap, ◌∙◌}
 use Rattle.std.proofs.lemmas.Bool.{cases_lt, eqb-true, eq-eqb, or_left, or_right}
 use Rattle.std.proofs.lemmas.Option.{same_Some}
 use Rattle.object_id.specs.declared.node.NodeId.{NodeId}
@@ -8,7 +9,8 @@ use Rattle.cluster_script.specs.declared.statement.Statement.{Statement}
 use Rattle.message_wire.specs.declared.packet.Packet.{Packet}
 use Rattle.message_wire.specs.declared.packet.Packet.TheVariants.{Request, Reply}
 use Rattle.sheep_world.specs.Began.{Began}
-use Rattle.overlap_law.specs.Attempts.{AttemptRecord, MessageFate, Doomed, attempt_with_fate, attempts_with_fate, fate_of_say, object_of, attempts_on}
+use Rattle.overlap_law.specs.Attempts.{AttemptRecord, MessageFate, Doomed, attempt_with_fate, attempts_with_fate, fate_of_say, object_of}
+use Rattle.overlap_law.specs.Attempts.{attempts_on}
 use Rattle.overlap_law.specs.Each.{EachAttempt}
 use Rattle.overlap_law.specs.Fates.{AttemptsAreOrdered, CreatesComeFirst}
 use Rattle.overlap_law.specs.HeldLevels.{NoneIsBeforeBirth}
@@ -19,7 +21,8 @@ use Rattle.overlap_law.specs.Packets.{Wire}
 use Rattle.overlap_law.specs.Past.{MomentWithPast}
 use Rattle.overlap_law.specs.Reached.{Hosts}
 use Rattle.overlap_law.specs.StepMoments.{attempts_with_loss}
-use Rattle.overlap_law.specs.Traffic.{Traffic, NothingMoves, MessageIsLost, ReplyIsReceived, RequestIsAnswered, RequestsAreSent, AttemptBegins, RepliesGo}
+use Rattle.overlap_law.specs.Traffic.{Traffic, NothingMoves, MessageIsLost, ReplyIsReceived, RequestIsAnswered, RequestsAreSent}
+use Rattle.overlap_law.specs.Traffic.{AttemptBegins, RepliesGo}
 use Rattle.overlap_law.specs.Words.{is_made}
 use Rattle.overlap_law.proofs.AttemptLists.{fates_told, got_still, map_got, marked_shape}
 use Rattle.overlap_law.proofs.AvailableTargets.{IsBornBy}
@@ -47,7 +50,8 @@ first_is oid (attempt ∷ attempts) first is k create there object creating =
     -- the create stands behind
     behind : (k : ℕ) → slice_get (attempt ∷ attempts) k ≡ Some create → (object_of attempt == oid) ≡ false ⊎ (creates attempt ≡ false)
         → find creates (attempts_on oid attempts) ≡ Some first
-        → (find creates (attempts_on oid attempts) ≡ Some first → (j : ℕ) → slice_get attempts j ≡ Some create → IsFirst attempts oid j first)
+        → (find creates (attempts_on oid attempts) ≡ Some first → (j : ℕ) → slice_get attempts j ≡ Some create
+        → IsFirst attempts oid j first)
         → IsFirst (attempt ∷ attempts) oid k first
     behind zero there other found rest =
         let same : attempt ≡ create = same_Some attempt create there in
@@ -69,11 +73,13 @@ first_is oid (attempt ∷ attempts) first is k create there object creating =
     by_tests : (b c : Bool) → (object_of attempt == oid) ≡ b → creates attempt ≡ c
         → find creates (cond b (attempt ∷ attempts_on oid attempts) (attempts_on oid attempts)) ≡ Some first → (k : ℕ)
         → slice_get (attempt ∷ attempts) k ≡ Some create
-        → (find creates (attempts_on oid attempts) ≡ Some first → (j : ℕ) → slice_get attempts j ≡ Some create → IsFirst attempts oid j first)
+        → (find creates (attempts_on oid attempts) ≡ Some first → (j : ℕ) → slice_get attempts j ≡ Some create
+        → IsFirst attempts oid j first)
         → IsFirst (attempt ∷ attempts) oid k first
     by_tests true true own makes found k there rest =
         let same : attempt ≡ first
-        = same_Some attempt first (sym (ap (λ (b : Bool). cond b (Some attempt) (find creates (attempts_on oid attempts))) makes) ∙ found) in
+        = same_Some attempt first (sym (ap (λ (b : Bool). cond b (Some attempt) (find creates (attempts_on oid attempts))) makes)
+        ∙ found) in
         record {
           place = zero;
           there = ap (λ (a : AttemptRecord). Some a) same;
@@ -81,7 +87,8 @@ first_is oid (attempt ∷ attempts) first is k create there object creating =
           least = omega arith;
         }
     by_tests true false own writes found k there rest =
-        behind k there (inr writes) (sym (ap (λ (b : Bool). cond b (Some attempt) (find creates (attempts_on oid attempts))) writes) ∙ found) rest
+        behind k there (inr writes) (sym (ap (λ (b : Bool). cond b (Some attempt) (find creates (attempts_on oid attempts))) writes)
+        ∙ found) rest
     by_tests false c apart makes found k there rest = behind k there (inl apart) found rest
 
 -- where some attempt creates an object there is a first one
@@ -104,7 +111,8 @@ some_first oid (attempt ∷ attempts) k create there object creating =
         other
     behind (suc j) there other rest = rest j there
 
-    by_tests : (b c : Bool) → (object_of attempt == oid) ≡ b → creates attempt ≡ c → (k : ℕ) → slice_get (attempt ∷ attempts) k ≡ Some create
+    by_tests : (b c : Bool) → (object_of attempt == oid) ≡ b → creates attempt ≡ c → (k : ℕ)
+        → slice_get (attempt ∷ attempts) k ≡ Some create
         → ((j : ℕ) → slice_get attempts j ≡ Some create → (first : AttemptRecord) × (first_create oid attempts ≡ Some first))
         → (first : AttemptRecord) × (find creates (cond b (attempt ∷ attempts_on oid attempts) (attempts_on oid attempts)) ≡ Some first)
     by_tests true true own makes k there rest =
@@ -115,7 +123,8 @@ some_first oid (attempt ∷ attempts) k create there object creating =
     by_tests false c apart makes k there rest = behind k there (inl apart) rest
 
 -- who has a first create was born
-pub first_born : (oid : ℕ) (attempts : List AttemptRecord) (first : AttemptRecord) → first_create oid attempts ≡ Some first → IsBorn attempts oid
+pub first_born : (oid : ℕ) (attempts : List AttemptRecord) (first : AttemptRecord) → first_create oid attempts ≡ Some first
+    → IsBorn attempts oid
 first_born oid [] first is = absurd (cc (is))
 first_born oid (attempt ∷ attempts) first is =
     by_tests (creates attempt) (object_of attempt == oid) refl refl is (λ later. first_born oid attempts first later)
@@ -245,7 +254,8 @@ marked told sender number attempts j was there = record {
 }
 
 traffic_made : (hosts hosts_after : Hosts) (wire later : Wire) (attempts after : List AttemptRecord)
-    → Traffic hosts hosts_after wire attempts later after → (j : ℕ) (was : AttemptRecord) → slice_get attempts j ≡ Some was → StaysMade after j was
+    → Traffic hosts hosts_after wire attempts later after → (j : ℕ) (was : AttemptRecord) → slice_get attempts j ≡ Some was
+    → StaysMade after j was
 traffic_made hosts hosts_after wire later attempts after NothingMoves j was there = unmarked attempts j was there
 traffic_made hosts hosts_after wire later attempts after (MessageIsLost name packet lost) j was there = by_packet packet
   where

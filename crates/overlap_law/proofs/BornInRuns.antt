@@ -1,5 +1,6 @@
 -- In every run in range what nodes have, know of and tell is of objects that were born.
-use Rattle.std.proofs.Common.{◌≡◌, ◌≢◌, ⊎_elim, ℕ, true, List, [], ◌∷◌, All, Contains, Option, Some, None, Ok, unwrap_or, slice_get, option_map, refl, sym, ap, subst, ◌∙◌}
+use Rattle.std.proofs.Common.{◌≡◌, ◌≢◌, ⊎_elim, ℕ, true, List, [], ◌∷◌, All, Contains, Option, Some, None, Ok, unwrap_or, slice_get, refl}
+use Rattle.std.proofs.Common.{sym, ap, subst, ◌∙◌}
 use Rattle.std.specs.FinMap as tree
 use Rattle.std.proofs.lemmas.List.Elements.{All-nil, All-cons, All-contains}
 use Rattle.proof_tools.proofs.FiniteMaps.{get-insert_cases, keys-contain}
@@ -24,13 +25,16 @@ use Rattle.sheep_world.specs.World.{Host, World, is_host_up}
 use Rattle.sheep_world.specs.Opening.{format_entry, initial_world}
 use Rattle.sheep_world.specs.MembershipChanges.{lost_host}
 use Rattle.sheep_world.specs.Step.{EventOutcome}
-use Rattle.sheep_world.specs.NodeCauses.{NodeCause, GuestAsks, RequestComes, ReplyComes, LossIsTold, EntryIsRead, EntryIsPut, RecoveryTicks, WorkIsRetried, input_of_cause, IsCause}
-use Rattle.sheep_world.specs.EventKinds.{log_after_return, EventKind, NodeStep, UntoldLoss, UnreadDelivery, NodeLoss, NodeLeave, NodeReweight, NodeJoin, NodeReturn, PhaseEnd}
+use Rattle.sheep_world.specs.NodeCauses.{NodeCause, GuestAsks, RequestComes, ReplyComes, LossIsTold, EntryIsRead, EntryIsPut, RecoveryTicks}
+use Rattle.sheep_world.specs.NodeCauses.{WorkIsRetried, ClientAsks, input_of_cause, IsCause}
+use Rattle.sheep_world.specs.EventKinds.{log_after_return, EventKind, NodeStep, UntoldLoss, UnreadDelivery, NodeLoss, NodeLeave}
+use Rattle.sheep_world.specs.EventKinds.{NodeReweight, NodeJoin, NodeReturn, PhaseEnd}
 use Rattle.sheep_world.specs.HostChanges.{host_after_step, host_after_return, joined_host}
 use Rattle.sheep_world.specs.Began.{Began}
-use Rattle.sheep_world.proofs.EventInversion.{happens}
+use Rattle.sheep_world.proofs.ClientReads.{goes_by_kind}
 use Rattle.sheep_world.proofs.WireAtOpening.{opening_found}
 use Rattle.sheep_world.proofs.ValidNodes.{got_is}
+use Rattle.sheep_world.specs.RunsWithAsks.{Move}
 use Rattle.overlap_law.specs.BornObjects.{IsBorn, ObjectsWereBorn}
 use Rattle.overlap_law.specs.Past.{MomentWithPast, moment_after, first_moment, run_with_past}
 use Rattle.overlap_law.specs.MomentChanges.{RunsAreInRange}
@@ -43,6 +47,7 @@ use Rattle.overlap_law.proofs.ObjectsOfRows.{AskWithin, IsRowAskWithin, IsAskedW
 use Rattle.overlap_law.proofs.ObjectsOfSteps.{stepped_has, none_had, BringsWithin}
 use Rattle.overlap_law.proofs.RunsByChanges.{event_kept}
 use Rattle.overlap_law.proofs.RunsByEvents.{KeptByEvents, run-kept_by_events}
+use Rattle.overlap_law.proofs.GoingOn.{next_by}
 
 -- a reply names such objects alone
 abbrev ReplyWithin : (ℕ → Type 0) → Packet → Type 0
@@ -70,6 +75,7 @@ module _ (script : List Statement) (range : RunsAreInRange script) where
     brings n host there (EntryIsPut entry) caused = tt
     brings n host there RecoveryTicks caused = tt
     brings n host there WorkIsRetried caused = tt
+    brings n host there (ClientAsks req ask) caused = tt
 
     with_host : (n : ℕ) (new : Host) → HasWithin K new.node → (m : ℕ) (now : Host) → tree.get (tree.insert world.hosts n new) m ≡ Some now
         → HasWithin K now.node
@@ -96,6 +102,7 @@ module _ (script : List Statement) (range : RunsAreInRange script) where
     replies_by n host there up (EntryIsPut entry) caused = tt
     replies_by n host there up RecoveryTicks caused = tt
     replies_by n host there up WorkIsRetried caused = tt
+    replies_by n host there up (ClientAsks req ask) caused = tt
 
     -- requests are asked of nobody here
     sends_so : (sends : List (NodeId × PeerReq)) → All (λ (send : NodeId × PeerReq). Unit {0}) sends
@@ -173,16 +180,17 @@ module _ (script : List Statement) (range : RunsAreInRange script) where
   events_born : KeptByEvents script HoldsOfBorn
   events_born event before made began is holds =
       let after = moment_after script event before made in
-      let next = ap (option_map (moment_after script event before)) is in
-      let more = born_stays script range before began (event_trail script event before after next) in
+      let next = next_by script event before made is in
+      let more = born_stays script range before began (event_trail script is.move before after next) in
       record {
-        makers = event_kept script HasMakersOfAttempts (kept_makers script range) event before after began next holds.makers;
+        makers = event_kept script HasMakersOfAttempts (kept_makers script range) is.move before after began next holds.makers;
         within = grown_within (IsBorn before.past.attempts) (IsBorn after.past.attempts) more made.world
             (within_after (IsBorn before.past.attempts) before.world began holds.within asked event made
-            (happens script event before.world made is));
+            (goes_by_kind script event before.world made is));
       }
     where
-      asked : (name : MessageName) (to : NodeId) (bytes : List ℕ) (request : PeerReq) → tree.get before.world.wire name ≡ Some (Request to bytes)
+      asked : (name : MessageName) (to : NodeId) (bytes : List ℕ) (request : PeerReq)
+          → tree.get before.world.wire name ≡ Some (Request to bytes)
           → ask_in bytes ≡ Ok request → AskWithin (IsBorn before.past.attempts) request.ask
       asked name to bytes request there read =
           born_by_a_message before.world.wire before.past.attempts holds.makers name to request
@@ -214,7 +222,7 @@ module _ (script : List Statement) (range : RunsAreInRange script) where
       by_got None got there = absurd (cc (there))
       by_got (Some found) got there = keys-contain tree.nat_cmp-IsAntisymmetric rows oid found got
 
-  pub born-in_run : (events : List Event) (moment : MomentWithPast) → run_with_past script events ≡ Some moment
+  pub born-in_run : (events : List Move) (moment : MomentWithPast) → run_with_past script events ≡ Some moment
       → ObjectsWereBorn moment.world.hosts moment.world.wire moment.past.attempts
   born-in_run events moment is = record {
     rows = λ n host there oid i row at.

@@ -1,5 +1,6 @@
 -- What was born stays so, over each change of a moment and over each event.
-use Rattle.std.proofs.Common.{◌≡◌, ℕ, zero, suc, ◌==◌, Bool, true, false, cond, List, [], ◌∷◌, ◌++◌, map, filter, Some, slice_get, refl, sym, ap, subst, ◌∙◌}
+use Rattle.std.proofs.Common.{◌≡◌, ℕ, zero, suc, ◌==◌, Bool, true, false, cond, List, [], ◌∷◌, ◌++◌, map, filter, Some, slice_get, refl}
+use Rattle.std.proofs.Common.{sym, ap, subst, ◌∙◌}
 use Rattle.std.proofs.lemmas.Bool.{or_left, or_right, eq-eqb}
 use Rattle.std.proofs.lemmas.List.Folds.{list_any-append}
 use Rattle.std.proofs.lemmas.Option.{same_Some}
@@ -27,7 +28,8 @@ use Rattle.overlap_law.specs.Packets.{Wire, IsAsking}
 use Rattle.overlap_law.specs.Past.{MomentWithPast}
 use Rattle.overlap_law.specs.StepMoments.{attempts_with_loss}
 use Rattle.overlap_law.specs.MomentChanges.{MomentTrail, Still, Then, RunsAreInRange}
-use Rattle.overlap_law.specs.Traffic.{Traffic, NothingMoves, MessageIsLost, ReplyIsReceived, RequestIsAnswered, RequestsAreSent, AttemptBegins, RepliesGo, asks_making, MakersAreOfAttempts}
+use Rattle.overlap_law.specs.Traffic.{Traffic, NothingMoves, MessageIsLost, ReplyIsReceived, RequestIsAnswered, RequestsAreSent}
+use Rattle.overlap_law.specs.Traffic.{AttemptBegins, RepliesGo, asks_making, MakersAreOfAttempts}
 use Rattle.overlap_law.proofs.AttemptLists.{marked_shape}
 use Rattle.overlap_law.proofs.ObjectsOfRows.{AskWithin}
 use Rattle.overlap_law.proofs.TrafficOfChanges.{traffic}
@@ -37,10 +39,12 @@ use Rattle.overlap_law.proofs.TrafficOfChanges.{traffic}
 abbrev born_in : Bool → ℕ → List ℕ → List ℕ
 born_in b oid later = cond b (oid ∷ later) later
 
-born_first : (attempt : AttemptRecord) (attempts : List AttemptRecord) → born_objects (attempt ∷ attempts) ≡ born_in (creates attempt) (object_of attempt) (born_objects attempts)
+born_first : (attempt : AttemptRecord) (attempts : List AttemptRecord)
+    → born_objects (attempt ∷ attempts) ≡ born_in (creates attempt) (object_of attempt) (born_objects attempts)
 born_first attempt attempts = by_test (creates attempt)
   where
-    by_test : (b : Bool) → map object_of (cond b (attempt ∷ filter creates attempts) (filter creates attempts)) ≡ born_in b (object_of attempt) (born_objects attempts)
+    by_test : (b : Bool) → map object_of (cond b (attempt ∷ filter creates attempts) (filter creates attempts))
+        ≡ born_in b (object_of attempt) (born_objects attempts)
     by_test true = refl
     by_test false = refl
 
@@ -59,11 +63,13 @@ born-marked : (told : MessageFate) (sender : NodeId) (number : ℕ) (attempts : 
 unfolding attempts_with_fate
 born-marked told sender number attempts = born-told told sender number attempts
 
-born-lost : (name : MessageName) (packet : Packet) (attempts : List AttemptRecord) → born_objects (attempts_with_loss name packet attempts) ≡ born_objects attempts
+born-lost : (name : MessageName) (packet : Packet) (attempts : List AttemptRecord)
+    → born_objects (attempts_with_loss name packet attempts) ≡ born_objects attempts
 born-lost name (Request to bytes) attempts = born-marked Doomed name.sender name.number attempts
 born-lost name (Reply from bytes) attempts = refl
 
-born-more : (attempts : List AttemptRecord) (new : AttemptRecord) → born_objects (attempts ++ new ∷ []) ≡ born_objects attempts ++ born_in (creates new) (object_of new) []
+born-more : (attempts : List AttemptRecord) (new : AttemptRecord)
+    → born_objects (attempts ++ new ∷ []) ≡ born_objects attempts ++ born_in (creates new) (object_of new) []
 born-more [] new = born_first new []
 born-more (attempt ∷ attempts) new =
     born_first attempt (attempts ++ new ∷ [])
@@ -78,7 +84,8 @@ born-more (attempt ∷ attempts) new =
 
 -- ---- each change
 
-same_born : (attempts after : List AttemptRecord) → born_objects after ≡ born_objects attempts → (oid : ℕ) → IsBorn attempts oid → IsBorn after oid
+same_born : (attempts after : List AttemptRecord) → born_objects after ≡ born_objects attempts → (oid : ℕ) → IsBorn attempts oid
+    → IsBorn after oid
 same_born attempts after same oid born = ap (is_object_among oid) same ∙ born
 
 traffic_born : (hosts hosts_after : Hosts) (wire : Wire) (attempts : List AttemptRecord) {later : Wire} {after : List AttemptRecord}
@@ -98,7 +105,8 @@ traffic_born hosts hosts_after wire attempts (AttemptBegins n sends new begun) o
 traffic_born hosts hosts_after wire attempts (RepliesGo n) oid born = born
 
 module _ (script : List Statement) (range : RunsAreInRange script) where
-  pub born_stays : (start : MomentWithPast) → Began script start.world → {moment : MomentWithPast} → MomentTrail script start moment → (oid : ℕ)
+  pub born_stays : (start : MomentWithPast) → Began script start.world → {moment : MomentWithPast} → MomentTrail script start moment
+      → (oid : ℕ)
       → IsBorn start.past.attempts oid → IsBorn moment.past.attempts oid
   born_stays start began Still oid born = born
   born_stays start began (Then {moment} {next} trail change) oid born =
@@ -108,7 +116,8 @@ module _ (script : List Statement) (range : RunsAreInRange script) where
 -- ---- what is asked to be created was born
 
 -- an attempt that creates the object
-pub born_among : (attempts : List AttemptRecord) (j : ℕ) (attempt : AttemptRecord) → slice_get attempts j ≡ Some attempt → creates attempt ≡ true
+pub born_among : (attempts : List AttemptRecord) (j : ℕ) (attempt : AttemptRecord) → slice_get attempts j ≡ Some attempt
+    → creates attempt ≡ true
     → IsBorn attempts (object_of attempt)
 born_among [] j attempt there is = absurd (cc (there))
 born_among (first ∷ later) zero attempt there is =
@@ -128,7 +137,8 @@ born_among (first ∷ later) (suc j) attempt there is =
     behind false born = born
 
 -- a work that asks for a create creates that object
-created_by : (work : ObjWork) (index : ℕ) (key : Key) (size offset : ℕ) (bytes : List ℕ) → ask_for work index ≡ asks.Create key size offset bytes
+created_by : (work : ObjWork) (index : ℕ) (key : Key) (size offset : ℕ) (bytes : List ℕ)
+    → ask_for work index ≡ asks.Create key size offset bytes
     → (is_create_work work ≡ true) × (oid_of work ≡ key.oid)
 created_by (works.Create oid policy size offset bytes) index key other at piece same = (refl, cc (same))
 created_by (works.Write oid policy offset bytes) index key size at piece same = absurd (cc (same))
@@ -136,7 +146,8 @@ created_by (works.Read oid policy offset size) index key other at piece same = a
 created_by (works.ReadAll oid policy size) index key other at piece same = absurd (cc (same))
 
 -- each request to create in the wire is of an attempt, so its object was born
-pub born_by_a_message : (wire : Wire) (attempts : List AttemptRecord) → MakersAreOfAttempts wire attempts → (name : MessageName) (to : NodeId)
+pub born_by_a_message : (wire : Wire) (attempts : List AttemptRecord) → MakersAreOfAttempts wire attempts
+    → (name : MessageName) (to : NodeId)
     (request : PeerReq) → IsAsking wire name to request → (ask : PeerAsk) → request.ask ≡ ask → AskWithin (IsBorn attempts) ask
 born_by_a_message wire attempts makers name to request asking (asks.Create key size offset bytes) same =
     let (j, attempt, there, message) = makers.each name to request asking (ap asks_making same) in

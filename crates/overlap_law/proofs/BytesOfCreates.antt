@@ -88,7 +88,8 @@ module _ (payload : List ℕ) (piece : Piece) (unit : ℕ) (among : IsPieceAmong
   of_hole inode is kind =
       let full : length (zeros (object_bytes inode)) ≡ object_bytes inode = length-replicate (object_bytes inode) 0 in
       let within = is.1 in (
-        covers_own (object_number inode.vid piece.index) (object_bytes inode) piece.offset inode.spec.policy (piece_bytes payload piece) kind
+        covers_own (object_number inode.vid piece.index) (object_bytes inode) piece.offset inode.spec.policy (piece_bytes payload piece)
+            kind
             within,
         ap (λ (k : Kind). unit_bytes k unit (laid_over (zeros (object_bytes inode)) piece.offset (piece_bytes payload piece))) kind
             ∙ laid_block (zeros (object_bytes inode)) (omega (arith, full, within)),

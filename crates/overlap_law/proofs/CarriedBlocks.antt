@@ -6,7 +6,6 @@ use Rattle.disk_history.specs.Ledger.{Disk, Ledger}
 use Rattle.vdi_directory.specs.declared.effect.Effect.{Effect}
 use Rattle.vdi_directory.specs.Decisions.{log_effects}
 use Rattle.cluster_script.specs.declared.statement.Statement.{Statement}
-use Rattle.sheep_node.specs.declared.event.Event.{Event}
 use Rattle.overlap_law.specs.Headline.{ledger_of}
 use Rattle.overlap_law.specs.KeptHistory.{KeepsHistory}
 use Rattle.overlap_law.specs.MomentChanges.{MomentTrail, MomentChange, RunsAreInRange, Still, Then}
@@ -32,13 +31,14 @@ use Rattle.overlap_law.proofs.RunsByChanges.{on_the_way}
 use Rattle.overlap_law.proofs.TiedInRuns.{kept_tied}
 use Rattle.overlap_law.proofs.WholeInRuns.{whole-on_the_way}
 use Rattle.overlap_law.proofs.WorksToStay.{works_to_stay}
+use Rattle.sheep_world.specs.RunsWithAsks.{Move}
 
 abbrev pub HasBlocks : (ℕ → Bool) → MomentWithPast → Type 0
 HasBlocks good_id moment = BlocksStayWritten (ledger_of moment.past.history) (log_effects moment.world.log) good_id moment.world.hosts
     moment.past.attempts
 
 -- a change that keeps the history keeps it
-pub history_keeps : (script : List Statement) → RunsAreInRange script → (events : List Event) (start before after : MomentWithPast)
+pub history_keeps : (script : List Statement) → RunsAreInRange script → (events : List Move) (start before after : MomentWithPast)
     → run_with_past script events ≡ Some start → MomentTrail script start before → MomentChange script start before after
     → (live good_id : ℕ → Bool) → KeepsHistory script good_id start before after
     → InodesAreLive (log_effects after.world.log) live good_id
@@ -92,7 +92,7 @@ blocks_open script = record {
 }
 
 -- at the end of an event they are written so
-pub blocks_written : (script : List Statement) → RunsAreInRange script → (events : List Event) (moment : MomentWithPast)
+pub blocks_written : (script : List Statement) → RunsAreInRange script → (events : List Move) (moment : MomentWithPast)
     → run_with_past script events ≡ Some moment → HasBlocks (good_id_at moment) moment
     → BlocksAreWritten (ledger_of moment.past.history) (log_effects moment.world.log) (good_id_at moment) moment.world.hosts
     moment.past.attempts

@@ -1,6 +1,7 @@
 -- Each change of a moment on the way of an event carries the attempts on: as many targets as a read needs are members of each later epoch,
 -- where the newest has as many of each epoch that counts.
-use Rattle.std.proofs.Common.{◌≡◌, ◌⊎◌, inl, inr, ⊎_elim, arith, ℕ, suc, ◌≤◌, ◌<◌, Bool, true, false, cond, List, [], ◌∷◌, length, min, filter, map, Some, refl, sym, ap, subst, ◌∙◌, slice_get}
+use Rattle.std.proofs.Common.{◌≡◌, ◌⊎◌, inl, inr, ⊎_elim, arith, ℕ, suc, ◌≤◌, ◌<◌, Bool, true, false, cond, List, [], ◌∷◌, length, min}
+use Rattle.std.proofs.Common.{filter, map, Some, refl, sym, ap, subst, ◌∙◌, slice_get}
 use Rattle.std.proofs.lemmas.Bool.{cases_lt, eqb-true, eq-eqb, or_cases, or_left, or_right, or_parts}
 use Rattle.std.proofs.lemmas.Option.{same_Some}
 use Rattle.object_id.specs.declared.node.NodeId.{NodeId}
@@ -18,9 +19,9 @@ use Rattle.object_list.specs.Gathered.{is_same_node, has_node}
 use Rattle.vdi_directory.specs.Decisions.{log_effects}
 use Rattle.peer_proto.specs.Work.{policy_of}
 use Rattle.gateway.specs.declared.message.Message.{Message}
-use Rattle.sheep_node.specs.declared.event.Event.{Event}
 use Rattle.sheep_node.specs.Changes.{attempt_in}
 use Rattle.sheep_world.specs.Began.{Began}
+use Rattle.sheep_world.specs.RunsWithAsks.{Move}
 use Rattle.overlap_law.specs.Attempts.{Flying, AttemptRecord, object_of}
 use Rattle.overlap_law.specs.Words.{is_in_vain, is_one_in_vain, is_doomed}
 use Rattle.overlap_law.specs.Reached.{Hosts, is_beyond, has_finished, is_dying}
@@ -80,7 +81,8 @@ none_beyond hosts epoch (message ∷ messages) stands target among =
     (or_cases (is_same_node target message.node) (has_node target (map (λ (m : Message). m.node) messages)) among)
 
 -- no more are targets than are wanted
-pub targets_few : (log : List Entry) (epoch oid : ℕ) (policy : Policy) → length (targets_by log epoch oid policy) ≤ wanted_of policy (kind_of oid)
+pub targets_few : (log : List Entry) (epoch oid : ℕ) (policy : Policy)
+    → length (targets_by log epoch oid policy) ≤ wanted_of policy (kind_of oid)
 unfolding targets_by
 targets_few log epoch oid policy =
     let all : length (targets_of (members_in log epoch) (hash_of_object oid) (wanted_of policy (kind_of oid)))
@@ -170,12 +172,14 @@ module _ (script : List Statement) (range : RunsAreInRange script) (start before
       → IsCarriedFrom (targets_by after.world.log) after.world.log epoch oid policy
   carried_whole oid epoch policy enough all later from most =
       let targets : List NodeId = targets_by after.world.log epoch oid policy in
-      let fewer = filter_fewer (λ (node : NodeId). is_member node.0 (members_in after.world.log newest)) (targets_by after.world.log epoch oid policy) in
+      let fewer = filter_fewer (λ (node : NodeId). is_member node.0 (members_in after.world.log newest))
+      (targets_by after.world.log epoch oid policy) in
       let whole : length (filter (λ (node : NodeId). is_member node.0 (members_in after.world.log later)) targets) ≡ length targets
-      = filter_all (λ (node : NodeId). is_member node.0 (members_in after.world.log later)) targets (λ node among. all later node from most among) in
+      = filter_all (λ (node : NodeId). is_member node.0 (members_in after.world.log later)) targets
+      (λ node among. all later node from most among) in
       subst (λ (count : ℕ). need_of policy (kind_of oid) ≤ count) (sym whole)
-      (no_more_needed (need_of policy (kind_of oid)) (common_now oid epoch newest policy) (length (targets_by after.world.log epoch oid policy))
-      enough fewer)
+      (no_more_needed (need_of policy (kind_of oid)) (common_now oid epoch newest policy)
+      (length (targets_by after.world.log epoch oid policy)) enough fewer)
 
   -- ---- one attempt
 
@@ -244,8 +248,8 @@ module _ (script : List Statement) (range : RunsAreInRange script) (start before
           let grown = settled_grows in
           let same = was_epoch in
           carried_on (object_of w.was) epoch policy old
-          (carried.later j w.was w.at policy epoch was_good was_policy was_stands (omega (arith, grown, settled)) (omega (arith, same, above)) old
-          (was_living old)) least)
+          (carried.later j w.was w.at policy epoch was_good was_policy was_stands (omega (arith, grown, settled))
+          (omega (arith, same, above)) old (was_living old)) least)
           (λ (is : epoch ≡ epoch_of after.world.log). carried_at_newest (object_of w.was) epoch policy is least)
           (old_or_newest epoch within))
         where
@@ -269,7 +273,8 @@ module _ (script : List Statement) (range : RunsAreInRange script) (start before
 
       within : (target : NodeId) → has_node target now.targets ≡ true → is_beyond after.world.hosts now.epoch target ≡ false
       within target among =
-          let targets_so : map (λ (message : Message). message.node) messages ≡ now.targets = ap (λ (a : AttemptRecord). a.targets) o.opened in
+          let targets_so : map (λ (message : Message). message.node) messages
+          ≡ now.targets = ap (λ (a : AttemptRecord). a.targets) o.opened in
           let fates_so : map (λ (message : Message). Flying) messages ≡ now.fates = ap (λ (a : AttemptRecord). a.fates) o.opened in
           none_beyond after.world.hosts now.epoch messages
           ((λ i. is_one_in_vain after.world.hosts now.epoch (targets_so i) (fates_so i)) ∙ stands) target
@@ -348,12 +353,15 @@ module _ (script : List Statement) (range : RunsAreInRange script) (start before
       after.past.attempts
   carried_after = record { own = carried_own; later = carried_later }
 
-module _ (script : List Statement) (range : RunsAreInRange script) (events : List Event) (start before after : MomentWithPast)
-    (is : run_with_past script events ≡ Some start) (trail : MomentTrail script start before) (change : MomentChange script start before after) where
+module _ (script : List Statement) (range : RunsAreInRange script) (events : List Move) (start before after : MomentWithPast)
+    (is : run_with_past script events ≡ Some start) (trail : MomentTrail script start before)
+    (change : MomentChange script start before after) where
   pub carried-on_the_way : (good : ℕ → Bool)
       → NewestHasTargets (targets_by after.world.log) after.world.log (log_effects after.world.log) good after.past.attempts
-      → AttemptsAreCarried (targets_by before.world.log) before.world.log (log_effects before.world.log) good before.world.hosts before.past.attempts
-      → AttemptsAreCarried (targets_by after.world.log) after.world.log (log_effects after.world.log) good after.world.hosts after.past.attempts
+      → AttemptsAreCarried (targets_by before.world.log) before.world.log (log_effects before.world.log) good before.world.hosts
+      before.past.attempts
+      → AttemptsAreCarried (targets_by after.world.log) after.world.log (log_effects after.world.log) good after.world.hosts
+      after.past.attempts
   carried-on_the_way good has_targets carried =
       carried_after script range start before after (began-with_past script events start is) change
       (on_the_way script TermsHold (kept_terms script range) events start before is trail)

@@ -13,8 +13,8 @@ use Rattle.vdi_directory.specs.Effects.{reservation_on, reservations_of}
 use Rattle.vdi_directory.specs.States.{Unused, state_of}
 use Rattle.vdi_directory.proofs.ChainLemmas.{is_parent_or_above}
 use Rattle.vdi_directory.proofs.LineLemmas.{above-line, line-log_effects}
-use Rattle.sheep_node.specs.declared.event.Event.{Event}
 use Rattle.sheep_world.specs.Opening.{initial_world}
+use Rattle.sheep_world.specs.RunsWithAsks.{Move}
 use Rattle.overlap_law.specs.Drafts.{IsReservedEntry}
 use Rattle.overlap_law.specs.HistoryStands.{CallsAvailable}
 use Rattle.overlap_law.specs.MomentChanges.{MomentTrail, TrailLeft, RunsAreInRange}
@@ -101,17 +101,17 @@ module _ (script : List Statement) (range : RunsAreInRange script) where
         (snapshots_frozen before.world.log good_id before.world.hosts before.past.attempts inodes.frozen) drafts;
   }
 
-  pub drafts-in_run : (events : List Event) (moment : MomentWithPast) → run_with_past script events ≡ Some moment
+  pub drafts-in_run : (events : List Move) (moment : MomentWithPast) → run_with_past script events ≡ Some moment
       → HasDrafts (good_id_at moment) moment
   drafts-in_run = by_tests-in_run script HasDrafts kept
 
   -- by each test that serves, at each moment on the way of an event
-  pub drafts-by_tests : (events : List Event) (event : Event) (start end : MomentWithPast) → run_with_past script events ≡ Some start
+  pub drafts-by_tests : (events : List Move) (event : Move) (start end : MomentWithPast) → run_with_past script events ≡ Some start
       → next_moment script event start ≡ Some end → (good_id : ℕ → Bool) → {moment : MomentWithPast} → MomentTrail script start moment
       → TrailLeft script start moment end → CallsAvailable start moment good_id → HasDrafts good_id moment
   drafts-by_tests = by_tests-on_the_way script HasDrafts kept
 
-  pub drafts-on_the_way : (events : List Event) (event : Event) (start end : MomentWithPast) → run_with_past script events ≡ Some start
+  pub drafts-on_the_way : (events : List Move) (event : Move) (start end : MomentWithPast) → run_with_past script events ≡ Some start
       → next_moment script event start ≡ Some end → {moment : MomentWithPast} → MomentTrail script start moment
       → TrailLeft script start moment end → HasDrafts (good_id_at end) moment
   drafts-on_the_way events event start end run happens trail left =

@@ -5,7 +5,6 @@ use Rattle.std.proofs.Common.{◌≡◌, ℕ, Bool, true, List, Some, slice_get,
 use Rattle.object_id.specs.Oid.{IsVid}
 use Rattle.vdi_directory.specs.Decisions.{log_effects}
 use Rattle.cluster_script.specs.declared.statement.Statement.{Statement}
-use Rattle.sheep_node.specs.declared.event.Event.{Event}
 use Rattle.overlap_law.specs.GoodInodes.{is_available_inode}
 use Rattle.overlap_law.specs.MomentChanges.{MomentTrail, TrailLeft, RunsAreInRange}
 use Rattle.overlap_law.specs.OpenedTables.{InodesStay}
@@ -19,6 +18,7 @@ use Rattle.overlap_law.proofs.OpeningOverlap.{no_request, no_session}
 use Rattle.overlap_law.proofs.ReadsToComeInRuns.{inode_was_there, reads_to_come-of_inodes}
 use Rattle.overlap_law.proofs.KeptToTheEnd.{good_id_at, good_inode_at, disks_were_good, inodes_were_good, IsKeptToTheEnd, OfIds, WasGood}
 use Rattle.overlap_law.proofs.KeptToTheEnd.{begins_with_fewer, to_the_end-in_run, to_the_end-on_the_way}
+use Rattle.sheep_world.specs.RunsWithAsks.{Move}
 
 abbrev pub HasInodes : (ℕ → Bool) → MomentWithPast → Type 0
 HasInodes good_id moment = InodesStay (log_effects moment.world.log) good_id moment.world.hosts moment.past.attempts
@@ -69,12 +69,12 @@ module _ (script : List Statement) (range : RunsAreInRange script) (test : Momen
         (λ vid id is. there start vid id (was event start end way.happens vid is))) stay;
   }
 
-  tested-in_run : (events : List Event) (moment : MomentWithPast) → run_with_past script events ≡ Some moment
+  tested-in_run : (events : List Move) (moment : MomentWithPast) → run_with_past script events ≡ Some moment
       → HasInodes (test moment) moment
   tested-in_run = to_the_end-in_run script (OfIds test HasInodes) kept
 
   -- by the test of the end, at each moment on the way of an event
-  tested-on_the_way : (events : List Event) (event : Event) (start end : MomentWithPast) → run_with_past script events ≡ Some start
+  tested-on_the_way : (events : List Move) (event : Move) (start end : MomentWithPast) → run_with_past script events ≡ Some start
       → next_moment script event start ≡ Some end → {moment : MomentWithPast} → MomentTrail script start moment
       → TrailLeft script start moment end → HasInodes (test end) moment
   tested-on_the_way = to_the_end-on_the_way script (OfIds test HasInodes) kept
@@ -87,21 +87,21 @@ of_inodes : OfAvailableInodes good_inode_at
 of_inodes moment vid id is = is
 
 module _ (script : List Statement) (range : RunsAreInRange script) where
-  pub inodes-in_run : (events : List Event) (moment : MomentWithPast) → run_with_past script events ≡ Some moment
+  pub inodes-in_run : (events : List Move) (moment : MomentWithPast) → run_with_past script events ≡ Some moment
       → HasInodes (good_id_at moment) moment
   inodes-in_run = tested-in_run script range good_id_at (disks_were_good script) of_disks
 
-  pub inodes-on_the_way : (events : List Event) (event : Event) (start end : MomentWithPast) → run_with_past script events ≡ Some start
+  pub inodes-on_the_way : (events : List Move) (event : Move) (start end : MomentWithPast) → run_with_past script events ≡ Some start
       → next_moment script event start ≡ Some end → {moment : MomentWithPast} → MomentTrail script start moment
       → TrailLeft script start moment end → HasInodes (good_id_at end) moment
   inodes-on_the_way = tested-on_the_way script range good_id_at (disks_were_good script) of_disks
 
   -- of inodes that were available, whatever their disks were cloned from
-  pub good_inodes-in_run : (events : List Event) (moment : MomentWithPast) → run_with_past script events ≡ Some moment
+  pub good_inodes-in_run : (events : List Move) (moment : MomentWithPast) → run_with_past script events ≡ Some moment
       → HasInodes (good_inode_at moment) moment
   good_inodes-in_run = tested-in_run script range good_inode_at (inodes_were_good script) of_inodes
 
-  pub good_inodes-on_the_way : (events : List Event) (event : Event) (start end : MomentWithPast) → run_with_past script events ≡ Some start
+  pub good_inodes-on_the_way : (events : List Move) (event : Move) (start end : MomentWithPast) → run_with_past script events ≡ Some start
       → next_moment script event start ≡ Some end → {moment : MomentWithPast} → MomentTrail script start moment
       → TrailLeft script start moment end → HasInodes (good_inode_at end) moment
   good_inodes-on_the_way = tested-on_the_way script range good_inode_at (inodes_were_good script) of_inodes

@@ -1,12 +1,11 @@
--- The rows and recoveries of good objects over events: what each change keeps of them together, by the test for good objects of the moment at
--- which the event ends, so that they hold in every run in range in which a made create comes before each write of its object.
+-- The rows and recoveries of good objects over events: what each change keeps of them together, by the test for good objects of the moment
+-- at which the event ends, so that they hold in every run in range in which a made create comes before each write of its object.
 use Rattle.std.proofs.Common.{◌≡◌, ℕ, Bool, true, false, not, List, [], ◌++◌, Some, sym, ap, ◌∙◌, append-nil, append_assoc}
 use Rattle.std.proofs.lemmas.Bool.{and_parts}
 use Rattle.object_id.specs.declared.entry.Entry.{Entry}
 use Rattle.object_id.specs.Oid.{vid_of}
 use Rattle.vdi_directory.specs.Decisions.{log_effects}
 use Rattle.cluster_script.specs.declared.statement.Statement.{Statement}
-use Rattle.sheep_node.specs.declared.event.Event.{Event}
 use Rattle.overlap_law.specs.BornObjects.{IsBorn}
 use Rattle.overlap_law.specs.Fates.{CreatesComeFirst}
 use Rattle.overlap_law.specs.Groups.{RowsAreKept, SearchesAreKept}
@@ -33,6 +32,7 @@ use Rattle.overlap_law.proofs.SinceKept.{since_kept}
 use Rattle.overlap_law.proofs.StayingRows.{alive_before, not_dead}
 use Rattle.overlap_law.proofs.ToldSinceInRuns.{told_since-on_the_way}
 use Rattle.overlap_law.proofs.KeptToTheEnd.{BeginsToTheEnd, IsKeptToTheEnd, to_the_end-in_run, to_the_end-on_the_way}
+use Rattle.sheep_world.specs.RunsWithAsks.{Move}
 
 -- what is carried of a moment, of the objects that a test calls good
 pub record CarriesRows (good : ℕ → Bool) (moment : MomentWithPast) : Type 0 where
@@ -42,7 +42,8 @@ pub record CarriesRows (good : ℕ → Bool) (moment : MomentWithPast) : Type 0 
   pub carried : AttemptsAreCarried (targets_by moment.world.log) moment.world.log (log_effects moment.world.log) good moment.world.hosts
       moment.past.attempts
   pub complete : ListsAreComplete good moment.past.listed moment.world.hosts moment.past.attempts
-  pub has : WhatIsNotPendingIsThere (targets_by moment.world.log) (log_effects moment.world.log) good moment.world.hosts moment.past.attempts
+  pub has : WhatIsNotPendingIsThere (targets_by moment.world.log) (log_effects moment.world.log) good moment.world.hosts
+      moment.past.attempts
   pub row_told_since : ToldRowsAreSince (log_effects moment.world.log) good moment.world.hosts moment.world.wire moment.past.attempts
   pub not_missing : TheMadeIsNotMissing good moment.world.hosts moment.past.attempts
 
@@ -79,7 +80,7 @@ module _ (script : List Statement) where
 module _ (script : List Statement) (range : RunsAreInRange script) where
   -- ---- the groups of rows and recoveries, of a run
 
-  module _ (events : List Event) (moment : MomentWithPast) (is : run_with_past script events ≡ Some moment)
+  module _ (events : List Move) (moment : MomentWithPast) (is : run_with_past script events ≡ Some moment)
       (carries : CarriesRows (good_at moment) moment) where
     so_far : IsKeptSoFar script moment
     so_far = kept_so_far script range events moment is
@@ -121,7 +122,7 @@ module _ (script : List Statement) (range : RunsAreInRange script) where
 
   -- ---- over an event
 
-  module _ (first : (events : List Event) (start moment : MomentWithPast) → run_with_past script events ≡ Some start
+  module _ (first : (events : List Move) (start moment : MomentWithPast) → run_with_past script events ≡ Some start
       → MomentTrail script start moment → CreatesComeFirst moment.past.attempts) where
     -- by the test of the end
     begins : BeginsToTheEnd script (λ (end moment : MomentWithPast). CarriesRows (good_at end) moment)
@@ -142,7 +143,7 @@ module _ (script : List Statement) (range : RunsAreInRange script) where
           not_missing = searches.not_missing;
         }
 
-    goes_on : (events : List Event) (event : Event) (start end before after : MomentWithPast)
+    goes_on : (events : List Move) (event : Move) (start end before after : MomentWithPast)
         → IsOnTheWay script events event start end before after → CarriesRows (good_at end) before → CarriesRows (good_at end) after
     goes_on events event start end before after way carries =
         record {
@@ -200,12 +201,12 @@ module _ (script : List Statement) (range : RunsAreInRange script) where
     kept : IsKeptToTheEnd script (λ (end moment : MomentWithPast). CarriesRows (good_at end) moment)
     kept = record { opens = opens; begins = begins; keeps = goes_on }
 
-    carried-in_run : (events : List Event) (moment : MomentWithPast) → run_with_past script events ≡ Some moment
+    carried-in_run : (events : List Move) (moment : MomentWithPast) → run_with_past script events ≡ Some moment
         → CarriesRows (good_at moment) moment
     carried-in_run = to_the_end-in_run script (λ (end moment : MomentWithPast). CarriesRows (good_at end) moment) kept
 
     -- on the way of an event rows have what they owe, by the test of the end
-    pub since-on_the_way : (events : List Event) (event : Event) (start end : MomentWithPast) → run_with_past script events ≡ Some start
+    pub since-on_the_way : (events : List Move) (event : Move) (start end : MomentWithPast) → run_with_past script events ≡ Some start
         → next_moment script event start ≡ Some end → {moment : MomentWithPast} → MomentTrail script start moment
         → TrailLeft script start moment end
         → RowsAreSince (log_effects moment.world.log) (good_at end) moment.world.hosts moment.past.attempts
@@ -213,12 +214,12 @@ module _ (script : List Statement) (range : RunsAreInRange script) where
         (to_the_end-on_the_way script (λ (last now : MomentWithPast). CarriesRows (good_at last) now) kept events event start end run
         happens trail left).since
 
-    pub rows-in_run : (events : List Event) (moment : MomentWithPast) → run_with_past script events ≡ Some moment
+    pub rows-in_run : (events : List Move) (moment : MomentWithPast) → run_with_past script events ≡ Some moment
         → RowsAreKept (targets_by moment.world.log) moment.world.log (log_effects moment.world.log) (live_at moment) (good_at moment)
         moment.world.hosts moment.past.attempts
     rows-in_run events moment is = rows_kept events moment is (carried-in_run events moment is)
 
-    pub searches-in_run : (events : List Event) (moment : MomentWithPast) → run_with_past script events ≡ Some moment
+    pub searches-in_run : (events : List Move) (moment : MomentWithPast) → run_with_past script events ≡ Some moment
         → SearchesAreKept (targets_by moment.world.log) moment.world.log (log_effects moment.world.log) (live_at moment) (good_at moment)
         moment.past.listed moment.world.hosts moment.world.wire moment.past.attempts
     searches-in_run events moment is = searches_kept events moment is (carried-in_run events moment is)

@@ -3,7 +3,6 @@
 use Rattle.std.proofs.Common.{◌≡◌, ℕ, Bool, List, Some, refl}
 use Rattle.vdi_directory.specs.Decisions.{log_effects}
 use Rattle.cluster_script.specs.declared.statement.Statement.{Statement}
-use Rattle.sheep_node.specs.declared.event.Event.{Event}
 use Rattle.overlap_law.specs.MadeTables.{TablesNameWhatIsMade}
 use Rattle.overlap_law.specs.MomentChanges.{MomentTrail, RunsAreInRange, Still}
 use Rattle.overlap_law.specs.NamedWorks.{InodesNameWhatIsMade}
@@ -15,6 +14,7 @@ use Rattle.overlap_law.proofs.MadeTables.{tables_stay_made}
 use Rattle.overlap_law.proofs.MakingInRuns.{each_object}
 use Rattle.overlap_law.proofs.NamesKept.{names_kept, names_of_fewer, names_open}
 use Rattle.overlap_law.proofs.OpeningOverlap.{no_request, no_session}
+use Rattle.sheep_world.specs.RunsWithAsks.{Move}
 pub use Rattle.overlap_law.proofs.KeptToTheEnd.{good_id_at}
 
 -- what is carried of a moment, of the ids that a test calls good
@@ -63,17 +63,17 @@ module _ (script : List Statement) (range : RunsAreInRange script) where
   }
 
   -- of each id, at each moment on the way of an event
-  pub all_tables-on_the_way : (events : List Event) (start moment : MomentWithPast) → run_with_past script events ≡ Some start
+  pub all_tables-on_the_way : (events : List Move) (start moment : MomentWithPast) → run_with_past script events ≡ Some start
       → MomentTrail script start moment → CarriesTables every_id moment
   all_tables-on_the_way = kept_on_the_way script (CarriesTables every_id) opens keeps
 
   -- of those that a test calls good
-  pub some_tables-on_the_way : (good_id : ℕ → Bool) (events : List Event) (start moment : MomentWithPast)
+  pub some_tables-on_the_way : (good_id : ℕ → Bool) (events : List Move) (start moment : MomentWithPast)
       → run_with_past script events ≡ Some start → MomentTrail script start moment → CarriesTables good_id moment
   some_tables-on_the_way good_id events start moment run trail =
       fewer_carried good_id every_id moment (λ vid good. refl) (all_tables-on_the_way events start moment run trail)
 
-  pub tables-in_run : (events : List Event) (moment : MomentWithPast) → run_with_past script events ≡ Some moment
+  pub tables-in_run : (events : List Move) (moment : MomentWithPast) → run_with_past script events ≡ Some moment
       → CarriesTables (good_id_at moment) moment
   tables-in_run events moment run = some_tables-on_the_way (good_id_at moment) events moment moment run Still
 

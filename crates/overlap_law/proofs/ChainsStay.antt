@@ -14,17 +14,21 @@ use Rattle.vdi_directory.proofs.DecisionLaws.{kept-later, grant_outcome-unused}
 module _ (elder vid : ℕ) where
   one_more : (entries : List Entry) (entry : Entry) → is_above (log_effects entries) elder vid ≡ true
       → is_above (log_effects entries ++ (outcome (log_effects entries) entry).effect ∷ []) elder vid ≡ true
-  one_more entries entry is = is_above-push (log_effects entries) elder vid (outcome (log_effects entries) entry).effect ∙ by_effect (outcome (log_effects entries) entry).effect refl
+  one_more entries entry is =
+      is_above-push (log_effects entries) elder vid (outcome (log_effects entries) entry).effect
+      ∙ by_effect (outcome (log_effects entries) entry).effect refl
     where
       used : is_used (log_effects entries) vid ≡ true
       used = (chain-used (log_effects entries) (chained entries) elder vid is).1
 
-      by_effect : (e : Effect) → (outcome (log_effects entries) entry).effect ≡ e → above_after (is_above (log_effects entries)) e elder vid ≡ true
+      by_effect : (e : Effect) → (outcome (log_effects entries) entry).effect ≡ e
+          → above_after (is_above (log_effects entries)) e elder vid ≡ true
       by_effect effects.Nothing so = is
       by_effect (effects.Reserved grant) so = by_test (grant.reservation.vid.0 == vid) refl
         where
           by_test : (b : Bool) → (grant.reservation.vid.0 == vid) ≡ b
-              → cond b (is_parent_or_above (is_above (log_effects entries)) elder grant.header.parent) (is_above (log_effects entries) elder vid) ≡ true
+              → cond b (is_parent_or_above (is_above (log_effects entries)) elder grant.header.parent)
+              (is_above (log_effects entries) elder vid) ≡ true
           by_test true same =
               let unused = (grant_outcome-unused entries entry grant so).1 in
               let there = ap (is_used (log_effects entries)) (eqb-true grant.reservation.vid.0 vid same) ∙ used in
@@ -38,7 +42,8 @@ module _ (elder vid : ℕ) where
       by_effect (effects.Withdrawn of) so = is
       by_effect (effects.Left node) so = is
 
-  pub above_stays : (log later : List Entry) → is_above (log_effects log) elder vid ≡ true → is_above (log_effects (log ++ later)) elder vid ≡ true
+  pub above_stays : (log later : List Entry) → is_above (log_effects log) elder vid ≡ true
+      → is_above (log_effects (log ++ later)) elder vid ≡ true
   above_stays log later is = kept-later (λ before. is_above before elder vid ≡ true) one_more later log is
 
 -- of a log that is the same, or has an entry more

@@ -1,5 +1,5 @@
--- What holds of a node's requests and sessions, whatever works wait in a session's line, holds after a change of the node's step, if it does
--- after a step that a request takes, once a request ends, and where a read or write comes.
+-- What holds of a node's requests and sessions, whatever works wait in a session's line, holds after a change of the node's step, if it
+-- does after a step that a request takes, once a request ends, and where a read or write comes.
 use Rattle.std.proofs.Common.{◌≡◌, ℕ, [], ◌∷◌, ◌++◌, Some, None}
 use Rattle.std.specs.FinMap as tree
 use Rattle.object_id.specs.declared.cause.Cause.TheVariants.{Halt}

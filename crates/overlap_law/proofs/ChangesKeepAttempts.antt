@@ -1,5 +1,6 @@
 -- Each change of a moment keeps the fates, what is told of them, the order of the attempts, and that open ones are the latest.
-use Rattle.std.proofs.Common.{◌≡◌, ◌≢◌, arith, ℕ, true, List, [], ◌∷◌, ◌++◌, length, option_map, Some, slice_get, ⊎_elim, sym, ap, subst, ◌∙◌}
+use Rattle.std.proofs.Common.{◌≡◌, ◌≢◌, arith, ℕ, true, List, [], ◌∷◌, ◌++◌, length, option_map, Some, slice_get, ⊎_elim, sym, ap, subst}
+use Rattle.std.proofs.Common.{◌∙◌}
 use Rattle.std.proofs.lemmas.Option.{slice_get-map, slice_get_within}
 use Rattle.object_id.specs.declared.node.NodeId.{NodeId}
 use Rattle.cluster_script.specs.declared.statement.Statement.{Statement}
@@ -23,7 +24,8 @@ use Rattle.overlap_law.specs.Sessions.{MakersAreApart}
 use Rattle.overlap_law.specs.Writers.{WorksMayWrite}
 use Rattle.overlap_law.specs.StepMoments.{attempts_with_loss}
 use Rattle.overlap_law.specs.MomentChanges.{MomentChange, RunsAreInRange}
-use Rattle.overlap_law.specs.Traffic.{IsBegunBy, BeginsInTurn, OpenAttemptsHaveMessages, Traffic, NothingMoves, MessageIsLost, ReplyIsReceived, RequestIsAnswered, RequestsAreSent, AttemptBegins, RepliesGo}
+use Rattle.overlap_law.specs.Traffic.{IsBegunBy, BeginsInTurn, OpenAttemptsHaveMessages, Traffic, NothingMoves, MessageIsLost}
+use Rattle.overlap_law.specs.Traffic.{ReplyIsReceived, RequestIsAnswered, RequestsAreSent, AttemptBegins, RepliesGo}
 use Rattle.overlap_law.proofs.AttemptLists.{got_more, got_still, got_last, got_marked, marked_shape, fates_told}
 use Rattle.overlap_law.proofs.BegunAlone.{begins_alone}
 use Rattle.overlap_law.proofs.OpenAttempts.{WasOpen}
@@ -39,13 +41,15 @@ use Rattle.overlap_law.proofs.TrafficReplies.{traffic_told}
 abbrev StillLast : List AttemptRecord → ℕ → AttemptRecord → Type 0
 StillLast after j attempt = (fates : List MessageFate) × IsLast after j (record attempt { fates = fates })
 
-last_marked : (told : MessageFate) (sender : NodeId) (number : ℕ) (attempts : List AttemptRecord) (j : ℕ) (attempt : AttemptRecord) → IsLast attempts j attempt
+last_marked : (told : MessageFate) (sender : NodeId) (number : ℕ) (attempts : List AttemptRecord) (j : ℕ) (attempt : AttemptRecord)
+    → IsLast attempts j attempt
     → StillLast (attempts_with_fate told sender number attempts) j attempt
 unfolding attempts_with_fate
 last_marked told sender number attempts j attempt last = (
   fates_told told sender number attempt,
   record {
-    there = slice_get-map (attempt_with_fate told sender number) attempts j ∙ ap (option_map (attempt_with_fate told sender number)) last.there
+    there =
+        slice_get-map (attempt_with_fate told sender number) attempts j ∙ ap (option_map (attempt_with_fate told sender number)) last.there
         ∙ ap (λ (a : AttemptRecord). Some a) (marked_shape told sender number attempt);
     last = λ k other got same.
         let (was, there, is) = got_marked told sender number attempts k other got in
@@ -53,8 +57,10 @@ last_marked told sender number attempts j attempt last = (
   },
 )
 
-still_last : (hosts hosts_after : Hosts) (wire later : Wire) (attempts after : List AttemptRecord) → Traffic hosts hosts_after wire attempts later after → (j : ℕ) (attempt : AttemptRecord) → IsLast attempts j attempt
-    → ((k : ℕ) (sends : List (NodeId × PeerReq)) (new : AttemptRecord) → IsBegunBy hosts hosts_after k sends new → object_of new ≢ object_of attempt)
+still_last : (hosts hosts_after : Hosts) (wire later : Wire) (attempts after : List AttemptRecord)
+    → Traffic hosts hosts_after wire attempts later after → (j : ℕ) (attempt : AttemptRecord) → IsLast attempts j attempt
+    → ((k : ℕ) (sends : List (NodeId × PeerReq)) (new : AttemptRecord) → IsBegunBy hosts hosts_after k sends new
+    → object_of new ≢ object_of attempt)
     → StillLast after j attempt
 still_last hosts hosts_after wire later attempts after NothingMoves j attempt last apart = (attempt.fates, last)
 still_last hosts hosts_after wire later attempts after (MessageIsLost name packet there) j attempt last apart = by_packet packet
@@ -88,8 +94,10 @@ new_last attempts new = record {
 }
 
 -- an attempt that was a work's open one still is
-same_still : (old new : Node) (req : ℕ) (work : Work) (current : gateways.Attempt) (attempt : AttemptRecord) (fates : List MessageFate) → new.me ≡ old.me
-    → (w : WasOpen old.gateway.works req work current) → IsTheSame old req w.was.work w.before attempt → IsTheSame new req work.work current (record attempt { fates = fates })
+same_still : (old new : Node) (req : ℕ) (work : Work) (current : gateways.Attempt) (attempt : AttemptRecord) (fates : List MessageFate)
+    → new.me ≡ old.me
+    → (w : WasOpen old.gateway.works req work current) → IsTheSame old req w.was.work w.before attempt
+    → IsTheSame new req work.work current (record attempt { fates = fates })
 same_still old new req work current attempt fates me w same = record {
   gateway = same.gateway ∙ sym me;
   request = same.request;
@@ -106,19 +114,24 @@ module _ (script : List Statement) (range : RunsAreInRange script) (start before
   pub keeps_fates : AttemptsAreOfIncarnations before.world.hosts before.world.wire before.past.attempts
       → FatesAreOfTheWire before.world.wire before.past.attempts → FatesAreOfTheWire after.world.wire after.past.attempts
   keeps_fates of_incarnations fates =
-      traffic_fates before.world.hosts after.world.hosts before.world.wire before.past.attempts of_incarnations (traffic script range start began change) fates
+      traffic_fates before.world.hosts after.world.hosts before.world.wire before.past.attempts of_incarnations
+      (traffic script range start began change) fates
 
-  pub keeps_told : AttemptsAreOfIncarnations before.world.hosts before.world.wire before.past.attempts → FatesAreOfTheWire before.world.wire before.past.attempts
+  pub keeps_told : AttemptsAreOfIncarnations before.world.hosts before.world.wire before.past.attempts
+      → FatesAreOfTheWire before.world.wire before.past.attempts
       → FatesAreTold before.world.wire before.past.attempts → FatesAreTold after.world.wire after.past.attempts
   keeps_told of_incarnations fates told =
-      traffic_told before.world.hosts after.world.hosts before.world.wire before.past.attempts of_incarnations told (traffic script range start began change) fates
+      traffic_told before.world.hosts after.world.hosts before.world.wire before.past.attempts of_incarnations told
+      (traffic script range start began change) fates
 
   pub keeps_ordered : AttemptsAreOfIncarnations before.world.hosts before.world.wire before.past.attempts → BeginsInTurn before after
       → AttemptsAreOrdered before.world.wire before.past.attempts → AttemptsAreOrdered after.world.wire after.past.attempts
   keeps_ordered of_incarnations begins ordered =
-      traffic_ordered before.world.hosts after.world.hosts before.world.wire before.past.attempts of_incarnations (traffic script range start began change) begins.in_turn ordered
+      traffic_ordered before.world.hosts after.world.hosts before.world.wire before.past.attempts of_incarnations
+      (traffic script range start began change) begins.in_turn ordered
 
-  pub keeps_latest : AttemptsAreOfIncarnations before.world.hosts before.world.wire before.past.attempts → OpenAttemptsHaveMessages after.world.hosts
+  pub keeps_latest : AttemptsAreOfIncarnations before.world.hosts before.world.wire before.past.attempts
+      → OpenAttemptsHaveMessages after.world.hosts
       → MakersAreApart after.world.hosts → WorksMayWrite after.world.log after.world.hosts
       → OpenAttemptsAreLatest before.world.hosts before.past.attempts → OpenAttemptsAreLatest after.world.hosts after.past.attempts
   keeps_latest of_incarnations have works_apart writes latest = record {
@@ -127,10 +140,11 @@ module _ (script : List Statement) (range : RunsAreInRange script) (start before
         let (old, was_there, was_up, me, w) = kept in
         let was_making : is_making w.was.work ≡ true = ap is_making (sym w.work_so) ∙ making in
         let (j, attempt, last, opened) = latest.each n old was_there was_up req w.was w.before w.there was_making w.stage in
-        let (fates, still) = still_last before.world.hosts after.world.hosts before.world.wire after.world.wire before.past.attempts after.past.attempts (traffic script range start began change) j attempt last
+        let (fates, still) = still_last before.world.hosts after.world.hosts before.world.wire after.world.wire before.past.attempts
+        after.past.attempts (traffic script range start began change) j attempt last
         (λ k sends new begun same.
-        begins_alone after.world.log before.world.hosts after.world.hosts before.world.wire before.past.attempts of_incarnations have works_apart writes
-        n req work current
+        begins_alone after.world.log before.world.hosts after.world.hosts before.world.wire before.past.attempts of_incarnations have
+        works_apart writes n req work current
         (record {
           now = record { host = host; there = there; up = up; got = got; making = making; stage = stage };
           old = old;
@@ -146,13 +160,19 @@ module _ (script : List Statement) (range : RunsAreInRange script) (start before
           j,
           record attempt { fates = fates },
           still,
-          record { there = got; making = making; stage = stage; same = same_still old.node host.node req work current attempt fates me w opened.same },
+          record {
+            there = got;
+            making = making;
+            stage = stage;
+            same = same_still old.node host.node req work current attempt fates me w opened.same;
+          },
         ))
         (λ begun.
         let (new, is, same) = begun in (
           length before.past.attempts,
           new,
-          subst (λ (attempts : List AttemptRecord). IsLast attempts (length before.past.attempts) new) (sym is) (new_last before.past.attempts new),
+          subst (λ (attempts : List AttemptRecord). IsLast attempts (length before.past.attempts) new) (sym is)
+              (new_last before.past.attempts new),
           record { there = got; making = making; stage = stage; same = same },
         ))
         (open_or_begins script range start began change have n host req work current there up got making stage);

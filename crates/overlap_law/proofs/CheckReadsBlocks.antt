@@ -20,9 +20,9 @@ use Rattle.disk_history.specs.Ledger.{Item}
 use Rattle.disk_history.specs.Legal.{is_torn, standing}
 use Rattle.gateway.specs.declared.message.Message.{Message}
 use Rattle.peer_service.specs.State.{object_size}
-use Rattle.sheep_node.specs.declared.event.Event.{Event}
 use Rattle.sheep_world.specs.HistoryAdditions.{block_in}
 use Rattle.sheep_world.specs.World.{Host}
+use Rattle.sheep_world.specs.RunsWithAsks.{Move}
 use Rattle.vdi_directory.specs.declared.effect.Effect.{Effect}
 use Rattle.vdi_directory.specs.Decisions.{log_effects}
 use Rattle.vdi_directory.specs.States.{state_of}
@@ -57,7 +57,7 @@ use Rattle.overlap_law.proofs.TellersOfPieces.{tellers-on_the_way}
 use Rattle.overlap_law.proofs.WholeInRuns.{whole-on_the_way}
 use Rattle.overlap_law.proofs.WorksOfAttempts.{AreOfWorks, kept_works}
 
-module _ (script : List Statement) (range : RunsAreInRange script) (events : List Event) (start : MomentWithPast)
+module _ (script : List Statement) (range : RunsAreInRange script) (events : List Move) (start : MomentWithPast)
     (run : run_with_past script events ≡ Some start) (host : Host) (check : Check) (index : ℕ) (of : IsCheckedObject start host check index)
     (stays : BlocksStayWritten (ledger_of start.past.history) (log_effects start.world.log) (good_id_at start) start.world.hosts
     start.past.attempts) (good : good_id_at start check.vid ≡ true) (kept : of.disk.deleted ≡ false) (unit : ℕ)

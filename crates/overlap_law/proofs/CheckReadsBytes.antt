@@ -8,7 +8,6 @@ use Rattle.cluster_script.specs.declared.statement.Statement.{Statement}
 use Rattle.disk_history.specs.Ledger as histories
 use Rattle.disk_history.specs.Ledger.{Item}
 use Rattle.disk_history.specs.Legal.{standing}
-use Rattle.sheep_node.specs.declared.event.Event.{Event}
 use Rattle.vdi_directory.specs.Decisions.{log_effects}
 use Rattle.overlap_law.specs.Each.{spec_in}
 use Rattle.overlap_law.specs.Headline.{ledger_of}
@@ -18,6 +17,7 @@ use Rattle.overlap_law.proofs.SoundCodedRuns.{coded-in_run}
 use Rattle.overlap_law.proofs.StandingItems.{stands_among}
 use Rattle.overlap_law.proofs.StripReadsBegun.{bytes-in_run}
 use Rattle.overlap_law.proofs.StripReadsItems.{bytes_stand}
+use Rattle.sheep_world.specs.RunsWithAsks.{Move}
 
 -- by which a block in strips may be read is bytes
 abbrev pub StripsStandAsBytes : MomentWithPast → Type 0
@@ -26,7 +26,7 @@ StripsStandAsBytes moment = (vid block place : ℕ) (disk : histories.Disk) (spe
     → is_in_strips spec.policy Block ≡ true → block < disk.blocks → slice_get (standing (disk.items block)) place ≡ Some item
     → AreBytes item.bytes
 
-module _ (script : List Statement) (range : RunsAreInRange script) (events : List Event) (moment : MomentWithPast)
+module _ (script : List Statement) (range : RunsAreInRange script) (events : List Move) (moment : MomentWithPast)
     (run : run_with_past script events ≡ Some moment) where
   pub strips_stand-in_run : StripsStandAsBytes moment
   strips_stand-in_run vid block place disk spec item there made strips below among =

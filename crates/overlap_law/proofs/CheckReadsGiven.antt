@@ -1,6 +1,6 @@
 -- In each run in range, where a check comes to a write by a reply: what each message of the work gave, heard before or told by this reply,
 -- has what its teller owed in the work's epoch, by what is good as the event begins.
-use Rattle.std.proofs.Common.{◌≡◌, ℕ, ◌≤◌, ◌==◌, Bool, true, false, cond, List, length, Some, slice_get, refl, sym, ap, subst, ◌∙◌}
+use Rattle.std.proofs.Common.{◌≡◌, ℕ, ◌≤◌, ◌==◌, Bool, true, false, cond, List, length, Some, slice_get, refl, sym, ap, subst, ◌∙◌, Option}
 use Rattle.std.specs.FinMap as tree
 use Rattle.std.proofs.lemmas.Bool.{eqb-true}
 use Rattle.cluster_script.specs.declared.statement.Statement.{Statement}
@@ -17,12 +17,12 @@ use Rattle.gateway.specs.Messages.{AreMessagesFor}
 use Rattle.gateway.specs.Work.{asks_all, is_making}
 use Rattle.gateway.proofs.MessageLemmas.{AreMessagesFor-with_status}
 use Rattle.sheep_node.specs.declared.check_write.CheckWrite.{CheckWrite}
-use Rattle.sheep_node.specs.declared.event.Event.{Event}
 use Rattle.sheep_node.specs.SoundWorks.{HasMessagesFor}
 use Rattle.sheep_world.specs.Began.{Began}
 use Rattle.sheep_world.specs.NodeCauses.{ReplyIsHere}
 use Rattle.sheep_world.specs.World.{Host}
 use Rattle.sheep_world.proofs.RecoveryMessages.{same_said}
+use Rattle.sheep_world.specs.RunsWithAsks.{Move}
 use Rattle.overlap_law.specs.MomentChanges.{RunsAreInRange, Still}
 use Rattle.overlap_law.specs.Packets.{IsAnswering}
 use Rattle.overlap_law.specs.Past.{MomentWithPast, run_with_past}
@@ -41,8 +41,12 @@ use Rattle.overlap_law.proofs.StripReadsInRuns.{given-in_run}
 use Rattle.overlap_law.proofs.StripReadsThrough.{gave_bytes}
 use Rattle.overlap_law.proofs.TellersOfPieces.{tellers-on_the_way}
 use Rattle.overlap_law.proofs.ToldPiecesInRuns.{told_pieces-in_run}
+use Rattle.overlap_law.specs.RequestsOfScript.{is_of_client}
+use Rattle.overlap_law.specs.Sessions.{is_of_client_at}
+use Rattle.sheep_node.specs.declared.course.Request.{Request}
+use Rattle.std.specs.Option.{option_map_or}
 
-module _ (script : List Statement) (range : RunsAreInRange script) (events : List Event) (start : MomentWithPast)
+module _ (script : List Statement) (range : RunsAreInRange script) (events : List Move) (start : MomentWithPast)
     (ran : run_with_past script events ≡ Some start) (n : ℕ) (host : Host) (there : tree.get start.world.hosts n ≡ Some host)
     (up : host.is_lost ≡ false) (name : MessageName) (from : NodeId) (rsp : PeerRsp) (caused : ReplyIsHere start.world n name from rsp)
     (write : CheckWrite) (comes : ComesByReply write rsp host.node) where
@@ -85,6 +89,10 @@ module _ (script : List Statement) (range : RunsAreInRange script) (events : Lis
       let name_so : name ≡ message_name n rsp.number = λ i. record { sender = record { 0 = here i }; number = numbered i } in
       record { bytes = caused.bytes; there = ap (tree.get start.world.wire) (sym name_so) ∙ caused.there; spelled = caused.read }
 
+  -- a check is no client's
+  no_client : is_of_client_at write.req host.node ≡ false
+  no_client = ap (λ (o : Option Request). option_map_or (λ (request : Request). is_of_client request.course) o false) comes.there
+
   -- ---- what a message gave
 
   module _ (reads : is_making comes.work.work ≡ false) (place : ℕ) (m : Message)
@@ -117,7 +125,7 @@ module _ (script : List Statement) (range : RunsAreInRange script) (events : Lis
               other from rsp gave of own said;
           since = λ is_good known.
               (told_pieces-in_run script range events start ran).each n host there up write.req q comes.work comes.attempt other from rsp
-              gave of own said is_good known;
+              gave of no_client own said is_good known;
         })
 
     by_tie : (one : Message) → slice_get comes.attempt.messages place ≡ Some one → (b : Bool) → (one.number == rsp.number) ≡ b
@@ -130,7 +138,7 @@ module _ (script : List Statement) (range : RunsAreInRange script) (events : Lis
           at = found ∙ ap (λ (x : Message). Some x) same;
           given = gave_bytes m.status succeeded;
           some = some;
-        }) reads
+        }) reads no_client
 
     pub given_to_check : IsGiven (good_at start) start comes.work.work comes.attempt.epoch.0 m.index (bytes_in m.status)
     given_to_check =

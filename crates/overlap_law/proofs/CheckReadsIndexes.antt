@@ -14,12 +14,12 @@ use Rattle.gateway.specs.Attempt as gateways
 use Rattle.gateway.specs.State.{Gateway, Work}
 use Rattle.gateway.specs.Work.{asks_all}
 use Rattle.sheep_node.specs.declared.course.Request.{Request}
-use Rattle.sheep_node.specs.declared.event.Event.{Event}
 use Rattle.sheep_node.proofs.AwaitedWorks.{Works}
 use Rattle.sheep_node.proofs.NumberChanges.{both_in_chain}
 use Rattle.sheep_world.specs.Began.{Began}
 use Rattle.sheep_world.specs.NodeCauses.{host_with_node, input_of_cause}
 use Rattle.sheep_world.specs.World.{Host}
+use Rattle.sheep_world.specs.RunsWithAsks.{Move}
 use Rattle.overlap_law.specs.MomentChanges.{KeptByChanges, MomentChange, RunsAreInRange}
 use Rattle.overlap_law.specs.Past.{MomentWithPast, run_with_past}
 use Rattle.overlap_law.proofs.AnswersInMoments.{not_lost}
@@ -106,5 +106,5 @@ module _ (script : List Statement) (range : RunsAreInRange script) where
         of_place start before after began change all n now there up req work current place message is asks;
   }
 
-  pub places-in_run : (events : List Event) (moment : MomentWithPast) → run_with_past script events ≡ Some moment → AllOfPlaces moment
+  pub places-in_run : (events : List Move) (moment : MomentWithPast) → run_with_past script events ≡ Some moment → AllOfPlaces moment
   places-in_run events moment run = run-kept script AllOfPlaces kept_places events moment run

@@ -15,10 +15,10 @@ use Rattle.disk_history.specs.declared.event.HistEvent.TheVariants.{Read}
 use Rattle.disk_history.specs.Changes.{items_in}
 use Rattle.disk_history.specs.Ledger.{Acknowledged, Lost, Item, Ledger, empty_ledger, has_block, is_item_of, ledger_after}
 use Rattle.guest_driver.specs.declared.disk.Disk.{Disk}
-use Rattle.sheep_node.specs.declared.event.Event.{Event}
 use Rattle.sheep_world.specs.EventKinds.{outcome_of_step}
 use Rattle.sheep_world.specs.NodeCauses.{GuestAsks}
 use Rattle.sheep_world.specs.World.{Host}
+use Rattle.sheep_world.specs.RunsWithAsks.{Move}
 use Rattle.overlap_law.specs.DiskEvents.{IsUnderWay, is_asked_in}
 use Rattle.overlap_law.specs.Headline.{ledger_of}
 use Rattle.overlap_law.specs.MomentChanges.{RunsAreInRange}
@@ -108,7 +108,7 @@ module _ (script : List Statement) (range : RunsAreInRange script) (req : ℕ) (
       (outcome_of_step script n host (GuestAsks session other ask) world).grown others)
       (λ none has. none_by_history req history (none_behind req history false unbegun refl) disk.inode.vid block)
 
-  pub unbegun_none-in_run : (events : List Event) (moment : MomentWithPast) → run_with_past script events ≡ Some moment → (n : ℕ)
+  pub unbegun_none-in_run : (events : List Move) (moment : MomentWithPast) → run_with_past script events ≡ Some moment → (n : ℕ)
       (host : Host) → tree.get moment.world.hosts n ≡ Some host → host.is_lost ≡ false → (opened : Disk)
       → IsUnderWay host.node req opened → (block : ℕ) → HasNoneBy req opened.inode.vid block moment.past.history
   unbegun_none-in_run events moment run n host there up opened way block =

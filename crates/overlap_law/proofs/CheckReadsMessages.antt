@@ -1,6 +1,6 @@
 -- In each run in range, where a check comes to a write by a reply: each message of the work gave the part of its place, as long as that is,
 -- which has what its teller owed; and the value is that of what they all gave.
-use Rattle.std.proofs.Common.{◌≡◌, arith, ℕ, ◌^◌, ◌<◌, ◌≤◌, true, false, List, length, map, slice_get, Some, sym, ap, subst, ◌∙◌}
+use Rattle.std.proofs.Common.{◌≡◌, arith, ℕ, ◌^◌, ◌<◌, ◌≤◌, true, false, List, length, map, slice_get, Option, Some, sym, ap, subst, ◌∙◌}
 use Rattle.std.specs.FinMap as tree
 use Rattle.object_id.specs.declared.entry.VdiSpec.{VdiSpec}
 use Rattle.object_id.specs.declared.node.NodeId.{NodeId}
@@ -22,9 +22,9 @@ use Rattle.gateway.specs.Attempt.{bytes_given, bytes_in, is_done, is_success}
 use Rattle.gateway.specs.Messages.{AreMessagesFor, HaveLength}
 use Rattle.gateway.specs.Work.{asks_all, is_making}
 use Rattle.sheep_node.specs.declared.check_write.CheckWrite.{CheckWrite}
-use Rattle.sheep_node.specs.declared.event.Event.{Event}
 use Rattle.sheep_world.specs.NodeCauses.{ReplyIsHere}
 use Rattle.sheep_world.specs.World.{Host}
+use Rattle.sheep_world.specs.RunsWithAsks.{Move}
 use Rattle.overlap_law.specs.Attempts.{AttemptRecord, object_of}
 use Rattle.overlap_law.specs.MomentChanges.{RunsAreInRange, Still}
 use Rattle.overlap_law.specs.Packets.{HasPacket}
@@ -37,6 +37,10 @@ use Rattle.overlap_law.proofs.CheckReadsValue.{each_succeeded, have_succeeded, l
 use Rattle.overlap_law.proofs.LastReads.{open_reads-in_run}
 use Rattle.overlap_law.proofs.StripReadsHeard.{IsGiven}
 use Rattle.overlap_law.proofs.StripReadsThrough.{long_at}
+use Rattle.overlap_law.specs.RequestsOfScript.{is_of_client}
+use Rattle.overlap_law.specs.Sessions.{is_of_client_at}
+use Rattle.sheep_node.specs.declared.course.Request.{Request}
+use Rattle.std.specs.Option.{option_map_or}
 
 -- a message gave the part of its place
 pub record IsReadPart (moment : MomentWithPast) (spec : VdiSpec) (oid epoch place : ℕ) (m : Message) : Type 0 where
@@ -54,7 +58,7 @@ pub record IsAllRead (moment : MomentWithPast) (spec : VdiSpec) (oid epoch : ℕ
   pub flying : (k : ℕ) (other : AttemptRecord) → slice_get moment.past.attempts k ≡ Some other → object_of other ≡ oid → (place : ℕ)
       (node : NodeId) → HasPacket moment.world.wire other place node → other.epoch < epoch
 
-module _ (script : List Statement) (range : RunsAreInRange script) (events : List Event) (start : MomentWithPast)
+module _ (script : List Statement) (range : RunsAreInRange script) (events : List Move) (start : MomentWithPast)
     (run : run_with_past script events ≡ Some start) (n : ℕ) (host : Host) (there : tree.get start.world.hosts n ≡ Some host)
     (up : host.is_lost ≡ false) (name : MessageName) (from : NodeId) (rsp : PeerRsp) (caused : ReplyIsHere start.world n name from rsp)
     (write : CheckWrite) (comes : ComesByReply write rsp host.node) (index : ℕ)
@@ -74,6 +78,10 @@ module _ (script : List Statement) (range : RunsAreInRange script) (events : Lis
 
   reads : is_making comes.work.work ≡ false
   reads = ap (λ (w : ObjWork). is_making w) work_so
+
+  -- by a check, which is no client's
+  own : is_of_client_at write.req host.node ≡ false
+  own = ap (λ (o : Option Request). option_map_or (λ (request : Request). is_of_client request.course) o false) comes.there
 
   of_read : AreMessagesFor (read_copies comes.check index) (messages_heard rsp comes.attempt)
   of_read =
@@ -124,8 +132,8 @@ module _ (script : List Statement) (range : RunsAreInRange script) (events : Lis
     parts = part_read;
     earlier = λ k other at on.
         (open_reads-in_run script range events start start run Still n host there up write.req comes.work comes.attempt comes.got reads
-        comes.stage k other at (on ∙ ap (λ (w : ObjWork). oid_of w) (sym work_so))).epochs;
+        own comes.stage k other at (on ∙ ap (λ (w : ObjWork). oid_of w) (sym work_so))).epochs;
     flying = λ k other at on place node packet.
         (open_reads-in_run script range events start start run Still n host there up write.req comes.work comes.attempt comes.got reads
-        comes.stage k other at (on ∙ ap (λ (w : ObjWork). oid_of w) (sym work_so))).flying place node packet;
+        own comes.stage k other at (on ∙ ap (λ (w : ObjWork). oid_of w) (sym work_so))).flying place node packet;
   }

@@ -27,7 +27,6 @@ use Rattle.gateway.specs.Attempt.{bytes_given}
 use Rattle.sheep_node.specs.declared.check_write.CheckWrite.{CheckWrite}
 use Rattle.sheep_node.specs.declared.course.Course.TheVariants.{Checking}
 use Rattle.sheep_node.specs.declared.course.Request.{Request}
-use Rattle.sheep_node.specs.declared.event.Event.{Event}
 use Rattle.sheep_node.specs.declared.session.Session.{Session}
 use Rattle.sheep_node.specs.CheckWrites.{write_of_check, write_of_value}
 use Rattle.sheep_node.specs.SessionQueues.{session_among}
@@ -35,6 +34,7 @@ use Rattle.sheep_node.specs.SoundWorks.{IsSoundCheck}
 use Rattle.sheep_node.specs.WantedWorks.{IsWantedAt, IsWorkOfCheck}
 use Rattle.sheep_world.specs.Began.{Began}
 use Rattle.sheep_world.specs.World.{Host, is_host_up}
+use Rattle.sheep_world.specs.RunsWithAsks.{Move}
 use Rattle.vdi_directory.specs.Decisions.{log_effects}
 use Rattle.vdi_directory.specs.States.{state_of, is_live_state}
 use Rattle.overlap_law.specs.Each.{spec_in}
@@ -105,7 +105,7 @@ pub record IsCheckedObject (moment : MomentWithPast) (host : Host) (check : Chec
   pub unwritten : (block : ℕ) → index * blocks_per_object check.spec ≤ block → block < disk.blocks
       → IsBeingWritten moment.past.attempts (disk.items block) → ⊥
 
-module _ (script : List Statement) (range : RunsAreInRange script) (events : List Event) (start : MomentWithPast)
+module _ (script : List Statement) (range : RunsAreInRange script) (events : List Move) (start : MomentWithPast)
     (run : run_with_past script events ≡ Some start) (n : ℕ) (host : Host) (there : tree.get start.world.hosts n ≡ Some host)
     (up : is_host_up host ≡ true) (write : CheckWrite) (rsp : PeerRsp) (comes : ComesByReply write rsp host.node)
     (checks : option_map_or is_check (request_at script write.req) false ≡ true) where

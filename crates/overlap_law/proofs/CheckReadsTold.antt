@@ -26,13 +26,13 @@ use Rattle.object_id.specs.declared.node.NodeId.{NodeId}
 use Rattle.peer_proto.specs.declared.say.PeerRsp.{PeerRsp}
 use Rattle.gateway.specs.Attempt.{bytes_given}
 use Rattle.sheep_node.specs.declared.check_write.CheckWrite.{CheckWrite}
-use Rattle.sheep_node.specs.declared.event.Event.{Event}
 use Rattle.sheep_node.specs.declared.input.Input.TheVariants as inputs
 use Rattle.sheep_node.specs.CheckWrites.{check_write_on, write_of_value}
 use Rattle.sheep_world.specs.HistoryAdditions.{block_checked, block_in, block_written, check_write_adds, check_write_grown, is_on_disk}
 use Rattle.sheep_world.specs.NodeCauses.{NodeCause, GuestAsks, RequestComes, ReplyComes, LossIsTold, EntryIsRead, EntryIsPut}
-use Rattle.sheep_world.specs.NodeCauses.{RecoveryTicks, WorkIsRetried, IsCause, ReplyIsHere}
+use Rattle.sheep_world.specs.NodeCauses.{RecoveryTicks, WorkIsRetried, ClientAsks, IsCause, ReplyIsHere}
 use Rattle.sheep_world.specs.World.{Host, is_host_up, node_at}
+use Rattle.sheep_world.specs.RunsWithAsks.{Move}
 use Rattle.vdi_directory.specs.Decisions.{log_effects}
 use Rattle.overlap_law.specs.Headline.{ledger_of}
 use Rattle.overlap_law.specs.HistoryGrowth.{check_write_at}
@@ -154,7 +154,7 @@ module _ (good_id : ℕ → Bool) (write : CheckWrite) where
 
 -- ---- a check that comes to a write
 
-module _ (script : List Statement) (range : RunsAreInRange script) (events : List Event) (start : MomentWithPast)
+module _ (script : List Statement) (range : RunsAreInRange script) (events : List Move) (start : MomentWithPast)
     (run : run_with_past script events ≡ Some start)
     (stays : BlocksStayWritten (ledger_of start.past.history) (log_effects start.world.log) (good_id_at start) start.world.hosts
     start.past.attempts) (of_bytes : StripsStandAsBytes start) where
@@ -271,10 +271,11 @@ module _ (script : List Statement) (range : RunsAreInRange script) (events : Lis
     check_told (EntryIsPut entry) caused comes = absurd (cc (comes))
     check_told RecoveryTicks caused comes = absurd (cc (comes))
     check_told WorkIsRetried caused comes = absurd (cc (comes))
+    check_told (ClientAsks req ask) caused comes = absurd (cc (comes))
 
 -- ---- each event
 
-pub checks_read : (script : List Statement) → RunsAreInRange script → (events : List Event) (start : MomentWithPast)
+pub checks_read : (script : List Statement) → RunsAreInRange script → (events : List Move) (start : MomentWithPast)
     (stepping : SteppingNode) (write : CheckWrite) → run_with_past script events ≡ Some start
     → BlocksStayWritten (ledger_of start.past.history) (log_effects start.world.log) (good_id_at start) start.world.hosts
     start.past.attempts → IsStepping script start.world stepping → check_write_at start.world stepping.cause ≡ Some write

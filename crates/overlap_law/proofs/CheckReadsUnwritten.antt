@@ -18,10 +18,10 @@ use Rattle.disk_lock.specs.declared.holder.Holder.{Holder}
 use Rattle.guest_driver.specs.declared.disk.Disk.{Disk}
 use Rattle.sheep_node.specs.declared.course.Course.TheVariants.{Checking}
 use Rattle.sheep_node.specs.declared.course.Request.{Request}
-use Rattle.sheep_node.specs.declared.event.Event.{Event}
 use Rattle.sheep_node.specs.SessionQueues.{session_among}
 use Rattle.sheep_world.specs.Began.{Began}
 use Rattle.sheep_world.specs.World.{Host}
+use Rattle.sheep_world.specs.RunsWithAsks.{Move}
 use Rattle.vdi_directory.specs.Decisions.{log_effects}
 use Rattle.vdi_directory.specs.Effects.{holder_of}
 use Rattle.overlap_law.specs.Headline.{ledger_of}
@@ -44,7 +44,7 @@ use Rattle.overlap_law.proofs.SoundInRuns.{item_writer, open_under_way-in_run}
 use Rattle.overlap_law.proofs.StandingItems.{stands_among}
 use Rattle.overlap_law.proofs.WorksInMoments.{well_in_world}
 
-module _ (script : List Statement) (range : RunsAreInRange script) (events : List Event) (moment : MomentWithPast)
+module _ (script : List Statement) (range : RunsAreInRange script) (events : List Move) (moment : MomentWithPast)
     (run : run_with_past script events ≡ Some moment) (n : ℕ) (host : Host) (there : tree.get moment.world.hosts n ≡ Some host)
     (up : host.is_lost ≡ false) (req session : ℕ) (check : Check)
     (got : tree.get host.node.requests req ≡ Some (record { session = session; course = Checking check }))

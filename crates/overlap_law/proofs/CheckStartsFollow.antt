@@ -1,5 +1,6 @@
 -- The writes that a check begins by a reply may come next in the history: the check hasn't ended, and began none of the blocks.
-use Rattle.std.proofs.Common.{◌≡◌, inr, ℕ, zero, suc, ◌+◌, ◌*◌, ◌≤◌, ◌^◌, Bool, true, false, cond, List, [], ◌∷◌, length, filter, Contains, Option, Some, refl, sym, subst, arith, ◌∙◌}
+use Rattle.std.proofs.Common.{◌≡◌, inr, ℕ, zero, suc, ◌+◌, ◌*◌, ◌≤◌, ◌^◌, Bool, true, false, cond, List, [], ◌∷◌, length, filter, Contains}
+use Rattle.std.proofs.Common.{Option, Some, refl, sym, subst, arith, ◌∙◌}
 use Rattle.std.specs.Prelude.{◌/◌, flat_map}
 use Rattle.std.specs.List.{list_any, range_with_len}
 use Rattle.std.specs.Option.{option_map, option_map_or}
@@ -20,12 +21,12 @@ use Rattle.peer_proto.specs.declared.say.PeerRsp.{PeerRsp}
 use Rattle.sheep_node.specs.declared.check_write.CheckWrite.{CheckWrite}
 use Rattle.sheep_node.specs.declared.course.Course.TheVariants.{Checking}
 use Rattle.sheep_node.specs.declared.course.Request.{Request}
-use Rattle.sheep_node.specs.declared.event.Event.{Event}
 use Rattle.sheep_node.specs.declared.input.Input.TheVariants as inputs
 use Rattle.sheep_node.specs.CheckWrites.{check_write_on, write_of_value}
 use Rattle.sheep_world.specs.World.{Host, is_host_up}
 use Rattle.sheep_world.specs.Began.{Began}
 use Rattle.sheep_world.specs.HistoryAdditions.{block_checked, block_in, check_write_adds, check_write_grown, is_on_disk}
+use Rattle.sheep_world.specs.RunsWithAsks.{Move}
 use Rattle.overlap_law.specs.ChecksAhead.{HasBegunNoneAhead}
 use Rattle.overlap_law.specs.DiskEvents.{ends_write_of}
 use Rattle.overlap_law.specs.Headline.{ledger_of}
@@ -40,7 +41,7 @@ use Rattle.overlap_law.proofs.EndingWrites.{whole_block}
 use Rattle.overlap_law.proofs.FollowingEvents.{IsNewFrom, event, later_new, start_follows}
 use Rattle.overlap_law.proofs.NoRecoveredDue.{began-with_past}
 use Rattle.overlap_law.proofs.RequestsTold.{ended_told, place_told}
-use Rattle.overlap_law.proofs.SessionsOfRequests.{are_asked}
+use Rattle.overlap_law.proofs.SessionsOfRequests.{are_scripts, of_asking}
 use Rattle.overlap_law.proofs.UnansweredRequests.{requests_tied}
 use Rattle.overlap_law.proofs.UnendedRequests.{MayReply, unended-in_run}
 use Rattle.overlap_law.proofs.WholeInRuns.{sound_here}
@@ -110,7 +111,7 @@ module _ (write : CheckWrite) where
   none_begun history bytes check spec ahead (WritingBack later) at is = absurd (cc (is))
   none_begun history bytes check spec ahead Answered at is = absurd (cc (is))
 
-module _ (script : List Statement) (range : RunsAreInRange script) (events : List Event) (moment : MomentWithPast)
+module _ (script : List Statement) (range : RunsAreInRange script) (events : List Move) (moment : MomentWithPast)
     (run : run_with_past script events ≡ Some moment) (n : ℕ) (host : Host) (there : tree.get moment.world.hosts n ≡ Some host)
     (up : is_host_up host ≡ true) (rsp : PeerRsp) (write : CheckWrite) (is : check_write_on (inputs.Reply rsp) host.node ≡ Some write) where
   began : Began script moment.world
@@ -124,8 +125,9 @@ module _ (script : List Statement) (range : RunsAreInRange script) (events : Lis
 
   unended : list_any (ends_write_of write.req) moment.past.history ≡ false
   unended =
-      let asked = are_asked script moment.world began n host there write.req request comes.there in
-      let tied = requests_tied script range moment.world began n host there write.req request comes.there in
+      let asked = are_scripts script range.is_script moment.world began n host there write.req request comes.there refl in
+      let tied = requests_tied script range moment.world began n host there write.req request comes.there
+      (of_asking script write.req request.session asked.asking) in
       (unended-in_run script range events moment run).1.unended n host.incarnation write.req request.session tied.unanswered.started asked
       tied.unanswered.there tied.unanswered.number
       (subst (λ (o : Option Host). MayReply o host.incarnation) (sym there) (inr (refl, not_lost host up)))

@@ -1,5 +1,6 @@
 -- What a check begins to write is on its disk: the blocks of the value that the disk has.
-use Rattle.std.proofs.Common.{◌≡◌, inr, ℕ, zero, suc, ◌+◌, ◌<◌, ◌≤◌, Bool, true, false, cond, List, [], ◌∷◌, ◌++◌, length, filter, fold, Some, refl, sym, ap, subst, arith, ◌∙◌}
+use Rattle.std.proofs.Common.{◌≡◌, inr, ℕ, zero, suc, ◌+◌, ◌<◌, ◌≤◌, Bool, true, false, cond, List, [], ◌∷◌, ◌++◌, length, filter, fold}
+use Rattle.std.proofs.Common.{Some, refl, sym, ap, subst, arith, ◌∙◌}
 use Rattle.std.specs.Prelude.{◌/◌, flat_map}
 use Rattle.std.specs.List.{range_with_len}
 use Rattle.std.specs.Option.{option_map, option_map_or}
@@ -23,11 +24,11 @@ use Rattle.inode.specs.Layout.{Content}
 use Rattle.peer_proto.specs.declared.say.PeerRsp.{PeerRsp}
 use Rattle.sheep_node.specs.declared.check_write.CheckWrite.{CheckWrite}
 use Rattle.sheep_node.specs.declared.course.Course.TheVariants.{Checking}
-use Rattle.sheep_node.specs.declared.event.Event.{Event}
 use Rattle.sheep_node.specs.declared.input.Input.TheVariants as inputs
 use Rattle.sheep_node.specs.CheckWrites.{check_write_on, write_of_value}
 use Rattle.sheep_world.specs.World.{Host, is_host_up}
 use Rattle.sheep_world.specs.HistoryAdditions.{block_checked, block_in, block_written, check_write_adds, check_write_grown, is_on_disk}
+use Rattle.sheep_world.specs.RunsWithAsks.{Move}
 use Rattle.overlap_law.specs.Headline.{ledger_of}
 use Rattle.overlap_law.specs.MomentChanges.{RunsAreInRange}
 use Rattle.overlap_law.specs.Past.{MomentWithPast, run_with_past}
@@ -74,7 +75,7 @@ module _ (write : CheckWrite) (many : ℕ) (large : write.spec.size / BLOCK_BYTE
           (begins_on from ledger have is on)
       by_test false is again = again ledger have on
 
-module _ (script : List Statement) (range : RunsAreInRange script) (events : List Event) (moment : MomentWithPast)
+module _ (script : List Statement) (range : RunsAreInRange script) (events : List Move) (moment : MomentWithPast)
     (run : run_with_past script events ≡ Some moment) (n : ℕ) (host : Host) (there : tree.get moment.world.hosts n ≡ Some host)
     (up : is_host_up host ≡ true) (rsp : PeerRsp) (write : CheckWrite) (is : check_write_on (inputs.Reply rsp) host.node ≡ Some write)
     (checks : option_map_or is_check (request_at script write.req) false ≡ true) where

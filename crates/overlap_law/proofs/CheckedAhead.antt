@@ -14,8 +14,8 @@ use Rattle.disk_check.specs.Check.{Check, left_of}
 use Rattle.disk_check.specs.Table.{own_indexes}
 use Rattle.guest_driver.specs.declared.disk.Disk.{Disk}
 use Rattle.sheep_node.specs.declared.course.Course.TheVariants.{Checking}
-use Rattle.sheep_node.specs.declared.event.Event.{Event}
 use Rattle.sheep_world.specs.World.{Host}
+use Rattle.sheep_world.specs.RunsWithAsks.{Move}
 use Rattle.overlap_law.specs.CheckedAhead.{ChecksHaveNoItemsAhead}
 use Rattle.overlap_law.specs.Checks.{HasBlock, IsCheckOn, has_come_to}
 use Rattle.overlap_law.specs.Headline.{ledger_of}
@@ -35,7 +35,7 @@ use Rattle.overlap_law.proofs.SoundAlike.{any_at}
 left_among : (indexes : List ℕ) (index : ℕ) → list_any (λ left. left == index) indexes ≡ true → Contains indexes index
 left_among indexes index any = Contains-from_any {eq = λ (x y : ℕ). y == x} (λ x y same. sym (eqb-true y x same)) index indexes any
 
-module _ (script : List Statement) (range : RunsAreInRange script) (events : List Event) (moment : MomentWithPast)
+module _ (script : List Statement) (range : RunsAreInRange script) (events : List Move) (moment : MomentWithPast)
     (ran : run_with_past script events ≡ Some moment) (n : ℕ) (host : Host) (at : tree.get moment.world.hosts n ≡ Some host)
     (up : host.is_lost ≡ false) (req index unit place : ℕ) (check : Check) (opened : Disk) (disk : histories.Disk) (item : Item)
     (checked : IsCheckOn (ledger_of moment.past.history) host.node req check opened disk)
@@ -108,7 +108,7 @@ module _ (script : List Statement) (range : RunsAreInRange script) (events : Lis
           let some = any_at (is_item_of req) (items_at disk opened.inode.spec index unit) place item got own in
           absurd (cc (none, some))
 
-pub ahead-in_run : (script : List Statement) → RunsAreInRange script → (events : List Event) (moment : MomentWithPast)
+pub ahead-in_run : (script : List Statement) → RunsAreInRange script → (events : List Move) (moment : MomentWithPast)
     → run_with_past script events ≡ Some moment → ChecksHaveNoItemsAhead (ledger_of moment.past.history) moment.world.hosts
 ahead-in_run script range events moment ran = record {
   each = λ n host at up req index unit place check opened disk item checked out has got.

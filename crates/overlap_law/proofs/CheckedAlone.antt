@@ -19,10 +19,10 @@ use Rattle.guest_driver.specs.declared.disk.Disk.{Disk}
 use Rattle.peer_proto.specs.declared.work.ObjWork.{ObjWork}
 use Rattle.sheep_node.specs.declared.course.Course.TheVariants.{Checking}
 use Rattle.sheep_node.specs.declared.course.Request.{Request}
-use Rattle.sheep_node.specs.declared.event.Event.{Event}
 use Rattle.sheep_node.specs.NodeInvariant.{IsSoundNode}
 use Rattle.sheep_node.specs.WantedWorks.{IsWantedAt, IsWorkOfCheck}
 use Rattle.sheep_world.specs.World.{Host}
+use Rattle.sheep_world.specs.RunsWithAsks.{Move}
 use Rattle.overlap_law.specs.AloneChecksWritten.{IsOfValue, IsWritten, WillBeWritten, IsBeingWritten, WasWritten, NoneComes, whole_object}
 use Rattle.overlap_law.specs.Attempts.{AttemptRecord}
 use Rattle.overlap_law.specs.CheckedAhead.{ChecksAreAlone}
@@ -48,7 +48,7 @@ use Rattle.overlap_law.proofs.TiedInRuns.{kept_tied}
 use Rattle.overlap_law.proofs.WholeInRuns.{sound_world}
 use Rattle.overlap_law.proofs.WrittenAlone.{alone_outcomes}
 
-module _ (script : List Statement) (range : RunsAreInRange script) (events : List Event) (moment : MomentWithPast)
+module _ (script : List Statement) (range : RunsAreInRange script) (events : List Move) (moment : MomentWithPast)
     (ran : run_with_past script events ≡ Some moment) (n : ℕ) (host : Host) (at_host : tree.get moment.world.hosts n ≡ Some host)
     (up : host.is_lost ≡ false) (open_works : HaveOpenWorks host.node.gateway.works host.node.requests) (good_id : ℕ → Bool)
     (req index unit place : ℕ) (check : Check) (opened : Disk) (disk : histories.Disk) (item : Item)
@@ -142,7 +142,7 @@ module _ (script : List Statement) (range : RunsAreInRange script) (events : Lis
           ∙ alone_outcomes moment.world.hosts moment.past.attempts whole check.vid value.value (whole_object check.spec value.index) alone
           value.unit (in_whole check value.index value.value id spec value.few value.long value.unit value.inside)
 
-pub alone-in_run : (script : List Statement) → RunsAreInRange script → (events : List Event) (moment : MomentWithPast)
+pub alone-in_run : (script : List Statement) → RunsAreInRange script → (events : List Move) (moment : MomentWithPast)
     → run_with_past script events ≡ Some moment → (good_id : ℕ → Bool)
     → ChecksAreAlone (ledger_of moment.past.history) (log_effects moment.world.log) good_id moment.world.hosts moment.past.attempts
 alone-in_run script range events moment ran good_id = record {
@@ -153,7 +153,7 @@ alone-in_run script range events moment ran good_id = record {
 }
 
 -- so the whole conjunct holds
-pub checks_have-in_run : (script : List Statement) → RunsAreInRange script → (events : List Event) (moment : MomentWithPast)
+pub checks_have-in_run : (script : List Statement) → RunsAreInRange script → (events : List Move) (moment : MomentWithPast)
     → run_with_past script events ≡ Some moment → (good_id : ℕ → Bool)
     → ChecksHaveItems (ledger_of moment.past.history) (log_effects moment.world.log) good_id moment.world.hosts moment.past.attempts
 checks_have-in_run script range events moment ran good_id = record {

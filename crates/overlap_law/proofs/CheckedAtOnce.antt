@@ -8,7 +8,7 @@ use Rattle.sheep_node.specs.declared.check_write.CheckWrite.{CheckWrite}
 use Rattle.sheep_node.specs.StepState.{StepState}
 use Rattle.sheep_world.specs.HistoryAdditions.{check_write_grown, reply_grown}
 use Rattle.sheep_world.specs.NodeCauses.{NodeCause, GuestAsks, RequestComes, ReplyComes, LossIsTold, EntryIsRead, EntryIsPut, RecoveryTicks}
-use Rattle.sheep_world.specs.NodeCauses.{WorkIsRetried, history_of_cause}
+use Rattle.sheep_world.specs.NodeCauses.{WorkIsRetried, ClientAsks, history_of_cause}
 use Rattle.sheep_world.specs.World.{Host, World, node_at}
 use Rattle.overlap_law.specs.StepMoments.{StepsAtOnce, world_in_step}
 use Rattle.overlap_law.proofs.ItemsAtBegin.{entry_none, served_comes_to_none}
@@ -33,3 +33,4 @@ module _ (script : List Statement) (world : World) where
   once_none (LossIsTold name packet) at_once n host last req = absurd at_once
   once_none (EntryIsRead entry) at_once n host last req = absurd at_once
   once_none WorkIsRetried at_once n host last req = absurd at_once
+  once_none (ClientAsks number asks) at_once n host last req = absurd at_once

@@ -27,8 +27,9 @@ use Rattle.overlap_law.proofs.CheckedSteps.{IsSameDisk, WasCheck, same_check, wa
 use Rattle.overlap_law.proofs.CoursesOfAsks.{IsPlacedIn}
 use Rattle.overlap_law.proofs.CoursesOfScript.{asked_by, BeganOn, requests_placed}
 use Rattle.overlap_law.proofs.ItemsOfReplies.{is_check_at}
-use Rattle.overlap_law.proofs.SessionsOfRequests.{are_asked}
+use Rattle.overlap_law.proofs.SessionsOfRequests.{by_line, are_asked_by_line, of_test}
 use Rattle.overlap_law.proofs.StandingSteps.{asked}
+use Rattle.cluster_script.specs.Statements.{is_check}
 
 pub left_same : (stage : CheckStage) → indexes_left stage ≡ left_of stage
 left_same (Comparing index later) = refl
@@ -53,9 +54,10 @@ module _ (script : List Statement) (range : RunsAreInRange script) (world : Worl
 
   session_is : session ≡ was.session
   session_is =
-      let now = (asked script range world began n host there up cause not_served caused so_far leads).asked req
-      (record { session = session; course = Checking check }) got in
-      let before = are_asked script world began n host there req was had in
+      let now = by_line script n host.incarnation req session
+      ((asked script range world began n host there up cause not_served caused so_far leads).asked req
+      (record { session = session; course = Checking check }) got) (of_test script is_check req checks) in
+      let before = are_asked_by_line script world began n host there req was had (of_test script is_check req checks) in
       same_Some session was.session (sym now.asking ∙ before.asking)
 
   module _ (disk : Disk) (on : (session_among session so_far.node.sessions).disk ≡ Some disk) where

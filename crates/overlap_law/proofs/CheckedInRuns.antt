@@ -14,7 +14,6 @@ use Rattle.disk_history.specs.declared.event.HistEvent.{HistEvent}
 use Rattle.peer_proto.specs.declared.ask.PeerReq.{PeerReq}
 use Rattle.sheep_node.specs.declared.course.Course.TheVariants.{Checking}
 use Rattle.sheep_node.specs.declared.course.Request.{Request}
-use Rattle.sheep_node.specs.declared.event.Event.{Event}
 use Rattle.sheep_node.specs.declared.input.Input.TheVariants as inputs
 use Rattle.sheep_node.specs.Changes as changes
 use Rattle.sheep_node.specs.State.{Node}
@@ -27,11 +26,12 @@ use Rattle.sheep_world.specs.HistoryAdditions.{is_lost_write, writers_lost}
 use Rattle.sheep_world.specs.HostChanges.{host_after_return, joined_host}
 use Rattle.sheep_world.specs.MembershipChanges.{lost_host}
 use Rattle.sheep_world.specs.NodeCauses.{NodeCause, GuestAsks, RequestComes, ReplyComes, LossIsTold, EntryIsRead, EntryIsPut, RecoveryTicks}
-use Rattle.sheep_world.specs.NodeCauses.{WorkIsRetried, input_of_cause, IsCause, history_of_cause, host_with_node}
+use Rattle.sheep_world.specs.NodeCauses.{WorkIsRetried, ClientAsks, input_of_cause, IsCause, history_of_cause, host_with_node}
 use Rattle.sheep_world.specs.Opening.{initial_world}
 use Rattle.sheep_world.specs.Step.{EventOutcome}
 use Rattle.sheep_world.specs.World.{Host}
 use Rattle.sheep_world.proofs.WireAtOpening.{opening_found}
+use Rattle.sheep_world.specs.RunsWithAsks.{Move}
 use Rattle.overlap_law.specs.HistoryGrowth.{added_at_cause, added_by_reply, check_write_at, world_at_cause}
 use Rattle.overlap_law.specs.MomentChanges as moments
 use Rattle.overlap_law.specs.MomentChanges.{MomentChange, MomentTrail, RunsAreInRange, Still, Then}
@@ -82,7 +82,7 @@ empty_values history node none = (
   λ req session check got disk on block begins. absurd (none req (record { session = session; course = Checking check }) got),
 )
 
-module _ (script : List Statement) (range : RunsAreInRange script) (events : List Event) (start : MomentWithPast)
+module _ (script : List Statement) (range : RunsAreInRange script) (events : List Move) (start : MomentWithPast)
     (ran : run_with_past script events ≡ Some start) (all : HaveBegunAll start.past.history start.world.hosts) where
   begun : Began script start.world
   begun = began-with_past script events start ran
@@ -163,6 +163,7 @@ module _ (script : List Statement) (range : RunsAreInRange script) (events : Lis
     once_values (LossIsTold name packet) at_once caused grown none = absurd at_once
     once_values (EntryIsRead entry) at_once caused grown none = absurd at_once
     once_values WorkIsRetried at_once caused grown none = absurd at_once
+    once_values (ClientAsks req ask) at_once caused grown none = absurd at_once
 
   -- ---- each change
 
@@ -218,7 +219,7 @@ module _ (script : List Statement) (range : RunsAreInRange script) where
       (first_empty script member.node).asked req request
       (subst (λ (h : Host). tree.get h.node.requests req ≡ Some request) (sym same) there))
 
-  along_values : (events : List Event) (start : MomentWithPast) → run_with_past script events ≡ Some start → Holds start
+  along_values : (events : List Move) (start : MomentWithPast) → run_with_past script events ≡ Some start → Holds start
       → {moment : MomentWithPast} → MomentTrail script start moment → Holds moment
   along_values events start ran all Still = all
   along_values events start ran all (Then {moment} {next} trail change) = change_values script range events start ran all change
@@ -227,11 +228,11 @@ module _ (script : List Statement) (range : RunsAreInRange script) where
   event_values events event start end ran then happens all =
       along_values events start ran all (event_trail script event start end happens)
 
-  pub begun-in_run : (events : List Event) (moment : MomentWithPast) → run_with_past script events ≡ Some moment
+  pub begun-in_run : (events : List Move) (moment : MomentWithPast) → run_with_past script events ≡ Some moment
       → HaveBegunAll moment.past.history moment.world.hosts
   begun-in_run = kept_at_events script Holds opens_values event_values
 
-  pub begun_after : (events : List Event) (start : MomentWithPast) → run_with_past script events ≡ Some start
+  pub begun_after : (events : List Move) (start : MomentWithPast) → run_with_past script events ≡ Some start
       → {before after : MomentWithPast} → MomentChange script start before after
       → HaveBegunAll after.past.history after.world.hosts
   begun_after events start ran change = change_values script range events start ran (begun-in_run events start ran) change

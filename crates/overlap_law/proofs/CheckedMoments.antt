@@ -39,7 +39,7 @@ use Rattle.sheep_node.proofs.StepChain.{kept_by_chain, untaken}
 use Rattle.sheep_world.specs.Began.{Began}
 use Rattle.sheep_world.specs.HistoryAdditions.{check_write_grown}
 use Rattle.sheep_world.specs.NodeCauses.{NodeCause, GuestAsks, RequestComes, ReplyComes, LossIsTold, EntryIsRead, EntryIsPut, RecoveryTicks}
-use Rattle.sheep_world.specs.NodeCauses.{WorkIsRetried, input_of_cause, IsCause, progress_at_cause}
+use Rattle.sheep_world.specs.NodeCauses.{WorkIsRetried, ClientAsks, input_of_cause, IsCause, progress_at_cause}
 use Rattle.sheep_world.specs.World.{Host, World, is_host_up, node_at}
 use Rattle.overlap_law.specs.HistoryGrowth.{added_at_cause, check_write_at}
 use Rattle.overlap_law.specs.MomentChanges.{RunsAreInRange}
@@ -241,6 +241,7 @@ module _ (script : List Statement) (range : RunsAreInRange script) (world : Worl
   write_comes (EntryIsPut entry) caused write on checks = none_comes (EntryIsPut entry) write (λ rsp same. cc (same)) on
   write_comes RecoveryTicks caused write on checks = none_comes RecoveryTicks write (λ rsp same. cc (same)) on
   write_comes WorkIsRetried caused write on checks = none_comes WorkIsRetried write (λ rsp same. cc (same)) on
+  write_comes (ClientAsks req ask) caused write on checks = none_comes (ClientAsks req ask) write (λ rsp same. cc (same)) on
 
   -- ---- as far as a step has come
 

@@ -16,11 +16,12 @@ use Rattle.sheep_node.specs.declared.event.Event.{Event}
 use Rattle.sheep_node.specs.Changes as changes
 use Rattle.sheep_node.specs.StepState.{StepState}
 use Rattle.sheep_node.specs.WantedWorks.{HasWork}
-use Rattle.sheep_world.specs.Began.{Began}
+use Rattle.sheep_world.specs.Began.{Began, MakesMove}
 use Rattle.sheep_world.specs.EventKinds.{outcome_of_step}
 use Rattle.sheep_world.specs.NodeCauses.{event_of_cause, progress_at_cause}
-use Rattle.sheep_world.specs.Step.{EventOutcome, step}
+use Rattle.sheep_world.specs.Step.{EventOutcome}
 use Rattle.sheep_world.specs.World.{Host}
+use Rattle.sheep_world.specs.RunsWithAsks.{Move}
 use Rattle.overlap_law.specs.Checks.{HasBegunWrite, HasBlock, IsCheckOn, has_come_to}
 use Rattle.overlap_law.specs.CheckedBehind.{ChecksHaveItemsBehind}
 use Rattle.overlap_law.specs.Headline.{ledger_of}
@@ -85,7 +86,7 @@ module _ (history : List HistEvent) (req index unit : ℕ) (check : Check) (valu
 
 -- ---- in a run
 
-module _ (script : List Statement) (range : RunsAreInRange script) (events : List Event) (moment : MomentWithPast)
+module _ (script : List Statement) (range : RunsAreInRange script) (events : List Move) (moment : MomentWithPast)
     (ran : run_with_past script events ≡ Some moment) (n : ℕ) (host : Host) (at : tree.get moment.world.hosts n ≡ Some host)
     (up : host.is_lost ≡ false) (req : ℕ) (check : Check) (opened : Disk) (disk : histories.Disk)
     (checked : IsCheckOn (ledger_of moment.past.history) host.node req check opened disk) where
@@ -141,21 +142,21 @@ module _ (script : List Statement) (range : RunsAreInRange script) (events : Lis
         value_has moment.past.history req index unit check value opened disk has_sound.of checked.on.known begun has has_sound.items,
       )
 
-pub checked-in_run : (script : List Statement) → RunsAreInRange script → (events : List Event) (moment : MomentWithPast)
+pub checked-in_run : (script : List Statement) → RunsAreInRange script → (events : List Move) (moment : MomentWithPast)
     → run_with_past script events ≡ Some moment → CheckedValuesHaveItems (ledger_of moment.past.history) moment.world.hosts
 checked-in_run script range events moment ran = record {
   each = λ n host at up req index unit check value opened disk checked begun has.
       value_so script range events moment ran n host at up req check opened disk checked index unit value begun has;
 }
 
-pub behind-in_run : (script : List Statement) → RunsAreInRange script → (events : List Event) (moment : MomentWithPast)
+pub behind-in_run : (script : List Statement) → RunsAreInRange script → (events : List Move) (moment : MomentWithPast)
     → run_with_past script events ≡ Some moment → ChecksHaveItemsBehind (ledger_of moment.past.history) moment.world.hosts
 behind-in_run script range events moment ran = record {
   each = λ n host at up req index unit check opened disk checked come has.
       behind_so script range events moment ran n host at up req check opened disk checked index unit come has;
 }
 
-module _ (script : List Statement) (range : RunsAreInRange script) (events : List Event) (start : MomentWithPast)
+module _ (script : List Statement) (range : RunsAreInRange script) (events : List Move) (start : MomentWithPast)
     (ran : run_with_past script events ≡ Some start) where
   began : Began script start.world
   began = began-with_past script events start ran
@@ -203,11 +204,11 @@ module _ (script : List Statement) (range : RunsAreInRange script) (events : Lis
 
   -- ---- each change
 
-  at_end : (event : Event) (made : EventOutcome) → step script event start.world ≡ Some made
+  at_end : (event : Event) (made : EventOutcome) → MakesMove script event start.world made
       → CheckedValuesHaveItems (ledger_of (moment_after script event start made).past.history)
       (moment_after script event start made).world.hosts
   at_end event made happened =
-      checked-in_run script range (events ++ event ∷ []) (moment_after script event start made)
+      checked-in_run script range (events ++ happened.move ∷ []) (moment_after script event start made)
       (run_with_one_more script event made events start happened ran)
 
   pub checked_after : {before after : MomentWithPast} → MomentChange script start before after

@@ -32,7 +32,7 @@ use Rattle.sheep_world.specs.BegunRequests.{WasBegun}
 use Rattle.sheep_world.specs.Effects.{open_disk_at}
 use Rattle.sheep_world.specs.HistoryAdditions.{check_write_grown}
 use Rattle.sheep_world.specs.NodeCauses.{NodeCause, GuestAsks, RequestComes, ReplyComes, LossIsTold, EntryIsRead, EntryIsPut, RecoveryTicks}
-use Rattle.sheep_world.specs.NodeCauses.{WorkIsRetried, input_of_cause, IsCause}
+use Rattle.sheep_world.specs.NodeCauses.{WorkIsRetried, ClientAsks, input_of_cause, IsCause}
 use Rattle.sheep_world.specs.World.{Host, World, is_host_up, node_at, progress_at}
 use Rattle.sheep_world.proofs.SessionNumbers.{once}
 use Rattle.overlap_law.specs.HistoryGrowth.{added_at_cause, check_write_at}
@@ -54,11 +54,12 @@ use Rattle.overlap_law.proofs.ItemsAtBegin.{check_begins, request_begins}
 use Rattle.overlap_law.proofs.ItemsOfReplies.{is_check_at, is_write_at}
 use Rattle.overlap_law.proofs.ItemsOfRequests.{begins_write_of}
 use Rattle.overlap_law.proofs.LongValues.{value-long}
-use Rattle.overlap_law.proofs.SessionsOfRequests.{are_asked}
+use Rattle.overlap_law.proofs.SessionsOfRequests.{are_scripts}
 use Rattle.overlap_law.proofs.StandingInRuns.{check_no_write}
 use Rattle.overlap_law.proofs.StandingSteps.{sound}
 use Rattle.overlap_law.proofs.UnansweredRequests.{others_unreplied}
 use Rattle.overlap_law.proofs.WholeInRuns.{sound_here}
+use Rattle.overlap_law.proofs.AsksInCauses.{not_begun}
 
 -- of each check of a node
 abbrev pub HasBegunOwn : List HistEvent → Node → Type 0
@@ -153,6 +154,7 @@ module _ (script : List Statement) (range : RunsAreInRange script) (world : Worl
   begins_check (EntryIsPut entry) caused req is begins = absurd (cc (begins))
   begins_check RecoveryTicks caused req is begins = absurd (cc (begins))
   begins_check WorkIsRetried caused req is begins = absurd (cc (begins))
+  begins_check (ClientAsks number asks) caused req is begins = absurd (cc (begins))
 
   -- the node has the check
   has_it : (cause : NodeCause) (req : ℕ) (to : ComesTo cause req)
@@ -176,10 +178,11 @@ module _ (script : List Statement) (range : RunsAreInRange script) (world : Worl
       by_value false none = none
       by_value true begins =
           let to = begins_check cause caused req is_check begins in
-          let here = are_asked script world began n host there req (record { session = to.has.session; course = Checking to.has.check })
-          (has_it cause req to) in
+          let here = are_scripts script range.is_script world began n host there req
+          (record { session = to.has.session; course = Checking to.has.check }) (has_it cause req to) refl in
           absurd (others_unreplied script n m host.incarnation other.incarnation req to.has.session session apart here
-          (are_asked script world began m other found req (record { session = session; course = Checking check }) got))
+          (are_scripts script range.is_script world began m other found req (record { session = session; course = Checking check }) got
+          refl))
 
   -- ---- a request that comes with the step
 
@@ -201,6 +204,8 @@ module _ (script : List Statement) (range : RunsAreInRange script) (world : Worl
   unbegun (EntryIsPut entry) caused req number ask from q was = absurd (cc (from))
   unbegun RecoveryTicks caused req number ask from q was = absurd (cc (from))
   unbegun WorkIsRetried caused req number ask from q was = absurd (cc (from))
+  unbegun (ClientAsks begins what) caused req number ask from q was =
+      let same : begins ≡ req = cc (from) in not_begun caused q req same was
 
   -- ---- as far as a step has come
 

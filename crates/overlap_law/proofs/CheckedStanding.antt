@@ -21,7 +21,6 @@ use Rattle.peer_proto.specs.declared.work.ObjWork.{ObjWork}
 use Rattle.sheep_node.specs.declared.ask.Ask.{Ask}
 use Rattle.sheep_node.specs.declared.course.Course.TheVariants.{Checking}
 use Rattle.sheep_node.specs.declared.course.Request.{Request}
-use Rattle.sheep_node.specs.declared.event.Event.{Event}
 use Rattle.sheep_node.specs.declared.input.Input.TheVariants as inputs
 use Rattle.sheep_node.specs.SessionQueues.{session_among}
 use Rattle.sheep_node.specs.StepState.{StepState}
@@ -30,8 +29,9 @@ use Rattle.sheep_world.specs.Began.{Began}
 use Rattle.sheep_world.specs.Effects.{open_disk_at}
 use Rattle.sheep_world.specs.EventKinds.{outcome_of_step}
 use Rattle.sheep_world.specs.NodeCauses.{NodeCause, GuestAsks, RequestComes, ReplyComes, LossIsTold, EntryIsRead, EntryIsPut, RecoveryTicks}
-use Rattle.sheep_world.specs.NodeCauses.{WorkIsRetried, input_of_cause, event_of_cause, host_with_node}
+use Rattle.sheep_world.specs.NodeCauses.{WorkIsRetried, ClientAsks, input_of_cause, event_of_cause, host_with_node}
 use Rattle.sheep_world.specs.World.{Host}
+use Rattle.sheep_world.specs.RunsWithAsks.{Move}
 use Rattle.overlap_law.specs.Checks.{HasBlock}
 use Rattle.overlap_law.specs.DiskEvents.{begins_by_others, ends_write_of}
 use Rattle.overlap_law.specs.Headline.{ledger_of}
@@ -39,7 +39,7 @@ use Rattle.overlap_law.specs.HistoryGrowth.{added_at_cause, added_by_reply, chec
 use Rattle.overlap_law.specs.MomentChanges.{RunsAreInRange}
 use Rattle.overlap_law.specs.Past.{MomentWithPast, run_with_past}
 use Rattle.overlap_law.specs.Pieces.{HasItem}
-use Rattle.overlap_law.specs.RequestsOfScript.{IsCheckOfAsk}
+use Rattle.overlap_law.specs.RequestsOfScript.{IsCheckOfAsk, is_of_client}
 use Rattle.overlap_law.specs.StepMoments.{SteppingNode, IsStepping, LeadsInStep, StepsByChanges, first_in_step, hosts_in_step}
 use Rattle.overlap_law.specs.Units.{bytes_by}
 use Rattle.overlap_law.specs.WrittenBlocks.{blocks_per_object, items_at}
@@ -60,7 +60,7 @@ use Rattle.overlap_law.proofs.ItemsOfReplies.{is_check_at}
 use Rattle.overlap_law.proofs.NoRecoveredDue.{began-with_past}
 use Rattle.overlap_law.proofs.OpenItemsInRuns.{fewer_make, kept_then}
 use Rattle.overlap_law.proofs.RepliesApart.{apart_so_far}
-use Rattle.overlap_law.proofs.SessionsOfRequests.{IsAskedIn, are_asked}
+use Rattle.overlap_law.proofs.SessionsOfRequests.{IsAskedBy, are_scripts, by_line, of_asking}
 use Rattle.overlap_law.proofs.StandingBefore.{Stands, disturbs, stands_begins, stands_item, stands_stays}
 use Rattle.overlap_law.proofs.StandingInRuns.{StandsOn, all_calm, only_own, stands_keeps, stands_starts, writer}
 use Rattle.overlap_law.proofs.StandingMoments.{first_none}
@@ -96,7 +96,7 @@ pub items_moved : (history : List HistEvent) (req one other : ℕ) (spec its : V
 items_moved history req one other spec its vid same items =
     subst (HaveItems history req other) same (subst (λ (v : ℕ). HaveItems history req v spec) vid items)
 
-module _ (script : List Statement) (range : RunsAreInRange script) (events : List Event) (start : MomentWithPast)
+module _ (script : List Statement) (range : RunsAreInRange script) (events : List Move) (start : MomentWithPast)
     (ran : run_with_past script events ≡ Some start) where
   begun : Began script start.world
   begun = began-with_past script events start ran
@@ -113,6 +113,7 @@ module _ (script : List Statement) (range : RunsAreInRange script) (events : Lis
   first_ends req (EntryIsPut entry) = refl
   first_ends req RecoveryTicks = refl
   first_ends req WorkIsRetried = refl
+  first_ends req (ClientAsks number asks) = refl
 
   module _ (on : SteppingNode) (is : IsStepping script start.world on) (by : StepsByChanges on.cause) (so_far : StepState)
       (leads : LeadsInStep on (first_in_step on) so_far) where
@@ -213,16 +214,18 @@ module _ (script : List Statement) (range : RunsAreInRange script) (events : Lis
         reply got among)
 
     other_untold : (q : ℕ) (now : Host) → tree.get start.world.hosts q ≡ Some now → q ≢ on.n → (req : ℕ) (request : Request)
-        → tree.get now.node.requests req ≡ Some request → HasNone (ends_write_of req) told
-    other_untold q now there apart req request got =
+        → tree.get now.node.requests req ≡ Some request → is_of_client request.course ≡ false → HasNone (ends_write_of req) told
+    other_untold q now there apart req request got none =
         ends_of_writes.replies_none req script (world_at_cause start.world on.cause) (check_write_at start.world on.cause)
         so_far.outputs.replies
         (λ reply among same.
         let (its, disk, at) = (asked script range start.world begun on.n on.host is.there is.up on.cause (by_changes on.cause by) is.caused
         so_far leads).replied reply among in
+        let here = are_scripts script range.is_script start.world begun q now there req request got none in
         others_unreplied script on.n q on.host.incarnation now.incarnation req its request.session apart
-        (subst (λ (k : ℕ). IsAskedIn script on.n on.host.incarnation k its) same at)
-        (are_asked script start.world begun q now there req request got))
+        (by_line script on.n on.host.incarnation req its
+        (subst (λ (k : ℕ). IsAskedBy script on.n on.host.incarnation k its) same at) (of_asking script req request.session here.asking))
+        here)
 
     module _ (req session : ℕ) (check : Check) (index : ℕ) (value : List ℕ) where
       abbrev HasIt : Host → Type 0
@@ -259,6 +262,6 @@ module _ (script : List Statement) (range : RunsAreInRange script) (events : Lis
           (λ (own : (q ≡ on.n) × (host_with_node on.host so_far.node ≡ now)).
           own_items (subst HasIt (sym own.1) got) (subst HasTo (sym own.1) has))
           (λ (other : (q ≢ on.n) × (tree.get start.world.hosts q ≡ Some now)).
-          had_items req (other_untold q now other.1 other.0 req (record { session = session; course = Checking check }) got) q now other.1
-          up session check got)
+          had_items req (other_untold q now other.1 other.0 req (record { session = session; course = Checking check }) got refl) q now
+          other.1 up session check got)
           (get-insert_cases start.world.hosts on.n (host_with_node on.host so_far.node) q now at)

@@ -57,15 +57,16 @@ use Rattle.overlap_law.specs.RequestsOfScript.{IsCourseOfAsk, IsStageOfAsk}
 use Rattle.overlap_law.proofs.CausedWorks.{IsNotServed}
 use Rattle.overlap_law.proofs.CheckedReplies.{comes_by}
 use Rattle.overlap_law.proofs.CheckedWorks.{as_it_was}
-use Rattle.overlap_law.proofs.CoursesOfAsks.{IsPlacedIn, course_placed}
-use Rattle.overlap_law.proofs.CoursesOfScript.{asked_by, BeganOn, requests_placed}
+use Rattle.overlap_law.proofs.CoursesOfAsks.{course_placed, placed_by_ask}
+use Rattle.overlap_law.proofs.CoursesOfScript.{asked_by, BeganOn}
 use Rattle.overlap_law.proofs.CoursesStepOn.{IsKeptByCourses, IsSoAmong, IsSoIn, change_so}
-use Rattle.overlap_law.proofs.DisksOfWriters.{on_open_disk, stage_none}
+use Rattle.overlap_law.proofs.DisksOfWriters.{on_open_disk, stage_none, of_writer}
 use Rattle.overlap_law.proofs.ItemsOfReplies.{is_check_at}
 use Rattle.overlap_law.proofs.KnownSteps.{together, told_below}
 use Rattle.overlap_law.proofs.StandingSteps.{placed, sound}
 use Rattle.overlap_law.proofs.WholeInRuns.{may_change, sound_here}
 use Rattle.overlap_law.proofs.WorksCome.{ComesNow, works_come}
+use Rattle.overlap_law.proofs.PlacedOfScript.{placed_of_script}
 
 -- what a check asks
 check_is : (o : Option Statement) → option_map_or is_check o false ≡ true
@@ -141,8 +142,7 @@ module _ (script : List Statement) (range : RunsAreInRange script) (world : Worl
 
   pub was_check : WasCheck
   was_check =
-      let (start, at, course) = subst (IsPlacedIn (asked_by script) (BeganOn script world.guests) req host.node.sessions) had
-      (requests_placed script range world began n host there req) in
+      let (start, at, course) = placed_of_script script range world began n host there req was had (of_writer script req (inr checks)) in
       by_course session_disk start was.course refl course
     where
       session_disk : Option Disk
@@ -263,8 +263,10 @@ module _ (script : List Statement) (range : RunsAreInRange script) (world : Worl
         → (start : Option ℕ) × BeganOn script (progress_at_cause cause world) req start
         × IsCourseOfAsk (asked_by script req) (session_in session so_far).disk start course
     placed_so session course got =
-        course_placed (asked_by script) (BeganOn script (progress_at_cause cause world)) session req course so_far got
-        (placed script range world began n host there up cause not_served caused so_far leads)
+        placed_by_ask (asked_by script) (BeganOn script (progress_at_cause cause world)) req (asks.Vdi disk_commands.Check) asked_so
+        (session_in session so_far).disk course
+        (course_placed (asked_by script) (BeganOn script (progress_at_cause cause world)) session req course so_far got
+        (placed script range world began n host there up cause not_served caused so_far leads))
 
     goes_on-from : (session number : ℕ) (work : Work) (attempt : Attempt) (status : Status) (bytes : List ℕ) (check : Check)
         (step : CheckStep) → EndsWork (input_of_cause cause) host.node so_far session req number work attempt status (Checking check) bytes

@@ -1,14 +1,16 @@
 -- A command that begins: its entry is put, and a close lets the session's disk go.
 use Rattle.object_id.specs.declared.entry.Origin.TheVariants.{Fresh, SnapshotOf, CloneOf}
 use Rattle.overlap_law.proofs.SessionCommands.{begins-own}
-use Rattle.std.proofs.Common.{◌≡◌, ◌≢◌, inl, inr, ⊎_elim, ℕ, ◌+◌, Bool, true, false, List, [], ◌∷◌, ◌++◌, Option, Some, None, refl, sym, ap, subst, ◌∙◌, arith, option_map, unwrap_or}
+use Rattle.std.proofs.Common.{◌≡◌, ◌≢◌, inl, inr, ⊎_elim, ℕ, ◌+◌, Bool, true, false, List, [], ◌∷◌, ◌++◌, Option, Some, None, refl, sym, ap}
+use Rattle.std.proofs.Common.{subst, ◌∙◌, arith, option_map, unwrap_or}
 use Rattle.std.specs.FinMap as tree
 use Rattle.std.proofs.lemmas.Option.{same_Some}
 use Rattle.proof_tools.proofs.FiniteMaps.{get-insert_same, get-insert_cases}
 use Rattle.object_id.specs.declared.node.NodeId.{NodeId}
 use Rattle.object_id.specs.declared.oid.Vid.{Vid}
 use Rattle.object_id.specs.declared.entry.Entry.{Entry}
-use Rattle.object_id.specs.declared.entry.Entry.TheVariants.{Recovered, Unlock, Format, Join, Leave, Reweight, Reserve, Publish, Clone, Snapshot, Delete, Lock}
+use Rattle.object_id.specs.declared.entry.Entry.TheVariants.{Recovered, Unlock, Format, Join, Leave, Reweight, Reserve, Publish, Clone}
+use Rattle.object_id.specs.declared.entry.Entry.TheVariants.{Snapshot, Delete, Lock}
 use Rattle.epoch_log.specs.Epochs.{epoch_of}
 use Rattle.inode.specs.Layout.{Content}
 use Rattle.vdi_directory.specs.Decisions.{log_effects}
@@ -31,7 +33,8 @@ use Rattle.sheep_node.specs.Courses.{inode_open, disk_after, after_command_step}
 use Rattle.sheep_node.specs.Changes.{Arrival, Outcome, outcome_of_command}
 use Rattle.overlap_law.specs.AwaitedEntries.{IsCommandEntry, IsSessionsEntry, IsSessionsStage}
 use Rattle.overlap_law.specs.CommandDisks.{opened_as, opened_in}
-use Rattle.overlap_law.specs.WriterClaims.{IsStageKept, LetsGo, IsDiskKept, IsUnlockKept, HasClaims, IsFirstEntry, IsPublicationKept, HasLockYet}
+use Rattle.overlap_law.specs.WriterClaims.{IsStageKept, LetsGo, IsDiskKept, IsUnlockKept, HasClaims, IsFirstEntry, IsPublicationKept}
+use Rattle.overlap_law.specs.WriterClaims.{HasLockYet}
 use Rattle.overlap_law.specs.Writers.{unlocks}
 use Rattle.overlap_law.proofs.AwaitedChanges.{Requests, AreAwaitedSoFar, none_on_the_way}
 use Rattle.overlap_law.proofs.AwaitedCommands.{is_command}
@@ -41,7 +44,8 @@ use Rattle.overlap_law.proofs.ClaimUnlocks.{unlocked_claims}
 use Rattle.overlap_law.proofs.ClaimCommands.{IsDiskSafe, AreSafe, begins_kept, IsUnseen}
 use Rattle.overlap_law.proofs.CountedEntries.{times}
 use Rattle.overlap_law.proofs.KeptIds.{lock-writer, lock_yet}
-use Rattle.overlap_law.proofs.ClaimRequests.{IsReadOf, HasSoFar, IsNextKept, IsSoleIn, none_kept, counted_from, safe_disks, stepped, put_there, reply_next, unpublished}
+use Rattle.overlap_law.proofs.ClaimRequests.{IsReadOf, HasSoFar, IsNextKept, IsSoleIn, none_kept, counted_from, safe_disks, stepped}
+use Rattle.overlap_law.proofs.ClaimRequests.{put_there, reply_next, unpublished}
 
 module _ (read unread : List Entry) (input : Input) (node : Node) (meets : MeetsCommands read input node) (log : List Entry) (from : ℕ)
     (reads : IsReadOf log read unread from input node) where
@@ -104,7 +108,8 @@ module _ (read unread : List Entry) (input : Input) (node : Node) (meets : Meets
     begun_stage : (outbox : List Entry) → HasClaims log outbox read from node.me so_far.node.requests so_far.node.sessions → (entry : Entry)
         → step.op.stage ≡ Asked entry → IsFirstEntry entry
     begun_stage outbox has entry at =
-        (subst (IsStageKept log outbox read from node.me session (opened_as (disk_after (disk_change_at step.op.stage) (session_in session so_far).disk))) at
+        (subst (IsStageKept log outbox read from node.me session (opened_as
+        (disk_after (disk_change_at step.op.stage) (session_in session so_far).disk))) at
         (begins_kept log outbox read from node.me session step begins_unseen (session_in session so_far).disk ask (begins_safe outbox has)
         arrival.refused is).stage).first
 
@@ -120,7 +125,8 @@ module _ (read unread : List Entry) (input : Input) (node : Node) (meets : Meets
             = ap (λ (s : OpStep). s.op.stage) (same_Some (first_step node.me session entry) step made) ∙ at in
             cc (same)
 
-        by_disk : (disk : Option Disk) → option_map (first_step node.me session) (first_entry node.me session (inode_open disk) disk_commands.Close) ≡ Some step
+        by_disk : (disk : Option Disk)
+            → option_map (first_step node.me session) (first_entry node.me session (inode_open disk) disk_commands.Close) ≡ Some step
             → (d : Disk) × (disk ≡ Some d) × (Unlock by of id ≡ unlock_of node.me session d.inode.vid)
         by_disk None made = absurd (cc (made))
         by_disk (Some disk) made = (disk, refl, sym (first (unlock_of node.me session disk.inode.vid) made))
@@ -130,13 +136,17 @@ module _ (read unread : List Entry) (input : Input) (node : Node) (meets : Meets
         taken None tag made = cc (made)
         taken (Some inode) tag made = let same = first (Reserve node.me session inode.name (SnapshotOf tag)) made in cc (same)
 
-        by_ask : (ask : VdiAsk) → option_map (first_step node.me session) (first_entry node.me session (inode_open (session_in session so_far).disk) ask) ≡ Some step
+        by_ask : (ask : VdiAsk)
+            → option_map (first_step node.me session) (first_entry node.me session (inode_open (session_in session so_far).disk) ask)
+            ≡ Some step
             → (d : Disk) × ((session_in session so_far).disk ≡ Some d) × (Unlock by of id ≡ unlock_of node.me session d.inode.vid)
-        by_ask (disk_commands.Create name spec) made = let same = first (Reserve node.me session name (Fresh spec)) made in absurd (cc (same))
+        by_ask (disk_commands.Create name spec) made =
+            let same = first (Reserve node.me session name (Fresh spec)) made in absurd (cc (same))
         by_ask (disk_commands.Attach name tag) made = let same = first (Lock node.me session name tag) made in absurd (cc (same))
         by_ask disk_commands.Close made = by_disk (session_in session so_far).disk made
         by_ask (disk_commands.Snapshot tag) made = absurd (taken (inode_open (session_in session so_far).disk) tag made)
-        by_ask (disk_commands.Clone base tag name) made = let same = first (Reserve node.me session name (CloneOf base tag)) made in absurd (cc (same))
+        by_ask (disk_commands.Clone base tag name) made =
+            let same = first (Reserve node.me session name (CloneOf base tag)) made in absurd (cc (same))
         by_ask (disk_commands.Delete name tag) made = let same = first (Delete node.me session name tag) made in absurd (cc (same))
         by_ask disk_commands.Check made = absurd (cc (made))
 
@@ -144,13 +154,15 @@ module _ (read unread : List Entry) (input : Input) (node : Node) (meets : Meets
     moved = after_command_step session req step so_far
 
     -- the lock's end is put: the command lets the disk go
-    close_kept : (disk : Disk) → (session_in session so_far).disk ≡ Some disk → step.op.stage ≡ Asked (unlock_of node.me session disk.inode.vid)
+    close_kept : (disk : Disk) → (session_in session so_far).disk ≡ Some disk
+        → step.op.stage ≡ Asked (unlock_of node.me session disk.inode.vid)
         → HasClaims log (so_far.node.outbox ++ unlock_of node.me session disk.inode.vid ∷ []) read from node.me
         (after_command_step session req step so_far).node.requests (after_command_step session req step so_far).node.sessions
     close_kept disk opened at =
         unlocked_claims log read from node.me so_far.node.outbox moved.node.requests moved.node.sessions session disk.inode.vid
         (may disk.snapshot (begins_safe so_far.node.outbox has disk opened))
-        (unpublished read unread input node meets log from reads so_far.node.outbox moved.node.requests moved.node.sessions (begins_in so_far.node.outbox has) unlock (λ session opened made never. never))
+        (unpublished read unread input node meets log from reads so_far.node.outbox moved.node.requests moved.node.sessions
+        (begins_in so_far.node.outbox has) unlock (λ session opened made never. never))
         own_stage own_disk own_yet (begins_in so_far.node.outbox has)
       where
         unlock : Entry
@@ -182,8 +194,9 @@ module _ (read unread : List Entry) (input : Input) (node : Node) (meets : Meets
             let this = is_this q request op got command of in
             let course : Commanding step.op ≡ Commanding op = sym (ap (λ (r : Request). r.course) this.1) ∙ command in
             let same : step.op ≡ op = cc (course) in
-            subst (IsStageKept log (so_far.node.outbox ++ unlock ∷ []) read from node.me request.session (opened_in request.session moved.node.sessions))
-            (sym at ∙ ap (λ (o : Op). o.stage) same) (record { first = tt; granted = λ place after got vid granted. tt; for_disk = tt })
+            subst (IsStageKept log (so_far.node.outbox ++ unlock ∷ []) read from node.me request.session
+            (opened_in request.session moved.node.sessions)) (sym at ∙ ap (λ (o : Op). o.stage) same)
+            (record { first = tt; granted = λ place after got vid granted. tt; for_disk = tt })
 
         after : Option Disk
         after = disk_after (disk_change_at step.op.stage) (session_in session so_far).disk
@@ -210,9 +223,11 @@ module _ (read unread : List Entry) (input : Input) (node : Node) (meets : Meets
             (yet_here disk.snapshot (ap (λ (e : Disk). e.snapshot) same ∙ working) (begins_safe so_far.node.outbox has disk opened))
 
         own_disk : (d : Disk) → disk_of session moved.node.sessions ≡ Some d
-            → IsDiskKept log (so_far.node.outbox ++ unlock_of node.me session disk.inode.vid ∷ []) read node.me moved.node.requests session d.snapshot d.inode
-        own_disk d got = subst (λ (e : Disk). IsDiskKept log (so_far.node.outbox ++ unlock ∷ []) read node.me moved.node.requests session e.snapshot e.inode)
-            (here d got) (by_kind disk.snapshot (begins_safe so_far.node.outbox has disk opened))
+            → IsDiskKept log (so_far.node.outbox ++ unlock_of node.me session disk.inode.vid ∷ []) read node.me moved.node.requests session
+            d.snapshot d.inode
+        own_disk d got =
+            subst (λ (e : Disk). IsDiskKept log (so_far.node.outbox ++ unlock ∷ []) read node.me moved.node.requests session e.snapshot
+            e.inode) (here d got) (by_kind disk.snapshot (begins_safe so_far.node.outbox has disk opened))
           where
             by_kind : (b : Bool) → IsDiskSafe log so_far.node.outbox read from node.me session b disk.inode
                 → IsDiskKept log (so_far.node.outbox ++ unlock ∷ []) read node.me moved.node.requests session b disk.inode
@@ -243,7 +258,8 @@ module _ (read unread : List Entry) (input : Input) (node : Node) (meets : Meets
         puts entry other never =
             begins_in (so_far.node.outbox ++ entry ∷ [])
             (more_claims log read from node.me so_far.node.outbox so_far.node.requests so_far.node.sessions entry other
-            (unpublished read unread input node meets log from reads so_far.node.outbox so_far.node.requests so_far.node.sessions has entry never) has)
+            (unpublished read unread input node meets log from reads so_far.node.outbox so_far.node.requests so_far.node.sessions has entry
+            never) has)
 
         by_entry : (entry : Entry) → IsFirstEntry entry → step.op.stage ≡ Asked entry
             → HasClaims log (so_far.node.outbox ++ entry ∷ []) read from node.me moved.node.requests moved.node.sessions
@@ -260,10 +276,11 @@ module _ (read unread : List Entry) (input : Input) (node : Node) (meets : Meets
         by_entry (Lock by of name tag) first at = puts (Lock by of name tag) (λ s vid. refl) (λ s opened made never. never)
         by_entry (Unlock by of id) first at =
             let (disk, opened, same) = closes_disk by of id at in
-            subst (λ (e : Entry). HasClaims log (so_far.node.outbox ++ e ∷ []) read from node.me moved.node.requests moved.node.sessions) (sym same)
-            (close_kept disk opened (at ∙ ap Asked same))
+            subst (λ (e : Entry). HasClaims log (so_far.node.outbox ++ e ∷ []) read from node.me moved.node.requests moved.node.sessions)
+            (sym same) (close_kept disk opened (at ∙ ap Asked same))
 
-    pub begins_next : (act : OpAct) → IsAwaitedAtOpStage act step.op.stage → IsNext (after_command_step session req step so_far) req (outcome_of_command act)
+    pub begins_next : (act : OpAct) → IsAwaitedAtOpStage act step.op.stage
+        → IsNext (after_command_step session req step so_far) req (outcome_of_command act)
     unfolding begin_command
     begins_next (op_acts.Work work) awaited = tt
     begins_next (op_acts.Reply reply) awaited = reply_next read unread input node meets log from reads so_far session req step reply awaited
@@ -280,6 +297,7 @@ module _ (read unread : List Entry) (input : Input) (node : Node) (meets : Meets
             → (wanted : Entry) × (step.op.stage ≡ Asked wanted)
         asked_at ask is = by_entry (first_entry node.me session (inode_open (session_in session so_far).disk) ask) is
           where
-            by_entry : (entry : Option Entry) → option_map (first_step node.me session) entry ≡ Some step → (wanted : Entry) × (step.op.stage ≡ Asked wanted)
+            by_entry : (entry : Option Entry) → option_map (first_step node.me session) entry ≡ Some step
+                → (wanted : Entry) × (step.op.stage ≡ Asked wanted)
             by_entry None is = absurd (cc (is))
             by_entry (Some entry) is = (entry, sym (ap (λ (s : OpStep). s.op.stage) (same_Some (first_step node.me session entry) step is)))

@@ -1,5 +1,6 @@
 -- Changes of requests, of sessions and of the outbox, and what each has to bring so that sessions keep what their works rest on.
-use Rattle.std.proofs.Common.{◌≡◌, ◌≢◌, ◌⊎◌, inl, inr, ⊎_elim, ℕ, ◌+◌, ◌≤◌, ◌==◌, Bool, true, false, ◌&&◌, ◌||◌, List, [], ◌∷◌, ◌++◌, Option, Some, None, unwrap_or, refl, sym, ap, subst, ◌∙◌, arith}
+use Rattle.std.proofs.Common.{◌≡◌, ◌≢◌, ◌⊎◌, inl, inr, ⊎_elim, ℕ, ◌+◌, ◌≤◌, ◌==◌, Bool, true, false, ◌&&◌, ◌||◌, List, [], ◌∷◌, ◌++◌}
+use Rattle.std.proofs.Common.{Option, Some, None, unwrap_or, refl, sym, ap, subst, ◌∙◌, arith}
 use Rattle.std.specs.List.{list_any}
 use Rattle.std.specs.Ordering.{nat_cmp}
 use Rattle.std.specs.FinMap as tree
@@ -23,7 +24,8 @@ use Rattle.sheep_node.specs.SessionQueues.{session_among}
 use Rattle.sheep_node.specs.State.{new_session}
 use Rattle.sheep_node.proofs.QueueChanges.{same_view}
 use Rattle.overlap_law.specs.CommandDisks.{opened_as, opened_in}
-use Rattle.overlap_law.specs.WriterClaims.{HasLock, IsGivenNoMore, IsNamed, IsStageKept, LetsGo, IsLetGo, IsDiskKept, IsUnlockKept, HasClaims, HasLockYet, IsHeldYet}
+use Rattle.overlap_law.specs.WriterClaims.{HasLock, IsGivenNoMore, IsNamed, IsStageKept, LetsGo, IsLetGo, IsDiskKept, IsUnlockKept}
+use Rattle.overlap_law.specs.WriterClaims.{HasClaims, HasLockYet, IsHeldYet}
 use Rattle.overlap_law.specs.Writers.{unlocks}
 use Rattle.overlap_law.proofs.AwaitedChanges.{Requests}
 use Rattle.overlap_law.proofs.AwaitedCommands.{is_command}
@@ -94,7 +96,8 @@ module _ (requests later : Requests) (req : ℕ) (others : (q : ℕ) → q ≢ r
       (cases_eq goes.req req)
 
 -- of a disk
-pub disk_through : (log outbox read : List Entry) (me : NodeId) (requests later : Requests) (session : ℕ) (snapshot : Bool) (inode : Content)
+pub disk_through : (log outbox read : List Entry) (me : NodeId) (requests later : Requests) (session : ℕ) (snapshot : Bool)
+    (inode : Content)
     → (IsLetGo requests session inode.vid → IsLetGo later session inode.vid) → IsDiskKept log outbox read me requests session snapshot inode
     → IsDiskKept log outbox read me later session snapshot inode
 disk_through log outbox read me requests later session true inode goes is = is
@@ -112,7 +115,8 @@ module _ (log read : List Entry) (from : ℕ) (me : NodeId) where
   module _ (outbox : List Entry) (requests : Requests) where
     -- ---- sessions change, but not in their disks
 
-    alike_claims : (old new : Sessions) → ((q : ℕ) → disk_of q new ≡ disk_of q old) → Claims outbox requests old → Claims outbox requests new
+    alike_claims : (old new : Sessions) → ((q : ℕ) → disk_of q new ≡ disk_of q old) → Claims outbox requests old
+        → Claims outbox requests new
     alike_claims old new same has = record {
       unlocked = has.unlocked;
       commands = λ req request op there command.
@@ -131,7 +135,8 @@ module _ (log read : List Entry) (from : ℕ) (me : NodeId) where
     module _ (sessions : Sessions) (number : ℕ) (after : Session) (old new : Disk) (opened : disk_of number sessions ≡ Some old)
         (changed : after.disk ≡ Some new) (snapshot : new.snapshot ≡ old.snapshot) (id : new.inode.vid ≡ old.inode.vid)
         (name : new.inode.name ≡ old.inode.name) where
-      kept_so : (s : Bool) → IsDiskKept log outbox read me requests number s old.inode → IsDiskKept log outbox read me requests number s new.inode
+      kept_so : (s : Bool) → IsDiskKept log outbox read me requests number s old.inode
+          → IsDiskKept log outbox read me requests number s new.inode
       kept_so true is = subst (IsGivenNoMore log) (sym id) is
       kept_so false (named, is) = (
         subst (λ (v : ℕ). IsNamed log v new.inode.name) (sym id) (subst (IsNamed log old.inode.vid) (sym name) named),
@@ -170,8 +175,8 @@ module _ (log read : List Entry) (from : ℕ) (me : NodeId) where
             subst (λ (n : ℕ). IsDiskKept log outbox read me requests n disk.snapshot disk.inode) (sym same)
             (subst (λ (d : Disk). IsDiskKept log outbox read me requests number d.snapshot d.inode) here
             (kept_so new.snapshot
-            (subst (λ (b : Bool). IsDiskKept log outbox read me requests number b old.inode) (sym snapshot) (has.disks number old opened)))))
-            (λ (apart : q ≢ number). has.disks q disk (sym (then_there q apart) ∙ got))
+            (subst (λ (b : Bool). IsDiskKept log outbox read me requests number b old.inode) (sym snapshot)
+            (has.disks number old opened))))) (λ (apart : q ≢ number). has.disks q disk (sym (then_there q apart) ∙ got))
             (cases_eq q number);
         held_yet = λ q disk got. ⊎_elim
             (λ (same : q ≡ number).
@@ -194,8 +199,8 @@ module _ (log read : List Entry) (from : ℕ) (me : NodeId) where
           unlocked = has.unlocked;
           commands = λ q request op got command. ⊎_elim
               (λ (own : (q ≡ req) × (new ≡ request)).
-              subst (λ (r : Request). r.course ≡ Commanding op → IsStageKept log outbox read from me r.session (opened_in r.session sessions) op.stage)
-              own.1 (kept op) command)
+              subst (λ (r : Request). r.course ≡ Commanding op → IsStageKept log outbox read from me r.session
+              (opened_in r.session sessions) op.stage) own.1 (kept op) command)
               (λ (other : (q ≢ req) × (tree.get requests q ≡ Some request)). has.commands q request op other.1 command)
               (get-insert_cases requests req new q request got);
           disks = λ q disk opened.
@@ -259,8 +264,8 @@ module _ (log read : List Entry) (from : ℕ) (me : NodeId) where
           unlocked = has.unlocked;
           commands = λ q request at got command. ⊎_elim
               (λ (here : (q ≡ req) × (made ≡ request)).
-              subst (λ (r : Request). r.course ≡ Commanding at → IsStageKept log outbox read from me r.session (opened_in r.session then) at.stage)
-              here.1 (λ is. let same : op ≡ at = cc (is) in
+              subst (λ (r : Request). r.course ≡ Commanding at → IsStageKept log outbox read from me r.session (opened_in r.session then)
+              at.stage) here.1 (λ is. let same : op ≡ at = cc (is) in
               subst (λ (o : Op). IsStageKept log outbox read from me session (opened_in session then) o.stage) same here_kept) command)
               (λ (there : (q ≢ req) × (tree.get requests q ≡ Some request)). ⊎_elim
               (λ (same : request.session ≡ session). absurd (there.0 (sole q request there.1 (command_so request.course at command) same)))
@@ -315,11 +320,14 @@ module _ (log read : List Entry) (from : ℕ) (me : NodeId) where
 
       -- where no entry that is to be published is this one
       pub stage_behind : (session : ℕ) (opened : Option (Bool × ℕ)) (stage : OpStage) → PutsNoMore outbox (outbox ++ last ∷ []) stage
-          → IsStageKept log outbox read from me session opened stage → IsStageKept log (outbox ++ last ∷ []) read from me session opened stage
-      stage_behind session opened stage = stage_over log outbox (outbox ++ last ∷ []) read from me session (kept_behind session) opened stage
+          → IsStageKept log outbox read from me session opened stage
+          → IsStageKept log (outbox ++ last ∷ []) read from me session opened stage
+      stage_behind session opened stage =
+          stage_over log outbox (outbox ++ last ∷ []) read from me session (kept_behind session) opened stage
 
       pub more_claims : ((req : ℕ) (request : Request) (op : Op) → tree.get requests req ≡ Some request → request.course ≡ Commanding op
-          → PutsNoMore outbox (outbox ++ last ∷ []) op.stage) → Claims outbox requests sessions → Claims (outbox ++ last ∷ []) requests sessions
+          → PutsNoMore outbox (outbox ++ last ∷ []) op.stage) → Claims outbox requests sessions
+          → Claims (outbox ++ last ∷ []) requests sessions
       more_claims no_more has = record {
         unlocked = λ session vid there.
             subst (IsUnlockKept log me session vid) (sym (as_many session vid))
@@ -328,7 +336,8 @@ module _ (log read : List Entry) (from : ℕ) (me : NodeId) where
             stage_behind request.session (opened_in request.session sessions) op.stage (no_more req request op there command)
             (has.commands req request op there command);
         disks = λ q disk opened.
-            disk_over log outbox (outbox ++ last ∷ []) read from me q (kept_behind q) requests disk.snapshot disk.inode (has.disks q disk opened);
+            disk_over log outbox (outbox ++ last ∷ []) read from me q (kept_behind q) requests disk.snapshot disk.inode
+            (has.disks q disk opened);
         held_yet = λ q disk opened working there.
             has.held_yet q disk opened working (subst (λ (k : ℕ). 1 ≤ k) (as_many q disk.inode.vid) there);
       }

@@ -1,6 +1,7 @@
--- What a command comes to rests on what it had: with a grant on what was granted, with a work that is done on what that went on for, with its
--- last entry on the reservation; and what it leaves open is the session's.
-use Rattle.std.proofs.Common.{◌≡◌, ℕ, ◌+◌, ◌≤◌, Bool, true, false, List, take, Option, Some, None, IfSome, option_map, option_and_then, refl, sym, ap, subst, ◌∙◌, arith}
+-- What a command comes to rests on what it had: with a grant on what was granted, with a work that is done on what that went on for, with
+-- its last entry on the reservation; and what it leaves open is the session's.
+use Rattle.std.proofs.Common.{◌≡◌, ℕ, ◌+◌, ◌≤◌, Bool, true, false, List, take, Option, Some, None, IfSome, option_map, option_and_then}
+use Rattle.std.proofs.Common.{refl, sym, ap, subst, ◌∙◌, arith}
 use Rattle.std.specs.List.{slice_get}
 use Rattle.std.specs.Option.{option_map_or}
 use Rattle.std.proofs.lemmas.Option.{same_Some}
@@ -23,14 +24,17 @@ use Rattle.vdi_directory.specs.Decisions.{decision_after}
 use Rattle.vdi_directory.specs.Effects.{header_of}
 use Rattle.guest_driver.specs.declared.disk.Disk.{Disk}
 use Rattle.vdi_ops.specs.Entries.{first_entry, command_refusal}
-use Rattle.vdi_ops.specs.Op.{Task, Opening, WritingBack, Tagging, Copying, Making, OpStage, Asked, Working, Publishing, Answered, Stays, Opens, disk_change_at, Op, OpStep}
-use Rattle.vdi_ops.specs.Steps.{first_step, begin_command, change_without_grant, tag_step, copy_step, step_after_grant, step_after_decision, decided_at, on_decision, task_done, done_at, op_on_done}
+use Rattle.vdi_ops.specs.Op.{Task, Opening, WritingBack, Tagging, Copying, Making, OpStage, Asked, Working, Publishing, Answered, Stays}
+use Rattle.vdi_ops.specs.Op.{Opens, disk_change_at, Op, OpStep}
+use Rattle.vdi_ops.specs.Steps.{first_step, begin_command, change_without_grant, tag_step, copy_step, step_after_grant, step_after_decision}
+use Rattle.vdi_ops.specs.Steps.{decided_at, on_decision, task_done, done_at, op_on_done}
 use Rattle.sheep_node.specs.Courses.{inode_open, disk_after}
 use Rattle.sheep_node.specs.Guests.{seen_by_command}
 use Rattle.sheep_node.proofs.ValidSteps.{given}
 use Rattle.overlap_law.specs.AwaitedEntries.{IsCommandEntry}
 use Rattle.overlap_law.specs.CommandDisks.{opened_as, IsOpenAtLast, IsOpenAtTask, IsOpenAtStage}
-use Rattle.overlap_law.specs.WriterClaims.{HasLock, HasReservation, HasPlace, IsGivenNoMore, IsNamed, IsFirstEntry, IsForDisk, IsGrantKept, IsAskedSo, IsMakingKept, IsTaskKept, IsPublicationKept, IsReplacing, IsStageKept, LetsGoBy}
+use Rattle.overlap_law.specs.WriterClaims.{HasLock, HasReservation, HasPlace, IsGivenNoMore, IsNamed, IsFirstEntry, IsForDisk, IsGrantKept}
+use Rattle.overlap_law.specs.WriterClaims.{IsAskedSo, IsMakingKept, IsTaskKept, IsPublicationKept, IsReplacing, IsStageKept, LetsGoBy}
 
 -- an entry isn't in the log from a place on, which is where the node is to read of it
 abbrev pub IsUnseen : List Entry → ℕ → Entry → Type 0
@@ -60,7 +64,8 @@ module _ (log outbox read : List Entry) (from : ℕ) (me : NodeId) (session : �
   none_open : AreSafe None
   none_open open_disk opened = absurd (cc (opened))
 
-  one_open : (snapshot : Bool) (inode : Content) → IsDiskSafe snapshot inode → AreSafe (Some (record { inode = inode; snapshot = snapshot }))
+  one_open : (snapshot : Bool) (inode : Content) → IsDiskSafe snapshot inode
+      → AreSafe (Some (record { inode = inode; snapshot = snapshot }))
   one_open snapshot inode safe open_disk opened =
       subst (λ (d : Disk). IsDiskSafe d.snapshot d.inode) (same_Some (record { inode = inode; snapshot = snapshot }) open_disk opened) safe
 
@@ -84,7 +89,8 @@ module _ (log outbox read : List Entry) (from : ℕ) (me : NodeId) (session : �
       command_refusal (seen_by_command disk) ask ≡ None
       → option_map (first_step me session) (first_entry me session (inode_open disk) ask) ≡ Some step → IsStepKept disk step
 
-  module _ (step : OpStep) (unseen : (entry : Entry) → IsCommandEntry me entry → step.op.stage ≡ Asked entry → IsUnseen log from entry) where
+  module _ (step : OpStep) (unseen : (entry : Entry) → IsCommandEntry me entry → step.op.stage ≡ Asked entry
+      → IsUnseen log from entry) where
     -- the entry of a first step that was made is unseen
     unseen_first : (entry : Entry) → IsCommandEntry me entry → Some (first_step me session entry) ≡ Some step → IsUnseen log from entry
     unseen_first entry own is = unseen entry own (sym (ap (λ (s : OpStep). s.op.stage) (same_Some (first_step me session entry) step is)))
@@ -92,7 +98,8 @@ module _ (log outbox read : List Entry) (from : ℕ) (me : NodeId) (session : �
     closed_kept : (disk : Option Disk) → AreSafe disk → Begins disk Close step
     closed_kept None safe allowed is = absurd (cc (is))
     closed_kept (Some disk) safe allowed is =
-        given (IsStepKept (Some disk)) is (record { stage = unlock_asked (opened_as (Some disk)) (record { 0 = disk.inode.vid }); safe = safe })
+        given (IsStepKept (Some disk)) is
+        (record { stage = unlock_asked (opened_as (Some disk)) (record { 0 = disk.inode.vid }); safe = safe })
 
     taken_kept : (disk : Option Disk) (tag : List ℕ) → AreSafe disk → Begins disk (Snapshot tag) step
     taken_kept None tag safe allowed is = absurd (cc (is))
@@ -104,12 +111,14 @@ module _ (log outbox read : List Entry) (from : ℕ) (me : NodeId) (session : �
         by_kind : (b : Bool) → disk.snapshot ≡ b → IsStepKept (Some disk) step
         by_kind true snapshot =
             let refused =
-            ap (λ (b : Bool). command_refusal (Some (record { inode = disk.inode; snapshot = b })) (Snapshot tag)) (sym snapshot) ∙ allowed in
+            ap (λ (b : Bool). command_refusal (Some (record { inode = disk.inode; snapshot = b })) (Snapshot tag)) (sym snapshot)
+            ∙ allowed in
             absurd (cc (refused))
         by_kind false working =
             let named = (subst (λ (b : Bool). IsDiskSafe b disk.inode) working (safe disk refl)).0 in
             given (IsStepKept (Some disk)) is (record {
-              stage = unseen_asked (opened_as (Some disk)) entry (unseen_first entry refl is) tt (disk.inode.vid, ap (λ (b : Bool). Some (b, disk.inode.vid)) working, named);
+              stage = unseen_asked (opened_as (Some disk)) entry (unseen_first entry refl is) tt
+                  (disk.inode.vid, ap (λ (b : Bool). Some (b, disk.inode.vid)) working, named);
               safe = safe;
             })
 
@@ -118,7 +127,8 @@ module _ (log outbox read : List Entry) (from : ℕ) (me : NodeId) (session : �
     unfolding begin_command
     begins_kept disk (Create name spec) safe allowed is =
         given (IsStepKept disk) is (record {
-          stage = unseen_asked (opened_as disk) (Reserve me session name (Fresh spec)) (unseen_first (Reserve me session name (Fresh spec)) refl is) tt tt;
+          stage = unseen_asked (opened_as disk) (Reserve me session name (Fresh spec))
+              (unseen_first (Reserve me session name (Fresh spec)) refl is) tt tt;
           safe = safe;
         })
     begins_kept disk (Attach name tag) safe allowed is =
@@ -137,7 +147,8 @@ module _ (log outbox read : List Entry) (from : ℕ) (me : NodeId) (session : �
         })
     begins_kept disk (Delete name tag) safe allowed is =
         given (IsStepKept disk) is (record {
-          stage = unseen_asked (opened_as disk) (entries.Delete me session name tag) (unseen_first (entries.Delete me session name tag) refl is) tt tt;
+          stage = unseen_asked (opened_as disk) (entries.Delete me session name tag)
+              (unseen_first (entries.Delete me session name tag) refl is) tt tt;
           safe = safe;
         })
     begins_kept disk Check safe allowed is = absurd (cc (is))
@@ -147,7 +158,8 @@ module _ (log outbox read : List Entry) (from : ℕ) (me : NodeId) (session : �
   module _ (op : Op) (disk : Option Disk) (safe : AreSafe disk) where
     -- what was made is published
     made_kept : (vid : Vid) (entry : Entry) (made : Option Content) → IsUnseen log from entry → IsOpenAtLast (opened_as disk) entry made
-        → IsMakingKept log outbox read from me session (opened_as disk) vid entry made → IsPublicationKept log outbox read from me session (opened_as disk) entry made
+        → IsMakingKept log outbox read from me session (opened_as disk) vid entry made
+        → IsPublicationKept log outbox read from me session (opened_as disk) entry made
     made_kept vid (Format members) made unseen fits is = is
     made_kept vid (Join node zone vnodes) made unseen fits is = is
     made_kept vid (Leave node) made unseen fits is = is
@@ -159,14 +171,16 @@ module _ (log outbox read : List Entry) (from : ℕ) (me : NodeId) (session : �
     made_kept vid (entries.Clone by of) made unseen fits is =
         λ there. subst (λ (v : Vid). HasReservation log outbox me session (epoch_of read) v.0) (sym is.0) is.1
     made_kept vid (entries.Snapshot by old of) made unseen fits is =
-        subst (λ (v : Vid). IsReplacing log outbox read from me session (opened_as disk) old v (entries.Snapshot by old of) made) (sym is.0) (record {
+        subst (λ (v : Vid). IsReplacing log outbox read from me session (opened_as disk) old v (entries.Snapshot by old of) made) (sym is.0)
+        (record {
           to_put = λ there. is.1;
           of_disk = λ there. locked disk safe fits.0;
           placed = λ place after got. absurd (unseen place after got);
           named = is.2;
         })
       where
-        locked : (disk : Option Disk) → AreSafe disk → opened_as disk ≡ Some (false, old.0) → HasLock log outbox me session (epoch_of read) old.0
+        locked : (disk : Option Disk) → AreSafe disk → opened_as disk ≡ Some (false, old.0)
+            → HasLock log outbox me session (epoch_of read) old.0
         locked None safe opened = absurd (cc (opened))
         locked (Some disk) safe opened =
             let both : (disk.snapshot, disk.inode.vid) ≡ (false, old.0) = same_Some (disk.snapshot, disk.inode.vid) (false, old.0) opened in
@@ -179,7 +193,8 @@ module _ (log outbox read : List Entry) (from : ℕ) (me : NodeId) (session : �
     made_kept vid (Unlock by of old) made unseen fits is = is
 
     task_kept : (vid : Vid) (bytes : List ℕ) (task : Task)
-        → ((entry : Entry) (made : Option Content) → task ≡ Making entry made → IsUnseen log from entry) → IsOpenAtTask (opened_as disk) vid task
+        → ((entry : Entry) (made : Option Content) → task ≡ Making entry made → IsUnseen log from entry)
+        → IsOpenAtTask (opened_as disk) vid task
         → IsTaskKept log outbox read from me session (opened_as disk) vid task → IsStepKept disk (task_done op vid bytes task)
     task_kept vid bytes (Opening true ids header) unseen fits is = record { stage = tt; safe = one_open true _ is }
     task_kept vid bytes (Opening false ids header) unseen fits is = record { stage = is; safe = safe }
@@ -197,7 +212,8 @@ module _ (log outbox read : List Entry) (from : ℕ) (me : NodeId) (session : �
 
     pub goes_on_kept : (bytes : List ℕ) (step : OpStep) → op_on_done bytes op ≡ Some step
         → ((vid : Vid) (entry : Entry) (made : Option Content) → op.stage ≡ Working vid (Making entry made) → IsUnseen log from entry)
-        → IsOpenAtStage (opened_as disk) op.stage → IsStageKept log outbox read from me session (opened_as disk) op.stage → IsStepKept disk step
+        → IsOpenAtStage (opened_as disk) op.stage → IsStageKept log outbox read from me session (opened_as disk) op.stage
+        → IsStepKept disk step
     unfolding op_on_done
     goes_on_kept bytes step next unseen fits is = by_stage op.stage refl next fits is
       where
@@ -217,7 +233,8 @@ module _ (log outbox read : List Entry) (from : ℕ) (me : NodeId) (session : �
   AreSafeUnless entry disk =
       (open_disk : Disk) → disk ≡ Some open_disk → (LetsGoBy open_disk.inode.vid entry → ⊥) → IsDiskSafe open_disk.snapshot open_disk.inode
 
-  module _ (op : Op) (known : List Effect) (named : (vid : ℕ) (header : Header) → header_of known vid ≡ Some header → IsNamed log vid header.name) where
+  module _ (op : Op) (known : List Effect) (named : (vid : ℕ) (header : Header) → header_of known vid ≡ Some header
+      → IsNamed log vid header.name) where
     module _ (vid : Vid) (header : Header) (is_named : IsNamed log vid.0 header.name) where
       tagged_kept : (disk : Option Disk) (tag : List ℕ) → AreSafe disk
           → ((old : ℕ) × (opened_as disk ≡ Some (false, old)) × HasPlace log outbox me session (epoch_of read) vid.0 old)
@@ -281,7 +298,8 @@ module _ (log outbox read : List Entry) (from : ℕ) (me : NodeId) (session : �
     ended_kept disk (Unlock by of id) asked safe = none_open
 
     asked_kept : (disk : Option Disk) (entry : Entry) (decision : Decision) → IsFirstEntry entry → AreSafeUnless entry disk
-        → ((vid : Vid) → decision ≡ decisions.Granted vid → IsGrantKept log outbox read from me session (opened_as disk) (epoch_of read) vid.0 entry)
+        → ((vid : Vid) → decision ≡ decisions.Granted vid → IsGrantKept log outbox read from me session (opened_as disk) (epoch_of read)
+        vid.0 entry)
         → IfSome (step_after_decision known (inode_open disk) op entry decision) (IsStepKept disk)
     asked_kept disk entry decisions.None asked safe is = record { stage = tt; safe = ended_kept disk entry asked safe }
     asked_kept disk entry (decisions.Granted vid) asked safe is = by_header (header_of known vid.0) refl
@@ -296,7 +314,8 @@ module _ (log outbox read : List Entry) (from : ℕ) (me : NodeId) (session : �
     -- its last entry is
     module _ (entry : Entry) (got : slice_get log from ≡ Some entry) (upto : take (from + 1) log ≡ read) where
       published_kept : (disk : Option Disk) (made : Option Content) → IsOpenAtLast (opened_as disk) entry made → AreSafeUnless entry disk
-          → IsPublicationKept log outbox read from me session (opened_as disk) entry made → AreSafe (disk_after (option_map_or (Opens false) made Stays) disk)
+          → IsPublicationKept log outbox read from me session (opened_as disk) entry made
+          → AreSafe (disk_after (option_map_or (Opens false) made Stays) disk)
       published_kept disk made fits safe is = by_entry entry refl fits safe is
         where
           stays : (put : Entry) → ((vid : ℕ) → LetsGoBy vid put → ⊥) → made ≡ None → AreSafeUnless put disk
@@ -306,7 +325,8 @@ module _ (log outbox read : List Entry) (from : ℕ) (me : NodeId) (session : �
               (λ open_disk opened. safe open_disk opened (never open_disk.inode.vid))
 
           by_entry : (put : Entry) → entry ≡ put → IsOpenAtLast (opened_as disk) put made → AreSafeUnless put disk
-              → IsPublicationKept log outbox read from me session (opened_as disk) put made → AreSafe (disk_after (option_map_or (Opens false) made Stays) disk)
+              → IsPublicationKept log outbox read from me session (opened_as disk) put made
+              → AreSafe (disk_after (option_map_or (Opens false) made Stays) disk)
           by_entry (Format members) same fits safe is = absurd is
           by_entry (Join node zone vnodes) same fits safe is = absurd is
           by_entry (Leave node) same fits safe is = absurd is
@@ -330,7 +350,8 @@ module _ (log outbox read : List Entry) (from : ℕ) (me : NodeId) (session : �
           by_entry (Lock by of name tag) same fits safe is = absurd is
           by_entry (Unlock by of id) same fits safe is = absurd is
 
-      pub decided_kept : (disk : Option Disk) (decision : Decision) (step : OpStep) → on_decision known (inode_open disk) decision op ≡ Some step
+      pub decided_kept : (disk : Option Disk) (decision : Decision) (step : OpStep)
+          → on_decision known (inode_open disk) decision op ≡ Some step
           → decision ≡ decision_after (take from log) entry → IsWaitedAt entry op.stage
           → IsOpenAtStage (opened_as disk) op.stage → AreSafeUnless entry disk
           → IsStageKept log outbox read from me session (opened_as disk) op.stage → IsStepKept disk step
@@ -345,7 +366,8 @@ module _ (log outbox read : List Entry) (from : ℕ) (me : NodeId) (session : �
               subst (λ (e : Entry). IfSome (step_after_decision known (inode_open disk) op e decision) (IsStepKept disk)) (sym same)
               (asked_kept disk entry decision (subst IsFirstEntry same is.first) safe (λ vid granted.
               subst (λ (all : List Entry). IsGrantKept log outbox read from me session (opened_as disk) (epoch_of all) vid.0 entry) upto
-              ((subst (IsAskedSo log outbox read from me session (opened_as disk)) same is).granted from (omega arith) got vid (sym decided ∙ granted))))
+              ((subst (IsAskedSo log outbox read from me session (opened_as disk)) same is).granted from (omega arith) got vid
+              (sym decided ∙ granted))))
           by_stage (Working vid task) waits fits is = absurd waits
           by_stage (Publishing wanted made) same fits is =
               record {

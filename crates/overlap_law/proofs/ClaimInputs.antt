@@ -1,5 +1,6 @@
 -- What an input by itself leaves of what a node's sessions rest on, and what its step knows of the log.
-use Rattle.std.proofs.Common.{◌≡◌, ◌≢◌, ℕ, ◌≤◌, List, [], ◌∷◌, ◌++◌, All, drop, take, length, Option, Some, None, option_map, unwrap_or, refl, sym, ap, subst, ◌∙◌, append_assoc, append-nil, arith}
+use Rattle.std.proofs.Common.{◌≡◌, ◌≢◌, ℕ, ◌≤◌, List, [], ◌∷◌, ◌++◌, All, drop, take, length, Option, Some, None, option_map, unwrap_or}
+use Rattle.std.proofs.Common.{refl, sym, ap, subst, ◌∙◌, append_assoc, append-nil, arith}
 use Rattle.std.specs.Ordering.{nat_cmp}
 use Rattle.std.specs.FinMap as tree
 use Rattle.std.specs.List.{slice_get}
@@ -66,20 +67,23 @@ module _ (log after unread : List Entry) (node : Node) (has : HasClaimsAt log no
   -- the step's state, as the input leaves it
   abbrev pub IsThenClaimed : Input → StepState → Type 0
   IsThenClaimed input so_far =
-      HasClaims after so_far.node.outbox (read_after input node.peer.entries) (length node.peer.entries) node.me so_far.node.requests so_far.node.sessions
+      HasClaims after so_far.node.outbox (read_after input node.peer.entries) (length node.peer.entries) node.me so_far.node.requests
+      so_far.node.sessions
 
   same_log : after ≡ log → HasClaims after node.outbox node.peer.entries (length node.peer.entries) node.me node.requests node.sessions
   same_log same =
-      subst (λ (all : List Entry). HasClaims all node.outbox node.peer.entries (length node.peer.entries) node.me node.requests node.sessions) (sym same) has
+      subst (λ (all : List Entry). HasClaims all node.outbox node.peer.entries (length node.peer.entries) node.me node.requests
+      node.sessions) (sym same) has
 
   put_claimed : (entry : Entry) (later : List Entry) → node.outbox ≡ entry ∷ later → after ≡ log ++ entry ∷ []
       → HasClaims after later node.peer.entries (length node.peer.entries) node.me node.requests node.sessions
   put_claimed entry later first goes =
-      subst (λ (all : List Entry). HasClaims all later node.peer.entries (length node.peer.entries) node.me node.requests node.sessions) (sym goes)
-      (put_kept log later node.peer.entries (length node.peer.entries) node.me unread node.requests node.sessions entry
+      subst (λ (all : List Entry). HasClaims all later node.peer.entries (length node.peer.entries) node.me node.requests node.sessions)
+      (sym goes) (put_kept log later node.peer.entries (length node.peer.entries) node.me unread node.requests node.sessions entry
       (subst (All (IsEntryOf node.me)) first own)
       (subst (λ (outbox : List Entry). AreAwaited node.peer.entries node.me unread None node.me node.requests outbox) first awaited)
-      (subst (λ (outbox : List Entry). HasClaims log outbox node.peer.entries (length node.peer.entries) node.me node.requests node.sessions) first has))
+      (subst (λ (outbox : List Entry). HasClaims log outbox node.peer.entries (length node.peer.entries) node.me node.requests
+      node.sessions) first has))
 
   pub received_claimed : (input : Input) → LogGoes input node log after → IsThenClaimed input (input_received input (at_first node))
   unfolding entry_read on_request on_recover_tick on_back
@@ -92,10 +96,11 @@ module _ (log after unread : List Entry) (node : Node) (has : HasClaimsAt log no
       cond_either (IsThenClaimed (inputs.Lost number)) (gateways.gateway_awaits number node.gateway) (at_first node)
       (recovery_stepped (recovery_steps.recovery_on_loss number (recovery_state_of node)) (at_first node)) (same_log goes) (same_log goes)
   received_claimed (inputs.LogEntry entry) goes =
-      claims_read after node.outbox node.peer.entries (node.peer.entries ++ entry ∷ []) (length node.peer.entries) (length node.peer.entries)
-      (epoch_rises node.peer.entries entry) (omega arith) node.me node.requests node.sessions (same_log goes)
+      claims_read after node.outbox node.peer.entries (node.peer.entries ++ entry ∷ []) (length node.peer.entries)
+      (length node.peer.entries) (epoch_rises node.peer.entries entry) (omega arith) node.me node.requests node.sessions (same_log goes)
   received_claimed inputs.Put (entry, later, first, goes) =
-      subst (λ (outbox : List Entry). IsThenClaimed inputs.Put (on_put outbox (at_first node))) (sym first) (put_claimed entry later first goes)
+      subst (λ (outbox : List Entry). IsThenClaimed inputs.Put (on_put outbox (at_first node))) (sym first)
+      (put_claimed entry later first goes)
   received_claimed inputs.RecoverTick goes = same_log goes
   received_claimed inputs.RetryTick goes = same_log goes
   received_claimed (inputs.Back entries) goes = no_claims after entries (length node.peer.entries) node.me
@@ -110,7 +115,8 @@ back_received log node = no_claims log log (length log) node.me
 -- at rest again: the node is to know of what it hasn't read
 pub rests_claimed : (log outbox read : List Entry) (from : ℕ) (me : NodeId) (requests : Requests) (sessions : Sessions) → from ≤ length read
     → HasClaims log outbox read from me requests sessions → HasClaims log outbox read (length read) me requests sessions
-rests_claimed log outbox read from me requests sessions on has = claims_read log outbox read read from (length read) (omega arith) on me requests sessions has
+rests_claimed log outbox read from me requests sessions on has =
+    claims_read log outbox read read from (length read) (omega arith) on me requests sessions has
 
 -- ---- what a step knows of a log that begins with what the node has read
 
@@ -122,12 +128,13 @@ named_in : (read rest log : List Entry) → log ≡ read ++ rest → (vid : ℕ)
     → IsNamed log vid header.name
 named_in read rest log is vid header found =
     subst (λ (all : List Entry). IsNamed all vid header.name) (sym is)
-    (from_front (λ (all : List Entry). IsNamed all vid header.name) (λ all entry named. named_stays all entry vid header.name named) read rest
-    (ap (option_map (λ (h : Header). h.name)) found))
+    (from_front (λ (all : List Entry). IsNamed all vid header.name) (λ all entry named. named_stays all entry vid header.name named) read
+    rest (ap (option_map (λ (h : Header). h.name)) found))
 
 -- that of an entry that is read
 pub reads_entry : (log later : List Entry) (entry : Entry) (node : Node) → log ≡ node.peer.entries ++ entry ∷ later
-    → IsReadOf log (node.peer.entries ++ entry ∷ []) (drop (length (node.peer.entries ++ entry ∷ [])) log) (length node.peer.entries) (inputs.LogEntry entry) node
+    → IsReadOf log (node.peer.entries ++ entry ∷ []) (drop (length (node.peer.entries ++ entry ∷ [])) log) (length node.peer.entries)
+    (inputs.LogEntry entry) node
 reads_entry log later entry node is = record {
   unread_so = λ not. absurd (not entry refl);
   got = λ other from.

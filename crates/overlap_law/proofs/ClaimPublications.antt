@@ -1,11 +1,13 @@
 -- A node puts the entry that publishes: its command's claim ends, or for a snapshot goes over to the id that takes the disk's place.
-use Rattle.std.proofs.Common.{◌≡◌, ◌≢◌, ◌⊎◌, inl, inr, ⊎_elim, ℕ, ◌+◌, ◌≤◌, Bool, true, false, List, [], ◌∷◌, ◌++◌, All, Option, Some, refl, sym, ap, subst, ◌∙◌, arith}
+use Rattle.std.proofs.Common.{◌≡◌, ◌≢◌, ◌⊎◌, inl, inr, ⊎_elim, ℕ, ◌+◌, ◌≤◌, Bool, true, false, List, [], ◌∷◌, ◌++◌, All, Option, Some, refl}
+use Rattle.std.proofs.Common.{sym, ap, subst, ◌∙◌, arith}
 use Rattle.std.specs.List.{list_any}
 use Rattle.std.specs.FinMap as tree
 use Rattle.std.proofs.lemmas.Bool.{cases_eq}
 use Rattle.std.proofs.lemmas.Option.{same_Some}
 use Rattle.object_id.specs.declared.entry.Entry.{Entry}
-use Rattle.object_id.specs.declared.entry.Entry.TheVariants.{Format, Join, Leave, Reweight, Recovered, Reserve, Publish, Clone, Snapshot, Delete, Lock, Unlock}
+use Rattle.object_id.specs.declared.entry.Entry.TheVariants.{Format, Join, Leave, Reweight, Recovered, Reserve, Publish, Clone, Snapshot}
+use Rattle.object_id.specs.declared.entry.Entry.TheVariants.{Delete, Lock, Unlock}
 use Rattle.object_id.specs.declared.node.NodeId.{NodeId}
 use Rattle.object_id.specs.declared.oid.Vid.{Vid}
 use Rattle.epoch_log.specs.Epochs.{epoch_of}
@@ -20,7 +22,8 @@ use Rattle.sheep_node.specs.declared.course.Request.{Request}
 use Rattle.sheep_node.specs.OwnEntries.{IsEntryOf}
 use Rattle.overlap_law.specs.CommandDisks.{opened_in}
 use Rattle.overlap_law.specs.Grants.{writer_of, may_take_writer}
-use Rattle.overlap_law.specs.WriterClaims.{holder_at, IsFirstEntry, LetsGo, HasLock, HasReservation, IsStageKept, IsLetGo, IsDiskKept, HasClaims}
+use Rattle.overlap_law.specs.WriterClaims.{holder_at, IsFirstEntry, LetsGo, HasLock, HasReservation, IsStageKept, IsLetGo, IsDiskKept}
+use Rattle.overlap_law.specs.WriterClaims.{HasClaims}
 use Rattle.overlap_law.specs.Writers.{unlocks}
 use Rattle.overlap_law.proofs.AwaitedChanges.{Requests}
 use Rattle.overlap_law.proofs.ClaimChanges.{Sessions, disk_of}
@@ -112,15 +115,17 @@ module _ (log : List Entry) (last : Entry) (later read : List Entry) (from : ℕ
       }
 
       by_lock : HasLock log (last ∷ later) me request.session (epoch_of read) disk.inode.vid
-          → HasLock (log ++ last ∷ []) later me request.session (epoch_of read) disk.inode.vid ⊎ IsLetGo requests request.session disk.inode.vid
+          → HasLock (log ++ last ∷ []) later me request.session (epoch_of read) disk.inode.vid
+          ⊎ IsLetGo requests request.session disk.inode.vid
       by_lock lock = by_test (may_take_writer disk.inode.vid (holder_at me request.session) last) refl
         where
           by_test : (b : Bool) → may_take_writer disk.inode.vid (holder_at me request.session) last ≡ b
-              → HasLock (log ++ last ∷ []) later me request.session (epoch_of read) disk.inode.vid ⊎ IsLetGo requests request.session disk.inode.vid
+              → HasLock (log ++ last ∷ []) later me request.session (epoch_of read) disk.inode.vid
+              ⊎ IsLetGo requests request.session disk.inode.vid
           by_test true taken = ⊎_elim
               (λ (same : disk.inode.vid ≡ vid.0).
-              absurd (reserved_apart log (last ∷ later) me request.session (epoch_of read) vid.0 (epoch_of read) disk.inode.vid reserved lock same))
-              (λ (it : old disk.inode.vid). inr (goes it))
+              absurd (reserved_apart log (last ∷ later) me request.session (epoch_of read) vid.0 (epoch_of read) disk.inode.vid reserved
+              lock same)) (λ (it : old disk.inode.vid). inr (goes it))
               (takes.takes disk.inode.vid request.session taken)
           by_test false spares =
               inl (lock_with (log ++ last ∷ []) (last ∷ later) me request.session (epoch_of read) disk.inode.vid later
@@ -138,8 +143,9 @@ module _ (log : List Entry) (last : Entry) (later read : List Entry) (from : ℕ
       )
 
   module _ (letting : (of : ℕ) → old of → LetsGo of (Publishing last made))
-      (stage : IsStageKept (log ++ last ∷ []) later read from me request.session (opened_in request.session sessions) (Publishing last made))
-      (others : (q : ℕ) (second : Request) (second_op : Op) → tree.get requests q ≡ Some second → second.course ≡ Commanding second_op
+      (stage : IsStageKept (log ++ last ∷ []) later read from me request.session (opened_in request.session sessions)
+      (Publishing last made)) (others : (q : ℕ) (second : Request) (second_op : Op) → tree.get requests q ≡ Some second → second.course
+      ≡ Commanding second_op
       → (apart : second.session ≢ request.session)
       → GivesStage log (last ∷ later) read from me second.session last (taken_none second.session apart) (opened_in second.session sessions)
       second_op.stage) where
@@ -163,8 +169,8 @@ module _ (log : List Entry) (last : Entry) (later read : List Entry) (from : ℕ
         stage_over (log ++ last ∷ []) (last ∷ later) later read from me second.session
         (kept_tail log last later read from me requests sessions own has second.session) (opened_in second.session sessions) second_op.stage
         (no_more_tail log last later read from me requests sessions own has second_op.stage)
-        (stage_on log (last ∷ later) read from me second.session last (taken_none second.session apart) (opened_in second.session sessions) second_op.stage
-        (others q second second_op got second_command apart) (has.commands q second second_op got second_command))
+        (stage_on log (last ∷ later) read from me second.session last (taken_none second.session apart) (opened_in second.session sessions)
+        second_op.stage (others q second second_op got second_command apart) (has.commands q second second_op got second_command))
 
     other_disk : (session : ℕ) (disk : Disk) → disk_of session sessions ≡ Some disk → session ≢ request.session
         → IsDiskKept (log ++ last ∷ []) later read me requests session disk.snapshot disk.inode
@@ -205,7 +211,8 @@ module _ (log : List Entry) (later read : List Entry) (from : ℕ) (me : NodeId)
       (none : (other : ℕ) → other ≢ session → TakesNone log (last ∷ later) me other last)
       (q : ℕ) (second : Request) (second_op : Op) (got : tree.get requests q ≡ Some second) (command : second.course ≡ Commanding second_op)
       (apart : second.session ≢ session) where
-    replaced_gives : (wanted : Entry) → last ≢ wanted → GivesReplaced log (last ∷ later) read from me second.session last (none second.session apart)
+    replaced_gives : (wanted : Entry) → last ≢ wanted
+        → GivesReplaced log (last ∷ later) read from me second.session last (none second.session apart)
         (opened_in second.session sessions) wanted
     replaced_gives (Format members) other = tt
     replaced_gives (Join node zone vnodes) other = tt
@@ -220,13 +227,15 @@ module _ (log : List Entry) (later read : List Entry) (from : ℕ) (me : NodeId)
     replaced_gives (Lock by of name tag) other = tt
     replaced_gives (Unlock by of id) other = tt
 
-    pub others_given : GivesStage log (last ∷ later) read from me second.session last (none second.session apart) (opened_in second.session sessions)
+    pub others_given : GivesStage log (last ∷ later) read from me second.session last (none second.session apart)
+        (opened_in second.session sessions)
         second_op.stage
     others_given = by_stage second_op.stage refl (has.commands q second second_op got command)
       where
         by_stage : (stage : OpStage) → second_op.stage ≡ stage
             → IsStageKept log (last ∷ later) read from me second.session (opened_in second.session sessions) stage
-            → GivesStage log (last ∷ later) read from me second.session last (none second.session apart) (opened_in second.session sessions) stage
+            → GivesStage log (last ∷ later) read from me second.session last (none second.session apart) (opened_in second.session sessions)
+            stage
         by_stage (Asked wanted) at is = λ same vid granted. absurd (not_first (subst IsFirstEntry (sym same) is.first))
         by_stage (Working vid task) at is = tt
         by_stage (Publishing wanted made) at is = replaced_gives wanted (nobody q second second_op got command apart wanted made at)

@@ -1,12 +1,14 @@
 -- A node puts the first entry of its outbox: what its sessions rest on they have still, and what the entry was granted they have then.
-use Rattle.std.proofs.Common.{◌≡◌, ◌≢◌, inl, inr, ⊎_elim, ℕ, ◌+◌, ◌≤◌, ◌==◌, Bool, true, false, ◌&&◌, ◌||◌, List, [], ◌∷◌, ◌++◌, All, Option, Some, None, refl, sym, ap, subst, ◌∙◌, arith}
+use Rattle.std.proofs.Common.{◌≡◌, ◌≢◌, inl, inr, ⊎_elim, ℕ, ◌+◌, ◌≤◌, ◌==◌, Bool, true, false, ◌&&◌, ◌||◌, List, [], ◌∷◌, ◌++◌, All}
+use Rattle.std.proofs.Common.{Option, Some, None, refl, sym, ap, subst, ◌∙◌, arith}
 use Rattle.std.specs.List.{list_any}
 use Rattle.std.specs.FinMap as tree
 use Rattle.std.proofs.lemmas.Bool.{both_ways, and_from, and_parts, eq-eqb, eqb-true, or_parts}
 use Rattle.std.proofs.lemmas.List.Elements.{All-head, All-tail}
 use Rattle.std.proofs.lemmas.Option.{same_Some}
 use Rattle.object_id.specs.declared.entry.Entry.{Entry}
-use Rattle.object_id.specs.declared.entry.Entry.TheVariants.{Format, Join, Leave, Reweight, Recovered, Reserve, Publish, Clone, Snapshot, Delete, Lock, Unlock}
+use Rattle.object_id.specs.declared.entry.Entry.TheVariants.{Format, Join, Leave, Reweight, Recovered, Reserve, Publish, Clone, Snapshot}
+use Rattle.object_id.specs.declared.entry.Entry.TheVariants.{Delete, Lock, Unlock}
 use Rattle.object_id.specs.declared.entry.Origin.{Origin}
 use Rattle.object_id.specs.declared.entry.Origin.TheVariants.{Fresh, SnapshotOf, CloneOf}
 use Rattle.object_id.specs.declared.node.NodeId.{NodeId}
@@ -26,11 +28,13 @@ use Rattle.sheep_node.specs.OwnEntries.{IsEntryOf}
 use Rattle.overlap_law.specs.AwaitedEntries.{IsSessionsEntry, IsSessionsStage, IsSessionsCommand}
 use Rattle.overlap_law.specs.CommandDisks.{opened_as, opened_in}
 use Rattle.overlap_law.specs.Grants.{granted_in, writer_of, may_take_writer}
-use Rattle.overlap_law.specs.WriterClaims.{holder_at, LetsGo, HasLock, HasReservation, HasPlace, IsGivenNoMore, IsGrantKept, IsStageKept, IsLetGo, IsDiskKept, IsHeldYet, IsUnlockKept, HasClaims}
+use Rattle.overlap_law.specs.WriterClaims.{holder_at, LetsGo, HasLock, HasReservation, HasPlace, IsGivenNoMore, IsGrantKept, IsStageKept}
+use Rattle.overlap_law.specs.WriterClaims.{IsLetGo, IsDiskKept, IsHeldYet, IsUnlockKept, HasClaims}
 use Rattle.overlap_law.specs.Writers.{unlocks}
 use Rattle.overlap_law.proofs.AwaitedChanges.{Requests}
 use Rattle.overlap_law.proofs.ClaimChanges.{Sessions, disk_of}
-use Rattle.overlap_law.proofs.ClaimTransport.{KeepsAll, PutsNoMore, TakesNone, GivesStage, GivesReplaced, stage_over, disk_over, stage_on, disk_on}
+use Rattle.overlap_law.proofs.ClaimTransport.{KeepsAll, PutsNoMore, TakesNone, GivesStage, GivesReplaced, stage_over, disk_over, stage_on}
+use Rattle.overlap_law.proofs.ClaimTransport.{disk_on}
 use Rattle.overlap_law.proofs.CountedEntries.{times, once_if, times-cons, itself}
 use Rattle.overlap_law.proofs.GrantedIds.{IsFree, in_place, lock_given, locked_was_free, snapshot_given, reservation_given}
 use Rattle.overlap_law.proofs.KeptIds.{no_more_stays, not_taken, yet-writer, yet-given, yet_stays}

@@ -1,6 +1,7 @@
--- A refused command gives back what it was granted: its unlock is put, and the request goes; and along each change of a step sessions keep what
--- their works rest on.
-use Rattle.std.proofs.Common.{◌≡◌, ◌≢◌, inl, inr, ⊎_elim, ℕ, ◌+◌, Bool, true, false, List, [], ◌∷◌, ◌++◌, Option, Some, None, refl, sym, ap, subst, ◌∙◌, arith}
+-- A refused command gives back what it was granted: its unlock is put, and the request goes; and along each change of a step sessions keep
+-- what their works rest on.
+use Rattle.std.proofs.Common.{◌≡◌, ◌≢◌, inl, inr, ⊎_elim, ℕ, ◌+◌, Bool, true, false, List, [], ◌∷◌, ◌++◌, Option, Some, None, refl, sym, ap}
+use Rattle.std.proofs.Common.{subst, ◌∙◌, arith}
 use Rattle.std.specs.List.{list_any}
 use Rattle.std.specs.FinMap as tree
 use Rattle.std.specs.Option.{option_map_or}
@@ -37,19 +38,22 @@ use Rattle.sheep_node.specs.State.{Node}
 use Rattle.sheep_node.specs.StepState.{StepState, request_ended}
 use Rattle.sheep_node.specs.RequestWorks.{command_refused, course_refused}
 use Rattle.sheep_node.specs.Changes as changes
-use Rattle.sheep_node.specs.Changes.{ToWork, ToEntry, ToReply, without_ended_work, without_denied_work, zones_of_members, WorkIsNext, AtOnce, InTurn, Again, AgainAlone, Change, Leads}
+use Rattle.sheep_node.specs.Changes.{ToWork, ToEntry, ToReply, without_ended_work, without_denied_work, zones_of_members, WorkIsNext}
+use Rattle.sheep_node.specs.Changes.{AtOnce, InTurn, Again, AgainAlone, Change, Leads}
 use Rattle.sheep_node.proofs.StepChain.{kept_by_chain}
 use Rattle.overlap_law.specs.AwaitedEntries.{IsSessionsCommand}
 use Rattle.overlap_law.specs.CommandDisks.{opened_as, opened_in, IsOpenAtTask, IsOpenAtStage}
 use Rattle.overlap_law.specs.Grants.{writer_of}
-use Rattle.overlap_law.specs.WriterClaims.{holder_at, HasLock, HasReservation, IsGivenNoMore, IsTaskKept, IsMakingKept, IsStageKept, LetsGo, IsLetGo, IsDiskKept, IsUnlockKept, HasClaims, HasLockYet}
+use Rattle.overlap_law.specs.WriterClaims.{holder_at, HasLock, HasReservation, IsGivenNoMore, IsTaskKept, IsMakingKept, IsStageKept, LetsGo}
+use Rattle.overlap_law.specs.WriterClaims.{IsLetGo, IsDiskKept, IsUnlockKept, HasClaims, HasLockYet}
 use Rattle.overlap_law.specs.Writers.{unlocks}
 use Rattle.overlap_law.proofs.AwaitedChanges.{Requests, AreAwaitedSoFar}
 use Rattle.overlap_law.proofs.AwaitedCommands.{is_command}
 use Rattle.overlap_law.proofs.AwaitedSteps.{entry_of_input, MeetsCommands, next_awaited, change_awaited}
 use Rattle.overlap_law.proofs.ClaimChanges.{disk_of, LetsNothingGo, one_alike, gone_claims, more_claims, kept_elsewhere}
 use Rattle.overlap_law.proofs.ClaimUnlocks.{unlocked_claims}
-use Rattle.overlap_law.proofs.ClaimRequests.{IsReadOf, HasSoFar, none_kept, freed_kept, arrived_lets, plain_kept, plain_there_lets, unpublished}
+use Rattle.overlap_law.proofs.ClaimRequests.{IsReadOf, HasSoFar, none_kept, freed_kept, arrived_lets, plain_kept, plain_there_lets}
+use Rattle.overlap_law.proofs.ClaimRequests.{unpublished}
 use Rattle.overlap_law.proofs.ClaimSteps.{steps_kept}
 use Rattle.overlap_law.proofs.CountedEntries.{times}
 use Rattle.overlap_law.proofs.KeptIds.{lock-writer, reservation-writer, lock_with, lock_yet}
@@ -58,7 +62,8 @@ use Rattle.overlap_law.proofs.WriterChanges.{found_reserved}
 use Rattle.overlap_law.proofs.MakingEntries.{making_reserved}
 
 -- what is reserved isn't what is locked
-pub reserved_apart : (log outbox : List Entry) (me : NodeId) (session epoch vid later held : ℕ) → HasReservation log outbox me session epoch vid
+pub reserved_apart : (log outbox : List Entry) (me : NodeId) (session epoch vid later held : ℕ)
+    → HasReservation log outbox me session epoch vid
     → HasLock log outbox me session later held → held ≢ vid
 reserved_apart log outbox me session epoch vid later held has lock same =
     let works = held-works log held (holder_at me session) lock.held in
@@ -66,7 +71,8 @@ reserved_apart log outbox me session epoch vid later held has lock same =
     let both : InUse ≡ Reserved has.reservation.by = sym works ∙ ap (state_of (log_effects log)) same ∙ reserved in
     absurd (cc (both))
 
-gone_apart : (log outbox : List Entry) (me : NodeId) (session later vid held : ℕ) → IsGivenNoMore log vid → HasLock log outbox me session later held → held ≢ vid
+gone_apart : (log outbox : List Entry) (me : NodeId) (session later vid held : ℕ) → IsGivenNoMore log vid
+    → HasLock log outbox me session later held → held ≢ vid
 gone_apart log outbox me session later vid held gone lock same =
     let at : rank (state_of (log_effects log) vid) ≡ 2
     = ap rank (ap (state_of (log_effects log)) (sym same) ∙ held-works log held (holder_at me session) lock.held) in
@@ -91,8 +97,10 @@ module _ (read unread : List Entry) (input : Input) (node : Node) (meets : Meets
 
   -- ---- a command is refused for its work
 
-  module _ (so_far : StepState) (so : Is so_far) (all : AreOpenSoFar so_far) (has : Has so_far) (session req : ℕ) (op : Op) (vid : Vid) (task : Task)
-      (there : tree.get so_far.node.requests req ≡ Some (record { session = session; course = Commanding op })) (at : op.stage ≡ Working vid task) where
+  module _ (so_far : StepState) (so : Is so_far) (all : AreOpenSoFar so_far) (has : Has so_far) (session req : ℕ) (op : Op) (vid : Vid)
+      (task : Task)
+      (there : tree.get so_far.node.requests req ≡ Some (record { session = session; course = Commanding op }))
+      (at : op.stage ≡ Working vid task) where
     abbrev unlock : Entry
     unlock = unlock_of node.me session vid.0
 
@@ -115,7 +123,8 @@ module _ (read unread : List Entry) (input : Input) (node : Node) (meets : Meets
     gone_has = gone_claims log read from node.me so_far.node.outbox so_far.node.requests so_far.node.sessions has req nothing_goes
 
     -- no command of the session is left
-    none_left : (q : ℕ) (request : Request) → tree.get (tree.remove so_far.node.requests req) q ≡ Some request → is_command request.course ≡ true
+    none_left : (q : ℕ) (request : Request) → tree.get (tree.remove so_far.node.requests req) q ≡ Some request
+        → is_command request.course ≡ true
         → request.session ≢ session
     none_left q request got command of = ⊎_elim
         (λ (own : q ≡ req).
@@ -128,7 +137,8 @@ module _ (read unread : List Entry) (input : Input) (node : Node) (meets : Meets
         (cases_eq q req)
 
     -- what it was granted, by the task
-    by_writer : (epoch : ℕ) → (writer_of (log_effects log) vid.0 ≡ Some (holder_at node.me session)) → list_any (unlocks session vid.0) so_far.node.outbox ≡ false
+    by_writer : (epoch : ℕ) → (writer_of (log_effects log) vid.0 ≡ Some (holder_at node.me session))
+        → list_any (unlocks session vid.0) so_far.node.outbox ≡ false
         → IsUnlockKept log node.me session vid.0 (times (unlock_of node.me session vid.0) so_far.node.outbox + 1)
     by_writer epoch writer kept =
         inr (writer, (let none = none_kept node.me session vid.0 so_far.node.outbox kept in omega (arith, none)))
@@ -139,7 +149,8 @@ module _ (read unread : List Entry) (input : Input) (node : Node) (meets : Meets
 
     by_reservation : HasReservation log so_far.node.outbox node.me session (epoch_of read) vid.0
         → IsUnlockKept log node.me session vid.0 (times (unlock_of node.me session vid.0) so_far.node.outbox + 1)
-    by_reservation has = by_writer (epoch_of read) (reservation-writer log so_far.node.outbox node.me session (epoch_of read) vid.0 has) has.kept
+    by_reservation has =
+        by_writer (epoch_of read) (reservation-writer log so_far.node.outbox node.me session (epoch_of read) vid.0 has) has.kept
 
     -- a making's reservation
     made_reserved : (entry : Entry) (made : Option Content)
@@ -148,7 +159,8 @@ module _ (read unread : List Entry) (input : Input) (node : Node) (meets : Meets
     made_reserved =
         making_reserved log so_far.node.outbox read from node.me session (opened_in session so_far.node.sessions) vid
 
-    may_unlock : (task : Task) → IsTaskKept log so_far.node.outbox read from node.me session (opened_in session so_far.node.sessions) vid task
+    may_unlock : (task : Task)
+        → IsTaskKept log so_far.node.outbox read from node.me session (opened_in session so_far.node.sessions) vid task
         → IsUnlockKept log node.me session vid.0 (times (unlock_of node.me session vid.0) so_far.node.outbox + 1)
     may_unlock (Opening true ids header) is = inl is
     may_unlock (Opening false ids header) is = by_lock is.0
@@ -158,7 +170,8 @@ module _ (read unread : List Entry) (input : Input) (node : Node) (meets : Meets
     may_unlock (Making entry made) is = by_reservation (made_reserved entry made is)
 
     -- a disk that the session has open is another
-    other_disk : (task : Task) → IsTaskKept log so_far.node.outbox read from node.me session (opened_in session so_far.node.sessions) vid task
+    other_disk : (task : Task)
+        → IsTaskKept log so_far.node.outbox read from node.me session (opened_in session so_far.node.sessions) vid task
         → IsOpenAtTask (opened_in session so_far.node.sessions) vid task → (disk : Disk) → disk_of session so_far.node.sessions ≡ Some disk
         → HasLock log so_far.node.outbox node.me session (epoch_of read) disk.inode.vid → disk.inode.vid ≢ vid.0
     other_disk (Opening snapshot ids header) is fits disk opened lock = let some = sym (ap opened_as opened) ∙ fits in absurd (cc (some))
@@ -168,11 +181,12 @@ module _ (read unread : List Entry) (input : Input) (node : Node) (meets : Meets
     other_disk (Copying ids header) is fits disk opened lock =
         reserved_apart log so_far.node.outbox node.me session (epoch_of read) vid.0 (epoch_of read) disk.inode.vid is lock
     other_disk (Making entry made) is fits disk opened lock =
-        reserved_apart log so_far.node.outbox node.me session (epoch_of read) vid.0 (epoch_of read) disk.inode.vid (made_reserved entry made is) lock
+        reserved_apart log so_far.node.outbox node.me session (epoch_of read) vid.0 (epoch_of read) disk.inode.vid
+        (made_reserved entry made is) lock
 
     own_disk : (disk : Disk) → disk_of session so_far.node.sessions ≡ Some disk
-        → IsDiskKept log (so_far.node.outbox ++ unlock_of node.me session vid.0 ∷ []) read node.me (tree.remove so_far.node.requests req) session
-        disk.snapshot disk.inode
+        → IsDiskKept log (so_far.node.outbox ++ unlock_of node.me session vid.0 ∷ []) read node.me (tree.remove so_far.node.requests req)
+        session disk.snapshot disk.inode
     own_disk disk opened = by_kind disk.snapshot (gone_has.disks session disk opened)
       where
         by_kind : (b : Bool) → IsDiskKept log so_far.node.outbox read node.me (tree.remove so_far.node.requests req) session b disk.inode
@@ -182,7 +196,8 @@ module _ (read unread : List Entry) (input : Input) (node : Node) (meets : Meets
           named,
           ⊎_elim
               (λ (lock : HasLock log so_far.node.outbox node.me session (epoch_of read) disk.inode.vid).
-              let fits = subst (IsOpenAtStage (opened_in session so_far.node.sessions)) at (all req (record { session = session; course = Commanding op }) there) in
+              let fits = subst (IsOpenAtStage (opened_in session so_far.node.sessions)) at
+              (all req (record { session = session; course = Commanding op }) there) in
               let apart = other_disk task task_has fits disk opened lock in
               inl (lock_with log so_far.node.outbox node.me session (epoch_of read) disk.inode.vid (so_far.node.outbox ++ unlock ∷ [])
               (kept_elsewhere node.me session vid.0 session disk.inode.vid so_far.node.outbox apart lock.kept) lock))
@@ -194,7 +209,8 @@ module _ (read unread : List Entry) (input : Input) (node : Node) (meets : Meets
         → HasLockYet log node.me session (epoch_of read) disk.inode.vid
     own_yet disk opened working = by_kind disk.snapshot working (gone_has.disks session disk opened)
       where
-        by_kind : (b : Bool) → b ≡ false → IsDiskKept log so_far.node.outbox read node.me (tree.remove so_far.node.requests req) session b disk.inode
+        by_kind : (b : Bool) → b ≡ false
+            → IsDiskKept log so_far.node.outbox read node.me (tree.remove so_far.node.requests req) session b disk.inode
             → HasLockYet log node.me session (epoch_of read) disk.inode.vid
         by_kind true working is = absurd (cc (working))
         by_kind false working (named, is) = ⊎_elim
@@ -203,16 +219,19 @@ module _ (read unread : List Entry) (input : Input) (node : Node) (meets : Meets
             (λ (goes : IsLetGo (tree.remove so_far.node.requests req) session disk.inode.vid).
             absurd (none_left goes.req goes.request goes.there (ap is_command goes.command) goes.of)) is
 
-    unlocked_has : HasClaims log (so_far.node.outbox ++ unlock_of node.me session vid.0 ∷ []) read from node.me (tree.remove so_far.node.requests req)
+    unlocked_has : HasClaims log (so_far.node.outbox ++ unlock_of node.me session vid.0 ∷ []) read from node.me
+        (tree.remove so_far.node.requests req)
         so_far.node.sessions
     unlocked_has =
         unlocked_claims log read from node.me so_far.node.outbox gone so_far.node.sessions session vid.0 (may_unlock task task_has)
-        (unpublished read unread input node meets log from reads so_far.node.outbox gone so_far.node.sessions gone_has unlock (λ s opened made never. never))
-        (λ q request other got command of. absurd (none_left q request got (ap is_command command) of)) own_disk own_yet gone_has
+        (unpublished read unread input node meets log from reads so_far.node.outbox gone so_far.node.sessions gone_has unlock
+        (λ s opened made never. never)) (λ q request other got command of. absurd (none_left q request got (ap is_command command) of))
+        own_disk own_yet gone_has
 
   -- what a refusal leaves
   refused_kept : (session req : ℕ) (cause : Cause) (course : Course) (so_far : StepState)
-      → tree.get so_far.node.requests req ≡ Some (record { session = session; course = course }) → Is so_far → AreOpenSoFar so_far → Has so_far
+      → tree.get so_far.node.requests req ≡ Some (record { session = session; course = course }) → Is so_far → AreOpenSoFar so_far
+      → Has so_far
       → Has (course_refused session req cause course so_far)
   unfolding on_refusal request_ended
   refused_kept session req cause (Waiting ask) so_far there so all has = has
@@ -233,13 +252,16 @@ module _ (read unread : List Entry) (input : Input) (node : Node) (meets : Meets
           subst (λ (put : Entry). HasClaims log (so_far.node.outbox ++ put ∷ []) read from node.me (tree.remove so_far.node.requests req)
           (request_ended session req (Refused cause) so_far).node.sessions)
           (λ i. unlock_of (sym own.by i) (sym own.of i) vid.0)
-          (one_alike log read from node.me (so_far.node.outbox ++ unlock_of node.me session vid.0 ∷ []) (tree.remove so_far.node.requests req)
-          so_far.node.sessions session _ refl (unlocked_has so_far so all has session req op vid task there at))
+          (one_alike log read from node.me (so_far.node.outbox ++ unlock_of node.me session vid.0 ∷ [])
+          (tree.remove so_far.node.requests req) so_far.node.sessions session _ refl
+          (unlocked_has so_far so all has session req op vid task there at))
 
       by_stage : (stage : OpStage) → op.stage ≡ stage → Has (command_refused session req (on_refusal cause op) so_far)
-      by_stage (Asked entry) at = subst (λ (end : Option OpEnd). Has (command_refused session req end so_far)) (sym (unfolding_end (Asked entry) at)) has
+      by_stage (Asked entry) at =
+          subst (λ (end : Option OpEnd). Has (command_refused session req end so_far)) (sym (unfolding_end (Asked entry) at)) has
       by_stage (Working vid task) at =
-          subst (λ (end : Option OpEnd). Has (command_refused session req end so_far)) (sym (unfolding_end (Working vid task) at)) (given_back vid task at)
+          subst (λ (end : Option OpEnd). Has (command_refused session req end so_far)) (sym (unfolding_end (Working vid task) at))
+          (given_back vid task at)
       by_stage (Publishing entry made) at =
           subst (λ (end : Option OpEnd). Has (command_refused session req end so_far)) (sym (unfolding_end (Publishing entry made) at)) has
       by_stage (Answered change) at =
@@ -252,7 +274,8 @@ module _ (read unread : List Entry) (input : Input) (node : Node) (meets : Meets
       (plain_there_lets read unread input node meets log from reads so_far.node.requests session req (DoingWork work) refl there) has
   refused_kept session req cause (AwaitingDecision entry) so_far there so all has = has
 
-  refused_if_there_kept : (req : ℕ) (cause : Cause) (request : Option Request) (so_far : StepState) → tree.get so_far.node.requests req ≡ request
+  refused_if_there_kept : (req : ℕ) (cause : Cause) (request : Option Request) (so_far : StepState)
+      → tree.get so_far.node.requests req ≡ request
       → Is so_far → AreOpenSoFar so_far → Has so_far
       → Has (option_map_or (λ (request : Request). course_refused request.session req cause request.course so_far) request so_far)
   refused_if_there_kept req cause None so_far there so all has = has
@@ -261,7 +284,8 @@ module _ (read unread : List Entry) (input : Input) (node : Node) (meets : Meets
 
   -- ---- each change
 
-  next_kept : (so_far : StepState) (session req : ℕ) (asked : Work) (lined : StepState) → WorkIsNext input node so_far session req asked lined
+  next_kept : (so_far : StepState) (session req : ℕ) (asked : Work) (lined : StepState)
+      → WorkIsNext input node so_far session req asked lined
       → Is so_far → AreOpenSoFar so_far → Has so_far → Has lined
   next_kept so_far session req asked lined (AtOnce work moved steps begins) so all has =
       one_alike log read from node.me moved.node.outbox moved.node.requests moved.node.sessions session _ refl
@@ -281,13 +305,16 @@ module _ (read unread : List Entry) (input : Input) (node : Node) (meets : Meets
       refused_kept session req cause course freed ends.request so
       (one_open so_far.node.requests so_far.node.sessions session _ refl all)
       (freed_kept read unread input node meets log from reads session req work status so_far has)
-  change_kept so_far next (changes.Opens session req asked lined comes short) so all has = next_kept so_far session req asked lined comes so all has
-  change_kept so_far next (changes.Holds session req asked lined comes short touched) so all has = next_kept so_far session req asked lined comes so all has
+  change_kept so_far next (changes.Opens session req asked lined comes short) so all has =
+      next_kept so_far session req asked lined comes so all has
+  change_kept so_far next (changes.Holds session req asked lined comes short touched) so all has =
+      next_kept so_far session req asked lined comes so all has
   change_kept so_far next (changes.Denies session req asked lined request comes short untouched there own) so all has =
       let freed = without_denied_work session req asked lined in
       refused_if_there_kept req (Halt (zones_of_members lined.node) (zones_for asked.work)) request freed there
       (next_awaited read unread input node meets so_far session req asked lined comes so)
-      (one_open lined.node.requests lined.node.sessions session _ refl (next_open read unread input node meets so_far session req asked lined comes so all))
+      (one_open lined.node.requests lined.node.sessions session _ refl
+      (next_open read unread input node meets so_far session req asked lined comes so all))
       (one_alike log read from node.me lined.node.outbox lined.node.requests lined.node.sessions session _ refl
       (next_kept so_far session req asked lined comes so all has))
   change_kept so_far next (changes.Strays req work gateway there none apart) so all has = has
@@ -300,10 +327,10 @@ module _ (read unread : List Entry) (input : Input) (node : Node) (meets : Meets
       let took = steps_kept read unread input node meets log from reads so_far session req (ToReply reply) moved steps so all has in
       ended_kept session req reply moved took.1 took.0
   change_kept so_far next (changes.Arrives session req ask disk arrival on) so all has =
-      one_alike log read from node.me so_far.node.outbox (tree.insert so_far.node.requests req (record { session = session; course = Waiting ask }))
-      so_far.node.sessions session _ refl
-      (plain_kept read unread input node meets log from reads so_far.node.outbox so_far.node.requests so_far.node.sessions has session req (Waiting ask) refl
-      (arrived_lets read unread input node meets log from reads so_far session req (asks.Disk ask) arrival))
+      one_alike log read from node.me so_far.node.outbox (tree.insert so_far.node.requests req
+      (record { session = session; course = Waiting ask })) so_far.node.sessions session _ refl
+      (plain_kept read unread input node meets log from reads so_far.node.outbox so_far.node.requests so_far.node.sessions has session req
+      (Waiting ask) refl (arrived_lets read unread input node meets log from reads so_far session req (asks.Disk ask) arrival))
   change_kept so_far next (changes.Rejects session req ask cause arrival) so all has = has
   change_kept so_far next (changes.Recovers due) so all has =
       let last = Recovered so_far.node.me (record { 0 = so_far.node.recovery.epoch }) in

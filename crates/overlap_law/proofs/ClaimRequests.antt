@@ -1,5 +1,6 @@
 -- What a request that begins, goes on or ends leaves of what sessions rest on, and what its step owes; and what a step knows of the log.
-use Rattle.std.proofs.Common.{◌≡◌, ◌≢◌, inl, ⊎_elim, ℕ, zero, suc, ◌+◌, ◌≤◌, Bool, true, false, List, [], ◌∷◌, ◌++◌, drop, take, Option, Some, None, refl, sym, ap, subst, ◌∙◌, arith, ◌==◌}
+use Rattle.std.proofs.Common.{◌≡◌, ◌≢◌, inl, ⊎_elim, ℕ, zero, suc, ◌+◌, ◌≤◌, Bool, true, false, List, [], ◌∷◌, ◌++◌, drop, take, Option}
+use Rattle.std.proofs.Common.{Some, None, refl, sym, ap, subst, ◌∙◌, arith, ◌==◌}
 use Rattle.std.specs.List.{list_any, slice_get}
 use Rattle.std.specs.FinMap as tree
 use Rattle.std.proofs.lemmas.Option.{same_Some}
@@ -41,19 +42,22 @@ use Rattle.sheep_node.specs.Courses.{disk_after, after_driver_step, after_comman
 use Rattle.sheep_node.specs.Changes.{Arrival, Outcome, ToWork, ToEntry, ToReply, outcome_of_driver, outcome_of_check, without_ended_work}
 use Rattle.sheep_node.proofs.WantedSteps.{IsWantedStep}
 use Rattle.overlap_law.specs.CommandDisks.{opened_in}
-use Rattle.overlap_law.specs.WriterClaims.{IsNamed, IsStageKept, LetsGo, IsLetGo, IsDiskKept, HasClaims, HasLock, IsPublicationKept, HasLockYet}
+use Rattle.overlap_law.specs.WriterClaims.{IsNamed, IsStageKept, LetsGo, IsLetGo, IsDiskKept, HasClaims, HasLock, IsPublicationKept}
+use Rattle.overlap_law.specs.WriterClaims.{HasLockYet}
 use Rattle.overlap_law.specs.Writers.{unlocks}
 use Rattle.overlap_law.proofs.AwaitedChanges.{Requests, AreAwaitedSoFar}
 use Rattle.overlap_law.proofs.AwaitedCommands.{is_command}
 use Rattle.overlap_law.proofs.AwaitedSteps.{entry_of_input, MeetsCommands}
 use Rattle.overlap_law.proofs.KeptIds.{lock_yet}
-use Rattle.overlap_law.proofs.ClaimChanges.{Sessions, disk_of, LetsNothingGo, IsOfSession, one_alike, retabled_claims, put_claims, stepped_claims}
+use Rattle.overlap_law.proofs.ClaimChanges.{Sessions, disk_of, LetsNothingGo, IsOfSession, one_alike, retabled_claims, put_claims}
+use Rattle.overlap_law.proofs.ClaimChanges.{stepped_claims}
 use Rattle.overlap_law.proofs.ClaimCommands.{IsDiskSafe, AreSafe, IsStepKept}
 use Rattle.overlap_law.proofs.ClaimTransport.{PutsNoMore}
 use Rattle.overlap_law.proofs.CountedEntries.{times, once_if, times-cons, times-push, itself, same_entry, times-none}
 
 -- an entry that stands in a log from a place on is counted there
-pub counted_from : (log : List Entry) (from place : ℕ) (entry : Entry) → from ≤ place → slice_get log place ≡ Some entry → 1 ≤ times entry (drop from log)
+pub counted_from : (log : List Entry) (from place : ℕ) (entry : Entry) → from ≤ place → slice_get log place ≡ Some entry
+    → 1 ≤ times entry (drop from log)
 counted_from [] from place entry after got = absurd (cc (got))
 counted_from (first ∷ log) zero zero entry after got =
     let same : first ≡ entry = same_Some first entry got in
@@ -77,7 +81,8 @@ none_kept me session vid (first ∷ later) none =
     let rest = none_kept me session vid later parts.1 in
     let all : times (unlock_of me session vid) (first ∷ later) ≡ 0 + times (unlock_of me session vid) later
     = times-cons (unlock_of me session vid) first later
-    ∙ ap (λ (b : Bool). once_if b + times (unlock_of me session vid) later) (apart (is_same_entry (unlock_of me session vid) first) refl parts.0) in
+    ∙ ap (λ (b : Bool). once_if b + times (unlock_of me session vid) later)
+    (apart (is_same_entry (unlock_of me session vid) first) refl parts.0) in
     omega (arith, rest, all)
   where
     apart : (b : Bool) → is_same_entry (unlock_of me session vid) first ≡ b → unlocks session vid first ≡ false
@@ -111,7 +116,8 @@ module _ (read unread : List Entry) (input : Input) (node : Node) (meets : Meets
   -- what is owed where a request takes a step to this
   abbrev pub IsNextKept : StepState → ℕ → Outcome → Type 0
   IsNextKept moved req (ToWork work) = Unit {0}
-  IsNextKept moved req (ToEntry entry) = HasClaims log (moved.node.outbox ++ entry ∷ []) read from node.me moved.node.requests moved.node.sessions
+  IsNextKept moved req (ToEntry entry) =
+      HasClaims log (moved.node.outbox ++ entry ∷ []) read from node.me moved.node.requests moved.node.sessions
   IsNextKept moved req (ToReply reply) = LetsNothingGo moved.node.requests req
 
   -- ---- requests that are no commands
@@ -136,34 +142,39 @@ module _ (read unread : List Entry) (input : Input) (node : Node) (meets : Meets
       plain_there_lets (tree.insert requests req (record { session = session; course = course })) session req course plain
       (get-insert_same requests req (record { session = session; course = course }))
 
-  pub plain_kept : (outbox : List Entry) (requests : Requests) (sessions : Sessions) → HasClaims log outbox read from node.me requests sessions
+  pub plain_kept : (outbox : List Entry) (requests : Requests) (sessions : Sessions)
+      → HasClaims log outbox read from node.me requests sessions
       → (session req : ℕ) (course : Course) → is_command course ≡ false → LetsNothingGo requests req
       → HasClaims log outbox read from node.me (tree.insert requests req (record { session = session; course = course })) sessions
   plain_kept outbox requests sessions has session req course plain nothing =
-      put_claims log read from node.me outbox requests sessions has req nothing session course (λ op is. absurd (plain_lets course op plain is))
+      put_claims log read from node.me outbox requests sessions has req nothing session course
+      (λ op is. absurd (plain_lets course op plain is))
 
   pub freed_kept : (session req : ℕ) (work : Work) (status : Status) (so_far : StepState) → HasSoFar so_far
       → HasSoFar (without_ended_work session req work status so_far)
   freed_kept session req work status so_far has =
       one_alike log read from node.me so_far.node.outbox so_far.node.requests so_far.node.sessions session _ refl has
 
-  pub arrived_lets : (so_far : StepState) (session req : ℕ) (ask : Ask) {refusal : Option Cause} → Arrival input node so_far session req ask refusal
+  pub arrived_lets : (so_far : StepState) (session req : ℕ) (ask : Ask) {refusal : Option Cause}
+      → Arrival input node so_far session req ask refusal
       → LetsNothingGo so_far.node.requests req
   arrived_lets so_far session req ask arrival =
       not_there_lets so_far.node.requests req (arrival.none (meets.sound req session ask arrival.from))
 
   -- one that is alone in its session
-  pub sole_kept : (session req : ℕ) (course : Course) (so_far : StepState) → is_command course ≡ false → LetsNothingGo so_far.node.requests req
+  pub sole_kept : (session req : ℕ) (course : Course) (so_far : StepState) → is_command course ≡ false
+      → LetsNothingGo so_far.node.requests req
       → HasSoFar so_far → HasClaims log so_far.node.outbox read from node.me
       (tree.insert so_far.node.requests req (record { session = session; course = course }))
       (tree.insert so_far.node.sessions session (record (session_in session so_far) { command = Some req }))
   sole_kept session req course so_far plain nothing has =
-      one_alike log read from node.me so_far.node.outbox (tree.insert so_far.node.requests req (record { session = session; course = course }))
-      so_far.node.sessions session _ refl
+      one_alike log read from node.me so_far.node.outbox (tree.insert so_far.node.requests req
+      (record { session = session; course = course })) so_far.node.sessions session _ refl
       (plain_kept so_far.node.outbox so_far.node.requests so_far.node.sessions has session req course plain nothing)
 
   -- a read or write goes on
-  pub driven_kept : (session req : ℕ) (disk : Disk) (step : drivers.DriverStep) (so_far : StepState) → (session_in session so_far).disk ≡ Some disk
+  pub driven_kept : (session req : ℕ) (disk : Disk) (step : drivers.DriverStep) (so_far : StepState)
+      → (session_in session so_far).disk ≡ Some disk
       → IsWantedStep disk.inode step → step.inode.name ≡ disk.inode.name → LetsNothingGo so_far.node.requests req → HasSoFar so_far
       → HasSoFar (after_driver_step session req disk step so_far)
   driven_kept session req disk step so_far on wanted name nothing has =
@@ -177,13 +188,15 @@ module _ (read unread : List Entry) (input : Input) (node : Node) (meets : Meets
       → tree.get moved.node.requests req ≡ Some (record { session = session; course = Driving driver })
       → IsNextKept moved req (outcome_of_driver act)
   driver_next (driver_acts.Work work) moved session req driver there = tt
-  driver_next (driver_acts.Reply reply) moved session req driver there = plain_there_lets moved.node.requests session req (Driving driver) refl there
+  driver_next (driver_acts.Reply reply) moved session req driver there =
+      plain_there_lets moved.node.requests session req (Driving driver) refl there
 
   pub check_next : (act : CheckAct) (moved : StepState) (session req : ℕ) (check : Check)
       → tree.get moved.node.requests req ≡ Some (record { session = session; course = Checking check })
       → IsNextKept moved req (outcome_of_check act)
   check_next (check_acts.Work work) moved session req check there = tt
-  check_next (check_acts.Reply found) moved session req check there = plain_there_lets moved.node.requests session req (Checking check) refl there
+  check_next (check_acts.Reply found) moved session req check there =
+      plain_there_lets moved.node.requests session req (Checking check) refl there
 
   -- ---- commands
 
@@ -205,11 +218,13 @@ module _ (read unread : List Entry) (input : Input) (node : Node) (meets : Meets
       by_stage (Answered change) is lets = lets
 
   -- the disks of a session are safe, whose command lets none go
-  pub safe_disks : (outbox : List Entry) (requests : Requests) (sessions : Sessions) → HasClaims log outbox read from node.me requests sessions → (session : ℕ)
+  pub safe_disks : (outbox : List Entry) (requests : Requests) (sessions : Sessions)
+      → HasClaims log outbox read from node.me requests sessions → (session : ℕ)
       → ((vid : ℕ) → IsLetGo requests session vid → ⊥) → AreSafe log outbox read from node.me session (disk_of session sessions)
   safe_disks outbox requests sessions has session none disk opened = by_kind disk.snapshot (has.disks session disk opened)
     where
-      by_kind : (b : Bool) → IsDiskKept log outbox read node.me requests session b disk.inode → IsDiskSafe log outbox read from node.me session b disk.inode
+      by_kind : (b : Bool) → IsDiskKept log outbox read node.me requests session b disk.inode
+          → IsDiskSafe log outbox read from node.me session b disk.inode
       by_kind true is = is
       by_kind false (named, is) = (
         named,
@@ -223,18 +238,21 @@ module _ (read unread : List Entry) (input : Input) (node : Node) (meets : Meets
   kept_of_safe outbox requests session false inode (named, lock) = (named, inl lock)
 
   yet_of_safe : (outbox : List Entry) (session : ℕ) (snapshot : Bool) (inode : Content)
-      → IsDiskSafe log outbox read from node.me session snapshot inode → snapshot ≡ false → HasLockYet log node.me session (epoch_of read) inode.vid
+      → IsDiskSafe log outbox read from node.me session snapshot inode → snapshot ≡ false
+      → HasLockYet log node.me session (epoch_of read) inode.vid
   yet_of_safe outbox session true inode is working = absurd (cc (working))
   yet_of_safe outbox session false inode (named, lock) working = lock_yet log outbox node.me session (epoch_of read) inode.vid lock
 
   -- no other request is a command of the session
   abbrev pub IsSoleIn : Requests → ℕ → ℕ → Type 0
   IsSoleIn requests req session =
-      (other : ℕ) (request : Request) → tree.get requests other ≡ Some request → is_command request.course ≡ true → request.session ≡ session
+      (other : ℕ) (request : Request) → tree.get requests other ≡ Some request → is_command request.course ≡ true → request.session
+      ≡ session
       → other ≡ req
 
   -- who lets a disk go is the session's one command
-  pub its_stage : (requests : Requests) (session req : ℕ) (op : Op) → tree.get requests req ≡ Some (record { session = session; course = Commanding op })
+  pub its_stage : (requests : Requests) (session req : ℕ) (op : Op)
+      → tree.get requests req ≡ Some (record { session = session; course = Commanding op })
       → IsSoleIn requests req session → (vid : ℕ) → IsLetGo requests session vid → LetsGo vid op.stage
   its_stage requests session req op there sole vid goes =
       let same : goes.req ≡ req = sole goes.req goes.request goes.there (ap is_command goes.command) goes.of in
@@ -245,27 +263,34 @@ module _ (read unread : List Entry) (input : Input) (node : Node) (meets : Meets
       subst (λ (o : Op). LetsGo vid o.stage) (sym its) goes.lets
 
   -- a command is put with its step
-  pub stepped : (outbox : List Entry) (so_far : StepState) → HasClaims log outbox read from node.me so_far.node.requests so_far.node.sessions
+  pub stepped : (outbox : List Entry) (so_far : StepState)
+      → HasClaims log outbox read from node.me so_far.node.requests so_far.node.sessions
       → (session req : ℕ) (step : OpStep) → IsOfSession so_far.node.requests req session → IsSoleIn so_far.node.requests req session
       → IsStepKept log outbox read from node.me session (session_in session so_far).disk step
       → HasClaims log outbox read from node.me (after_command_step session req step so_far).node.requests
       (after_command_step session req step so_far).node.sessions
   stepped outbox so_far has session req step own sole kept =
       stepped_claims log read from node.me outbox so_far.node.requests so_far.node.sessions has req session own sole step.op
-      (record (session_in session so_far) { disk = disk_after (disk_change_at step.op.stage) (session_in session so_far).disk; command = Some req })
+      (record (session_in session so_far) {
+        disk = disk_after (disk_change_at step.op.stage) (session_in session so_far).disk;
+        command = Some req;
+      })
       kept.stage
-      (λ disk opened. kept_of_safe outbox (tree.insert so_far.node.requests req (record { session = session; course = Commanding step.op })) session
-      disk.snapshot disk.inode (kept.safe disk opened))
+      (λ disk opened. kept_of_safe outbox (tree.insert so_far.node.requests req (record { session = session; course = Commanding step.op }))
+      session disk.snapshot disk.inode (kept.safe disk opened))
       (λ disk opened working there. yet_of_safe outbox session disk.snapshot disk.inode (kept.safe disk opened) working)
 
   pub put_there : (so_far : StepState) (session req : ℕ) (step : OpStep)
-      → tree.get (after_command_step session req step so_far).node.requests req ≡ Some (record { session = session; course = Commanding step.op })
+      → tree.get (after_command_step session req step so_far).node.requests req
+      ≡ Some (record { session = session; course = Commanding step.op })
   put_there so_far session req step = get-insert_same so_far.node.requests req (record { session = session; course = Commanding step.op })
 
-  pub reply_next : (so_far : StepState) (session req : ℕ) (step : OpStep) (reply : GuestRsp) → IsAwaitedAtOpStage (op_acts.Reply reply) step.op.stage
+  pub reply_next : (so_far : StepState) (session req : ℕ) (step : OpStep) (reply : GuestRsp)
+      → IsAwaitedAtOpStage (op_acts.Reply reply) step.op.stage
       → LetsNothingGo (after_command_step session req step so_far).node.requests req
   reply_next so_far session req step reply awaited old op vid got command lets =
-      let same : record { session = session; course = Commanding step.op } ≡ old = same_Some _ old (sym (put_there so_far session req step) ∙ got) in
+      let same : record { session = session; course = Commanding step.op }
+      ≡ old = same_Some _ old (sym (put_there so_far session req step) ∙ got) in
       let course : Commanding step.op ≡ Commanding op = ap (λ (r : Request). r.course) same ∙ command in
       let its : step.op ≡ op = cc (course) in
       reply_lets reply step.op.stage awaited vid (subst (λ (o : Op). LetsGo vid o.stage) (sym its) lets)
@@ -283,8 +308,10 @@ module _ (read unread : List Entry) (input : Input) (node : Node) (meets : Meets
           omega (arith, more, there)
 
   -- of an entry that no command publishes
-  pub unpublished : (outbox : List Entry) (requests : Requests) (sessions : Sessions) → HasClaims log outbox read from node.me requests sessions → (last : Entry)
-      → ((session : ℕ) (opened : Option (Bool × ℕ)) (made : Option Content) → IsPublicationKept log outbox read from node.me session opened last made → ⊥)
+  pub unpublished : (outbox : List Entry) (requests : Requests) (sessions : Sessions)
+      → HasClaims log outbox read from node.me requests sessions → (last : Entry)
+      → ((session : ℕ) (opened : Option (Bool × ℕ)) (made : Option Content)
+      → IsPublicationKept log outbox read from node.me session opened last made → ⊥)
       → (req : ℕ) (request : Request) (op : Op) → tree.get requests req ≡ Some request → request.course ≡ Commanding op
       → PutsNoMore outbox (outbox ++ last ∷ []) op.stage
   unpublished outbox requests sessions has last never req request op there command =

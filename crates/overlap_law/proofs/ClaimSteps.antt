@@ -1,14 +1,16 @@
 -- Along the changes of a step sessions keep what their works rest on.
 use Rattle.overlap_law.proofs.ReservedIds.{session_of_entry}
 use Rattle.sheep_node.proofs.PeerLog.{entries_reading}
-use Rattle.std.proofs.Common.{◌≡◌, ⊎_elim, ℕ, Bool, true, false, List, [], ◌∷◌, ◌++◌, Option, Some, refl, sym, ap, subst, ◌∙◌, arith, unwrap_or}
+use Rattle.std.proofs.Common.{◌≡◌, ⊎_elim, ℕ, Bool, true, false, List, [], ◌∷◌, ◌++◌, Option, Some, refl, sym, ap, subst, ◌∙◌, arith}
+use Rattle.std.proofs.Common.{unwrap_or}
 use Rattle.std.specs.FinMap as tree
 use Rattle.std.proofs.lemmas.Option.{same_Some}
 use Rattle.proof_tools.proofs.FiniteMaps.{get-insert_same}
 use Rattle.object_id.specs.declared.node.NodeId.{NodeId}
 use Rattle.object_id.specs.declared.oid.Vid.{Vid}
 use Rattle.object_id.specs.declared.entry.Entry.{Entry}
-use Rattle.object_id.specs.declared.entry.Entry.TheVariants.{Recovered, Unlock, Format, Join, Leave, Reweight, Reserve, Publish, Clone, Snapshot, Delete, Lock}
+use Rattle.object_id.specs.declared.entry.Entry.TheVariants.{Recovered, Unlock, Format, Join, Leave, Reweight, Reserve, Publish, Clone}
+use Rattle.object_id.specs.declared.entry.Entry.TheVariants.{Snapshot, Delete, Lock}
 use Rattle.epoch_log.specs.Epochs.{epoch_of}
 use Rattle.inode.specs.Layout.{Content}
 use Rattle.vdi_directory.specs.declared.effect.Effect.{Effect}
@@ -24,7 +26,8 @@ use Rattle.guest_driver.specs.declared.disk.Disk.{Disk}
 use Rattle.guest_driver.specs.Driver as drivers
 use Rattle.vdi_ops.specs.declared.act.OpAct.{OpAct}
 use Rattle.vdi_ops.specs.declared.act.OpAct.TheVariants as op_acts
-use Rattle.vdi_ops.specs.Op.{Task, OpStage, Asked, Working, Publishing, Answered, Making, Op, OpStep, IsAwaitedAtOpStage, Opening, WritingBack, Tagging, Copying}
+use Rattle.vdi_ops.specs.Op.{Task, OpStage, Asked, Working, Publishing, Answered, Making, Op, OpStep, IsAwaitedAtOpStage, Opening}
+use Rattle.vdi_ops.specs.Op.{WritingBack, Tagging, Copying}
 use Rattle.vdi_ops.specs.Steps.{begin_command, on_decision, op_on_done, done_at, task_done}
 use Rattle.vdi_ops.proofs.StepLemmas.{begin_awaited, done_awaited, decision_awaited}
 use Rattle.disk_check.specs.Check.{begin_check}
@@ -39,7 +42,9 @@ use Rattle.sheep_node.specs.StepState.{StepState, session_in}
 use Rattle.sheep_node.specs.AwaitedEntry.{waits_for_entry}
 use Rattle.sheep_node.specs.Courses.{inode_open, after_driver_step, after_command_step}
 use Rattle.sheep_node.specs.LogReading.{entry_read}
-use Rattle.sheep_node.specs.Changes.{HasRequest, EndsWork, Outcome, outcome_of_command, without_ended_work, RequestSteps, DiskBegins, DiskGoesOn, CommandBegins, CommandGoesOn, CommandDecided, CheckBegins, CheckGoesOn, ObjectBegins, ObjectIsDone, EntryBegins, EntryDecided}
+use Rattle.sheep_node.specs.Changes.{HasRequest, EndsWork, Outcome, outcome_of_command, without_ended_work, RequestSteps, DiskBegins}
+use Rattle.sheep_node.specs.Changes.{DiskGoesOn, CommandBegins, CommandGoesOn, CommandDecided, CheckBegins, CheckGoesOn, ObjectBegins}
+use Rattle.sheep_node.specs.Changes.{ObjectIsDone, EntryBegins, EntryDecided}
 use Rattle.sheep_node.proofs.OneWorkChanges.{awaited_of}
 use Rattle.sheep_node.proofs.WantedSteps.{driver_begins-wanted, driver_goes_on-wanted}
 use Rattle.overlap_law.specs.AwaitedEntries.{IsCommandEntry, IsSessionsCommand, IsSessionsEntry, IsSessionsStage}
@@ -54,7 +59,9 @@ use Rattle.overlap_law.proofs.ClaimCommands.{IsWaitedAt, IsDiskSafe, IsStepKept,
 use Rattle.overlap_law.proofs.CountedEntries.{times, same_entry}
 use Rattle.overlap_law.proofs.DriverNames.{driver_begins-named, driver_goes_on-named}
 use Rattle.overlap_law.proofs.OpenDiskChanges.{AreOpenSoFar}
-use Rattle.overlap_law.proofs.ClaimRequests.{IsReadOf, HasSoFar, IsNextKept, IsSoleIn, counted_from, plain_there_lets, freed_kept, arrived_lets, sole_kept, driven_kept, driver_next, check_next, done_lets, safe_disks, its_stage, stepped, reply_next, no_more_of}
+use Rattle.overlap_law.proofs.ClaimRequests.{IsReadOf, HasSoFar, IsNextKept, IsSoleIn, counted_from, plain_there_lets, freed_kept}
+use Rattle.overlap_law.proofs.ClaimRequests.{arrived_lets, sole_kept, driven_kept, driver_next, check_next, done_lets, safe_disks}
+use Rattle.overlap_law.proofs.ClaimRequests.{its_stage, stepped, reply_next, no_more_of}
 use Rattle.overlap_law.proofs.ClaimBegins.{begins_in, begins_next}
 
 module _ (read unread : List Entry) (input : Input) (node : Node) (meets : MeetsCommands read input node) (log : List Entry) (from : ℕ)
@@ -75,7 +82,8 @@ module _ (read unread : List Entry) (input : Input) (node : Node) (meets : Meets
 
   module _ (so_far : StepState) (so : Is so_far) (all : AreOpenSoFar so_far) (has : Has so_far) (session req number : ℕ) (work : Work)
       (attempt : Attempt) (status : Status) (bytes : List ℕ) (op : Op) (step : OpStep)
-      (ends : EndsWork input node so_far session req number work attempt status (Commanding op) bytes) (is : op_on_done bytes op ≡ Some step) where
+      (ends : EndsWork input node so_far session req number work attempt status (Commanding op) bytes)
+      (is : op_on_done bytes op ≡ Some step) where
     abbrev freed : StepState
     freed = without_ended_work session req work status so_far
 
@@ -91,13 +99,14 @@ module _ (read unread : List Entry) (input : Input) (node : Node) (meets : Meets
 
     unseen_on : (vid : Vid) (entry : Entry) (made : Option Content) → op.stage ≡ Working vid (Making entry made) → IsUnseen log from entry
     unseen_on vid entry made at place after got =
-        let its : IsSessionsCommand (log_effects read) node.me session op = so.commands.own req (record { session = session; course = Commanding op }) there_on in
+        let its : IsSessionsCommand (log_effects read) node.me session op = so.commands.own req
+        (record { session = session; course = Commanding op }) there_on in
         let sessions_own : IsSessionsEntry (log_effects read) node.me session entry
         = subst (IsSessionsStage (log_effects read) node.me session) at its.stage in
         let kept = has.commands req (record { session = session; course = Commanding op }) op there_on refl in
         let own : IsCommandEntry node.me entry
-        = command_made vid entry made (subst (IsStageKept log so_far.node.outbox read from node.me session (opened_in session so_far.node.sessions)) at kept)
-        sessions_own in
+        = command_made vid entry made (subst (IsStageKept log so_far.node.outbox read from node.me session
+        (opened_in session so_far.node.sessions)) at kept) sessions_own in
         let none =
         none_on_the_way read node.me unread (entry_of_input input) so_far.node.me so_far.node.requests so_far.node.outbox so session
         (λ other request got command of entry waits.
@@ -136,7 +145,8 @@ module _ (read unread : List Entry) (input : Input) (node : Node) (meets : Meets
         = one_alike log read from node.me outbox so_far.node.requests so_far.node.sessions session _ refl has in
         let safe =
         safe_disks read unread input node meets log from reads outbox so_far.node.requests so_far.node.sessions has session
-        (λ vid goes. done_lets read unread input node meets log from reads bytes op step is vid (its_stage read unread input node meets log from reads so_far.node.requests session req op there_on sole_on vid goes)) in
+        (λ vid goes. done_lets read unread input node meets log from reads bytes op step is vid
+        (its_stage read unread input node meets log from reads so_far.node.requests session req op there_on sole_on vid goes)) in
         let kept = has.commands req (record { session = session; course = Commanding op }) op there_on refl in
         let fits = all req (record { session = session; course = Commanding op }) there_on in
         stepped read unread input node meets log from reads outbox freed freed_has session req step own_on sole_on
@@ -151,7 +161,8 @@ module _ (read unread : List Entry) (input : Input) (node : Node) (meets : Meets
         → HasClaims log (so_far.node.outbox ++ entry ∷ []) read from node.me so_far.node.requests so_far.node.sessions
     made_put entry vid made at =
         more_claims log read from node.me so_far.node.outbox so_far.node.requests so_far.node.sessions entry (no_unlocks entry made kept)
-        (λ q request other got command. no_more_of read unread input node meets log from reads so_far.node.outbox entry other.stage (λ opened stage. only_here q request other got command opened stage)) has
+        (λ q request other got command. no_more_of read unread input node meets log from reads so_far.node.outbox entry other.stage
+        (λ opened stage. only_here q request other got command opened stage)) has
       where
         kept : IsMakingKept log so_far.node.outbox read from node.me session (opened_in session so_far.node.sessions) vid entry made
         kept = subst (IsStageKept log so_far.node.outbox read from node.me session (opened_in session so_far.node.sessions)) at
@@ -174,7 +185,8 @@ module _ (read unread : List Entry) (input : Input) (node : Node) (meets : Meets
         no_unlocks (Unlock by of id) made kept s v = absurd kept
 
         -- no other command publishes it: it would be of the same session
-        only_here : (q : ℕ) (request : Request) (other : Op) → tree.get so_far.node.requests q ≡ Some request → request.course ≡ Commanding other
+        only_here : (q : ℕ) (request : Request) (other : Op) → tree.get so_far.node.requests q ≡ Some request
+            → request.course ≡ Commanding other
             → (opened : Option Content) → other.stage ≡ Publishing entry opened → ⊥
         only_here q request other got command opened stage =
             let mine : IsSessionsEntry (log_effects read) node.me session entry
@@ -197,7 +209,8 @@ module _ (read unread : List Entry) (input : Input) (node : Node) (meets : Meets
         → IsNext (after_command_step session req step freed) req (outcome_of_command act)
     unfolding op_on_done
     goes_on_next (op_acts.Work asked) awaited acts = tt
-    goes_on_next (op_acts.Reply reply) awaited acts = reply_next read unread input node meets log from reads freed session req step reply awaited
+    goes_on_next (op_acts.Reply reply) awaited acts =
+        reply_next read unread input node meets log from reads freed session req step reply awaited
     goes_on_next (op_acts.Append entry) awaited acts = by_stage op.stage refl is
       where
         by_task : (vid : Vid) (task : Task) → op.stage ≡ Working vid task → task_done op vid bytes task ≡ step
@@ -228,7 +241,8 @@ module _ (read unread : List Entry) (input : Input) (node : Node) (meets : Meets
   module _ (so_far : StepState) (so : Is so_far) (all : AreOpenSoFar so_far) (has : Has so_far) (session req : ℕ) (entry : Entry) (op : Op)
       (step : OpStep) (input_so : input ≡ inputs.LogEntry entry) (peer : so_far.node.peer ≡ (entry_read entry node).peer)
       (there : HasRequest session req (Commanding op) so_far) (waits : waits_for_entry entry (Commanding op) ≡ true)
-      (is : on_decision (effects_of so_far.node.peer) (inode_open (session_in session so_far).disk) (decision_on entry node.peer) op ≡ Some step) where
+      (is : on_decision (effects_of so_far.node.peer) (inode_open (session_in session so_far).disk) (decision_on entry node.peer) op
+      ≡ Some step) where
     sole_decided : IsSole so_far.node.requests req session
     sole_decided other request got command of =
         so.commands.apart other req request (record { session = session; course = Commanding op }) got there command refl of
@@ -263,7 +277,8 @@ module _ (read unread : List Entry) (input : Input) (node : Node) (meets : Meets
           ⊎_elim (λ (lock : HasLock log so_far.node.outbox node.me session (epoch_of read) disk.inode.vid). lock)
               (λ (goes : IsLetGo so_far.node.requests session disk.inode.vid).
               absurd (never (lets_by disk.inode.vid op.stage (waited op.stage waits)
-              (its_stage read unread input node meets log from reads so_far.node.requests session req op there sole_decided disk.inode.vid goes)))) is,
+              (its_stage read unread input node meets log from reads so_far.node.requests session req op there sole_decided disk.inode.vid
+              goes)))) is,
         )
 
     decided_now : HasClaims log so_far.node.outbox read from node.me (after_command_step session req step so_far).node.requests
@@ -281,24 +296,31 @@ module _ (read unread : List Entry) (input : Input) (node : Node) (meets : Meets
         → IsNext (after_command_step session req step so_far) req (outcome_of_command act)
     decided_next (op_acts.Append put) nothing awaited = absurd nothing
     decided_next (op_acts.Work asked) nothing awaited = tt
-    decided_next (op_acts.Reply reply) nothing awaited = reply_next read unread input node meets log from reads so_far session req step reply awaited
+    decided_next (op_acts.Reply reply) nothing awaited =
+        reply_next read unread input node meets log from reads so_far session req step reply awaited
 
   -- ---- a request takes a step
 
-  pub steps_kept : (so_far : StepState) (session req : ℕ) (next : Outcome) (moved : StepState) → RequestSteps input node so_far session req next moved
+  pub steps_kept : (so_far : StepState) (session req : ℕ) (next : Outcome) (moved : StepState)
+      → RequestSteps input node so_far session req next moved
       → Is so_far → AreOpenSoFar so_far → Has so_far → Has moved × IsNext moved req next
   steps_kept so_far session req next moved (DiskBegins ask disk there on may) so all has =
       let step = drivers.begin_driver disk ask in (
-        driven_kept read unread input node meets log from reads session req disk step so_far on (driver_begins-wanted disk ask) (driver_begins-named disk ask)
+        driven_kept read unread input node meets log from reads session req disk step so_far on (driver_begins-wanted disk ask)
+            (driver_begins-named disk ask)
             (plain_there_lets read unread input node meets log from reads so_far.node.requests session req (Waiting ask) refl there) has,
-        driver_next read unread input node meets log from reads step.act (after_driver_step session req disk step so_far) session req step.driver
+        driver_next read unread input node meets log from reads step.act (after_driver_step session req disk step so_far) session req
+            step.driver
             (get-insert_same so_far.node.requests req (record { session = session; course = Driving step.driver })),
       )
   steps_kept so_far session req next moved (DiskGoesOn number work attempt status bytes driver disk step ends on is) so all has = (
-    driven_kept read unread input node meets log from reads session req disk step (without_ended_work session req work status so_far) on (driver_goes_on-wanted disk.inode bytes driver step is)
+    driven_kept read unread input node meets log from reads session req disk step (without_ended_work session req work status so_far) on
+        (driver_goes_on-wanted disk.inode bytes driver step is)
         (driver_goes_on-named disk.inode bytes driver step is)
-        (plain_there_lets read unread input node meets log from reads so_far.node.requests session req (Driving driver) refl ends.ends.request) (freed_kept read unread input node meets log from reads session req work status so_far has),
-    driver_next read unread input node meets log from reads step.act (after_driver_step session req disk step (without_ended_work session req work status so_far)) session req step.driver
+        (plain_there_lets read unread input node meets log from reads so_far.node.requests session req (Driving driver) refl
+        ends.ends.request) (freed_kept read unread input node meets log from reads session req work status so_far has),
+    driver_next read unread input node meets log from reads step.act
+        (after_driver_step session req disk step (without_ended_work session req work status so_far)) session req step.driver
         (get-insert_same so_far.node.requests req (record { session = session; course = Driving step.driver })),
   )
   steps_kept so_far session req next moved (CommandBegins ask step arrival is) so all has =
@@ -322,18 +344,24 @@ module _ (read unread : List Entry) (input : Input) (node : Node) (meets : Meets
             (decision_awaited (effects_of so_far.node.peer) disk (decision_on entry node.peer) op) is),
       )
   steps_kept so_far session req next moved (CheckBegins inode arrival on) so all has = (
-    sole_kept read unread input node meets log from reads session req (Checking (begin_check inode).check) so_far refl (arrived_lets read unread input node meets log from reads so_far session req (asks.Vdi disk_commands.Check) arrival) has,
+    sole_kept read unread input node meets log from reads session req (Checking (begin_check inode).check) so_far refl
+        (arrived_lets read unread input node meets log from reads so_far session req (asks.Vdi disk_commands.Check) arrival) has,
     check_next read unread input node meets log from reads (begin_check inode).act moved session req (begin_check inode).check
         (get-insert_same so_far.node.requests req (record { session = session; course = Checking (begin_check inode).check })),
   )
   steps_kept so_far session req next moved (CheckGoesOn number work attempt status bytes check step ends is) so all has = (
-    sole_kept read unread input node meets log from reads session req (Checking step.check) (without_ended_work session req work status so_far) refl
-        (plain_there_lets read unread input node meets log from reads so_far.node.requests session req (Checking check) refl ends.ends.request) (freed_kept read unread input node meets log from reads session req work status so_far has),
+    sole_kept read unread input node meets log from reads session req (Checking step.check)
+        (without_ended_work session req work status so_far) refl
+        (plain_there_lets read unread input node meets log from reads so_far.node.requests session req (Checking check) refl
+        ends.ends.request) (freed_kept read unread input node meets log from reads session req work status so_far has),
     check_next read unread input node meets log from reads step.act moved session req step.check
         (get-insert_same so_far.node.requests req (record { session = session; course = Checking step.check })),
   )
-  steps_kept so_far session req next moved (ObjectBegins asked arrival) so all has =
-      (sole_kept read unread input node meets log from reads session req (DoingWork asked) so_far refl (arrived_lets read unread input node meets log from reads so_far session req (asks.Object asked) arrival) has, tt)
+  steps_kept so_far session req next moved (ObjectBegins asked arrival) so all has = (
+    sole_kept read unread input node meets log from reads session req (DoingWork asked) so_far refl
+        (arrived_lets read unread input node meets log from reads so_far session req (asks.Object asked) arrival) has,
+    tt,
+  )
   steps_kept so_far session req next moved (ObjectIsDone number work attempt status bytes asked ends) so all has = (
     freed_kept read unread input node meets log from reads session req work status so_far has,
     plain_there_lets read unread input node meets log from reads so_far.node.requests session req (DoingWork asked) refl ends.ends.request,

@@ -1,11 +1,13 @@
 -- What a command and an open disk rest on is so still where the outbox is another, and where the log has an entry more that takes nothing.
-use Rattle.std.proofs.Common.{◌≡◌, inl, inr, ⊎_elim, ℕ, zero, suc, ◌+◌, ◌≤◌, ◌<◌, Bool, true, false, List, [], ◌∷◌, ◌++◌, length, take, Option, Some, None, refl, sym, ap, subst, ◌∙◌, arith}
+use Rattle.std.proofs.Common.{◌≡◌, inl, inr, ⊎_elim, ℕ, zero, suc, ◌+◌, ◌≤◌, ◌<◌, Bool, true, false, List, [], ◌∷◌, ◌++◌, length, take}
+use Rattle.std.proofs.Common.{Option, Some, None, refl, sym, ap, subst, ◌∙◌, arith}
 use Rattle.std.specs.List.{list_any, slice_get}
 use Rattle.std.specs.Ordering.{nat_cmp}
 use Rattle.std.specs.FinMap as tree
 use Rattle.std.proofs.lemmas.List.{take-append-le, take_all, length-append}
 use Rattle.object_id.specs.declared.entry.Entry.{Entry}
-use Rattle.object_id.specs.declared.entry.Entry.TheVariants.{Format, Join, Leave, Reweight, Recovered, Reserve, Publish, Clone, Snapshot, Delete, Lock, Unlock}
+use Rattle.object_id.specs.declared.entry.Entry.TheVariants.{Format, Join, Leave, Reweight, Recovered, Reserve, Publish, Clone, Snapshot}
+use Rattle.object_id.specs.declared.entry.Entry.TheVariants.{Delete, Lock, Unlock}
 use Rattle.object_id.specs.declared.entry.Origin.TheVariants.{Fresh, SnapshotOf, CloneOf}
 use Rattle.object_id.specs.declared.node.NodeId.{NodeId}
 use Rattle.object_id.specs.declared.oid.Vid.{Vid}
@@ -16,11 +18,13 @@ use Rattle.vdi_directory.specs.Decisions.{log_effects, decision_after}
 use Rattle.vdi_ops.specs.Op.{Task, Opening, WritingBack, Tagging, Copying, Making, OpStage, Asked, Working, Publishing, Answered}
 use Rattle.sheep_node.specs.declared.course.Request.{Request}
 use Rattle.overlap_law.specs.Grants.{writer_of, may_take_writer}
-use Rattle.overlap_law.specs.WriterClaims.{holder_at, HasLock, HasReservation, HasPlace, IsGrantKept, IsForDisk, IsAskedSo, IsMadeFor, IsMakingKept, IsTaskKept, IsReplacing, IsPublicationKept, IsStageKept, IsLetGo, IsDiskKept}
+use Rattle.overlap_law.specs.WriterClaims.{holder_at, HasLock, HasReservation, HasPlace, IsGrantKept, IsForDisk, IsAskedSo, IsMadeFor}
+use Rattle.overlap_law.specs.WriterClaims.{IsMakingKept, IsTaskKept, IsReplacing, IsPublicationKept, IsStageKept, IsLetGo, IsDiskKept}
 use Rattle.overlap_law.specs.Writers.{unlocks}
 use Rattle.overlap_law.proofs.AttemptLists.{got_more}
 use Rattle.overlap_law.proofs.CountedEntries.{times}
-use Rattle.overlap_law.proofs.KeptIds.{no_more_stays, named_stays, lock-writer, reservation-writer, lock_stays, reserved_stays, place_stays, lock_with, reserved_with, place_with}
+use Rattle.overlap_law.proofs.KeptIds.{no_more_stays, named_stays, lock-writer, reservation-writer, lock_stays, reserved_stays, place_stays}
+use Rattle.overlap_law.proofs.KeptIds.{lock_with, reserved_with, place_with}
 
 -- ---- another outbox
 
@@ -93,7 +97,8 @@ module _ (log outbox later read : List Entry) (from : ℕ) (me : NodeId) (sessio
     task_over vid (Making entry made) is = making_over vid entry made is
 
     publication_over : (entry : Entry) (made : Option Content) → (1 ≤ times entry later → 1 ≤ times entry outbox)
-        → IsPublicationKept log outbox read from me session opened entry made → IsPublicationKept log later read from me session opened entry made
+        → IsPublicationKept log outbox read from me session opened entry made
+        → IsPublicationKept log later read from me session opened entry made
     publication_over (Format members) made no_more is = is
     publication_over (Join node zone vnodes) made no_more is = is
     publication_over (Leave node) made no_more is = is
@@ -116,14 +121,16 @@ module _ (log outbox later read : List Entry) (from : ℕ) (me : NodeId) (sessio
         → IsStageKept log later read from me session opened stage
     stage_over (Asked entry) no_more is = record {
       first = is.first;
-      granted = λ place after got vid granted. grant_over (epoch_of (take (place + 1) log)) vid.0 entry (is.granted place after got vid granted);
+      granted = λ place after got vid granted. grant_over (epoch_of (take (place + 1) log)) vid.0 entry
+          (is.granted place after got vid granted);
       for_disk = is.for_disk;
     }
     stage_over (Working vid task) no_more is = task_over vid task is
     stage_over (Publishing entry made) no_more is = publication_over entry made (no_more entry made refl) is
     stage_over (Answered change) no_more is = tt
 
-  pub disk_over : (requests : tree.FinMap nat_cmp Request) (snapshot : Bool) (inode : Content) → IsDiskKept log outbox read me requests session snapshot inode
+  pub disk_over : (requests : tree.FinMap nat_cmp Request) (snapshot : Bool) (inode : Content)
+      → IsDiskKept log outbox read me requests session snapshot inode
       → IsDiskKept log later read me requests session snapshot inode
   disk_over requests true inode is = is
   disk_over requests false inode (named, is) = (
@@ -150,20 +157,25 @@ TakesNone log outbox me session last =
     (vid : ℕ) → writer_of (log_effects log) vid ≡ Some (holder_at me session) → list_any (unlocks session vid) outbox ≡ false
     → may_take_writer vid (holder_at me session) last ≡ false
 
-module _ (log outbox read : List Entry) (from : ℕ) (me : NodeId) (session : ℕ) (last : Entry) (none : TakesNone log outbox me session last) where
+module _ (log outbox read : List Entry) (from : ℕ) (me : NodeId) (session : ℕ) (last : Entry)
+    (none : TakesNone log outbox me session last) where
   abbrev longer : List Entry
   longer = log ++ last ∷ []
 
   pub lock_on : (epoch vid : ℕ) → HasLock log outbox me session epoch vid → HasLock (log ++ last ∷ []) outbox me session epoch vid
-  lock_on epoch vid has = lock_stays log outbox me session epoch vid last (none vid (lock-writer log outbox me session epoch vid has) has.kept) has
+  lock_on epoch vid has =
+      lock_stays log outbox me session epoch vid last (none vid (lock-writer log outbox me session epoch vid has) has.kept) has
 
-  reserved_on : (epoch vid : ℕ) → HasReservation log outbox me session epoch vid → HasReservation (log ++ last ∷ []) outbox me session epoch vid
+  reserved_on : (epoch vid : ℕ) → HasReservation log outbox me session epoch vid
+      → HasReservation (log ++ last ∷ []) outbox me session epoch vid
   reserved_on epoch vid has =
       reserved_stays log outbox me session epoch vid last (none vid (reservation-writer log outbox me session epoch vid has) has.kept) has
 
-  place_on : (epoch vid old : ℕ) → HasPlace log outbox me session epoch vid old → HasPlace (log ++ last ∷ []) outbox me session epoch vid old
+  place_on : (epoch vid old : ℕ) → HasPlace log outbox me session epoch vid old
+      → HasPlace (log ++ last ∷ []) outbox me session epoch vid old
   place_on epoch vid old has =
-      place_stays log outbox me session epoch vid last (none vid (reservation-writer log outbox me session epoch vid has.has) has.has.kept) old has
+      place_stays log outbox me session epoch vid last (none vid (reservation-writer log outbox me session epoch vid has.has) has.has.kept)
+      old has
 
   module _ (opened : Option (Bool × ℕ)) where
     grant_on : (epoch vid : ℕ) (entry : Entry) → IsGrantKept log outbox read from me session opened epoch vid entry
@@ -184,7 +196,8 @@ module _ (log outbox read : List Entry) (from : ℕ) (me : NodeId) (session : �
     grant_on epoch vid (Lock by of name (Some tag)) is = no_more_stays log last vid is
     grant_on epoch vid (Unlock by of old) is = tt
 
-    for_disk_on : (entry : Entry) → IsForDisk log outbox read from me session opened entry → IsForDisk (log ++ last ∷ []) outbox read from me session opened entry
+    for_disk_on : (entry : Entry) → IsForDisk log outbox read from me session opened entry
+        → IsForDisk (log ++ last ∷ []) outbox read from me session opened entry
     for_disk_on (Format members) is = tt
     for_disk_on (Join node zone vnodes) is = tt
     for_disk_on (Leave node) is = tt
@@ -235,7 +248,8 @@ module _ (log outbox read : List Entry) (from : ℕ) (me : NodeId) (session : �
 
     -- that of a snapshot: its session has the lock
     abbrev pub GivesReplaced : Entry → Type 0
-    GivesReplaced (Snapshot by old of) = last ≡ Snapshot by old of → HasLock (log ++ last ∷ []) outbox me session (epoch_of (log ++ last ∷ [])) of.0
+    GivesReplaced (Snapshot by old of) =
+        last ≡ Snapshot by old of → HasLock (log ++ last ∷ []) outbox me session (epoch_of (log ++ last ∷ [])) of.0
     GivesReplaced entry = Unit {0}
 
     pub asked_on : (entry : Entry) → GivesAsked entry → IsAskedSo log outbox read from me session opened entry
@@ -252,12 +266,13 @@ module _ (log outbox read : List Entry) (from : ℕ) (me : NodeId) (session : �
           (is.granted place after old vid (ap (λ (upto : List Entry). decision_after upto entry) (sym shorter) ∙ granted))))
           (λ (new : (place ≡ length log) × (last ≡ entry)).
           let shorter : take place (log ++ last ∷ []) ≡ log
-          = ap (λ (k : ℕ). take k (log ++ last ∷ [])) new.0 ∙ earlier log last (length log) (omega arith) ∙ take_all (length log) log (omega arith) in
+          = ap (λ (k : ℕ). take k (log ++ last ∷ [])) new.0 ∙ earlier log last (length log) (omega arith)
+          ∙ take_all (length log) log (omega arith) in
           let count : length (log ++ last ∷ []) ≡ length log + 1 = length-append log (last ∷ []) in
           let all : take (place + 1) (log ++ last ∷ []) ≡ log ++ last ∷ []
           = ap (λ (k : ℕ). take (k + 1) (log ++ last ∷ [])) new.0 ∙ take_all (length log + 1) (log ++ last ∷ []) (omega (arith, count)) in
-          subst (λ (upto : List Entry). IsGrantKept (log ++ last ∷ []) outbox read from me session opened (epoch_of upto) vid.0 entry) (sym all)
-          (gives new.1 vid (ap (λ (upto : List Entry). decision_after upto entry) (sym shorter) ∙ granted)))
+          subst (λ (upto : List Entry). IsGrantKept (log ++ last ∷ []) outbox read from me session opened (epoch_of upto) vid.0 entry)
+          (sym all) (gives new.1 vid (ap (λ (upto : List Entry). decision_after upto entry) (sym shorter) ∙ granted)))
           (got_more log last place entry got);
       for_disk = for_disk_on entry is.for_disk;
     }
@@ -265,7 +280,8 @@ module _ (log outbox read : List Entry) (from : ℕ) (me : NodeId) (session : �
     module _ (old of : Vid) (entry : Entry) (made : Option Content)
         (gives : last ≡ entry → HasLock (log ++ last ∷ []) outbox me session (epoch_of (log ++ last ∷ [])) of.0) where
       -- the lock that a snapshot's entry gave
-      pub placed_on : ((place : ℕ) → from ≤ place → slice_get log place ≡ Some entry → HasLock log outbox me session (epoch_of (take (place + 1) log)) of.0)
+      pub placed_on : ((place : ℕ) → from ≤ place → slice_get log place ≡ Some entry
+          → HasLock log outbox me session (epoch_of (take (place + 1) log)) of.0)
           → (place : ℕ) → from ≤ place → slice_get (log ++ last ∷ []) place ≡ Some entry
           → HasLock (log ++ last ∷ []) outbox me session (epoch_of (take (place + 1) (log ++ last ∷ []))) of.0
       placed_on is place after got = ⊎_elim
@@ -290,7 +306,8 @@ module _ (log outbox read : List Entry) (from : ℕ) (me : NodeId) (session : �
         named = named_on of.0 made is.named;
       }
 
-    pub publication_on : (entry : Entry) (made : Option Content) → GivesReplaced entry → IsPublicationKept log outbox read from me session opened entry made
+    pub publication_on : (entry : Entry) (made : Option Content) → GivesReplaced entry
+        → IsPublicationKept log outbox read from me session opened entry made
         → IsPublicationKept (log ++ last ∷ []) outbox read from me session opened entry made
     publication_on (Format members) made gives is = is
     publication_on (Join node zone vnodes) made gives is = is
@@ -319,7 +336,8 @@ module _ (log outbox read : List Entry) (from : ℕ) (me : NodeId) (session : �
     stage_on (Publishing entry made) gives is = publication_on entry made gives is
     stage_on (Answered change) gives is = tt
 
-  pub disk_on : (requests : tree.FinMap nat_cmp Request) (snapshot : Bool) (inode : Content) → IsDiskKept log outbox read me requests session snapshot inode
+  pub disk_on : (requests : tree.FinMap nat_cmp Request) (snapshot : Bool) (inode : Content)
+      → IsDiskKept log outbox read me requests session snapshot inode
       → IsDiskKept (log ++ last ∷ []) outbox read me requests session snapshot inode
   disk_on requests true inode is = no_more_stays log last inode.vid is
   disk_on requests false inode (named, is) = (

@@ -1,5 +1,6 @@
 -- An unlock is put: its session claims the id no more, and where the id is that of an open disk it has that locked until then.
-use Rattle.std.proofs.Common.{◌≡◌, ◌≢◌, ⊎_elim, ℕ, ◌+◌, ◌≤◌, ◌==◌, Bool, true, false, ◌&&◌, ◌||◌, List, [], ◌∷◌, ◌++◌, Some, refl, sym, ap, subst, ◌∙◌, arith}
+use Rattle.std.proofs.Common.{◌≡◌, ◌≢◌, ⊎_elim, ℕ, ◌+◌, ◌≤◌, ◌==◌, Bool, true, false, ◌&&◌, ◌||◌, List, [], ◌∷◌, ◌++◌, Some, refl, sym, ap}
+use Rattle.std.proofs.Common.{subst, ◌∙◌, arith}
 use Rattle.std.specs.FinMap as tree
 use Rattle.std.proofs.lemmas.Bool.{cases_eq, ne_eqb}
 use Rattle.std.proofs.lemmas.List.Folds.{list_any-append}
@@ -31,7 +32,8 @@ vid_unlocked (Unlock by session vid) = vid.0
 vid_unlocked entry = 0
 
 module _ (log read : List Entry) (from : ℕ) (me : NodeId) (outbox : List Entry) (requests : Requests) where
-  module _ (sessions : Sessions) (session vid : ℕ) (may : IsUnlockKept log me session vid (times (unlock_of me session vid) outbox + 1)) where
+  module _ (sessions : Sessions) (session vid : ℕ) (may : IsUnlockKept log me session vid
+      (times (unlock_of me session vid) outbox + 1)) where
     abbrev unlock : Entry
     unlock = unlock_of me session vid
 
@@ -41,7 +43,8 @@ module _ (log read : List Entry) (from : ℕ) (me : NodeId) (outbox : List Entry
         list_any-append (unlocks q of) outbox (unlock ∷ [])
         ∙ (λ i. kept i || ((ne_eqb session q (λ same. apart (sym same)) i && (vid == of)) || false))
 
-    counted : (q of : ℕ) → 1 ≤ times (unlock_of me q of) (outbox ++ unlock_of me session vid ∷ []) → Claims log read from me outbox requests sessions
+    counted : (q of : ℕ) → 1 ≤ times (unlock_of me q of) (outbox ++ unlock_of me session vid ∷ [])
+        → Claims log read from me outbox requests sessions
         → IsUnlockKept log me q of (times (unlock_of me q of) (outbox ++ unlock_of me session vid ∷ []))
     counted q of there has = by_test (is_same_entry (unlock_of me q of) unlock) refl
       where
@@ -61,11 +64,13 @@ module _ (log read : List Entry) (from : ℕ) (me : NodeId) (outbox : List Entry
             (sym (times-push unlock outbox unlock ∙ ap (λ (c : Bool). times unlock outbox + once_if c) (itself unlock))) may))
         by_test false apart =
             let same : times (unlock_of me q of) (outbox ++ unlock ∷ []) ≡ times (unlock_of me q of) outbox
-            = (let all : times (unlock_of me q of) (outbox ++ unlock ∷ []) ≡ times (unlock_of me q of) outbox + 0 = more false apart in omega (arith, all)) in
+            = (let all : times (unlock_of me q of) (outbox ++ unlock ∷ [])
+            ≡ times (unlock_of me q of) outbox + 0 = more false apart in omega (arith, all)) in
             subst (IsUnlockKept log me q of) (sym same) (has.unlocked q of (subst (λ (k : ℕ). 1 ≤ k) same there))
 
     -- a disk of another session
-    yet_apart : (q of : ℕ) → q ≢ session → 1 ≤ times (unlock_of me q of) (outbox ++ unlock_of me session vid ∷ []) → 1 ≤ times (unlock_of me q of) outbox
+    yet_apart : (q of : ℕ) → q ≢ session → 1 ≤ times (unlock_of me q of) (outbox ++ unlock_of me session vid ∷ [])
+        → 1 ≤ times (unlock_of me q of) outbox
     yet_apart q of apart there = by_test (is_same_entry (unlock_of me q of) unlock) refl
       where
         by_test : (b : Bool) → is_same_entry (unlock_of me q of) unlock ≡ b → 1 ≤ times (unlock_of me q of) outbox
@@ -79,11 +84,14 @@ module _ (log read : List Entry) (from : ℕ) (me : NodeId) (outbox : List Entry
         → PutsNoMore outbox (outbox ++ unlock_of me session vid ∷ []) op.stage)
         → ((req : ℕ) (request : Request) (op : Op) → tree.get requests req ≡ Some request → request.course ≡ Commanding op
         → request.session ≡ session
-        → IsStageKept log (outbox ++ unlock_of me session vid ∷ []) read from me request.session (opened_in request.session sessions) op.stage)
+        → IsStageKept log (outbox ++ unlock_of me session vid ∷ []) read from me request.session (opened_in request.session sessions)
+        op.stage)
         → ((disk : Disk) → disk_of session sessions ≡ Some disk
         → IsDiskKept log (outbox ++ unlock_of me session vid ∷ []) read me requests session disk.snapshot disk.inode)
-        → ((disk : Disk) → disk_of session sessions ≡ Some disk → disk.snapshot ≡ false → HasLockYet log me session (epoch_of read) disk.inode.vid)
-        → Claims log read from me outbox requests sessions → Claims log read from me (outbox ++ unlock_of me session vid ∷ []) requests sessions
+        → ((disk : Disk) → disk_of session sessions ≡ Some disk → disk.snapshot ≡ false
+        → HasLockYet log me session (epoch_of read) disk.inode.vid)
+        → Claims log read from me outbox requests sessions
+        → Claims log read from me (outbox ++ unlock_of me session vid ∷ []) requests sessions
     unlocked_claims no_more own_stage own_disk own_yet has = record {
       unlocked = λ q of there. counted q of there has;
       commands = λ req request op there command. ⊎_elim

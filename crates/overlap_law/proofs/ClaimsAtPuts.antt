@@ -1,11 +1,13 @@
 -- By its kind, each entry that a node puts leaves what its sessions' works rest on.
-use Rattle.std.proofs.Common.{◌≡◌, ◌≢◌, ◌⊎◌, inl, inr, ⊎_elim, ℕ, ◌+◌, ◌≤◌, ◌==◌, Bool, true, false, ◌&&◌, ◌||◌, List, [], ◌∷◌, ◌++◌, All, length, take, Some, None, refl, sym, ap, subst, ◌∙◌, arith}
+use Rattle.std.proofs.Common.{◌≡◌, ◌≢◌, ◌⊎◌, inl, inr, ⊎_elim, ℕ, ◌+◌, ◌≤◌, ◌==◌, Bool, true, false, ◌&&◌, ◌||◌, List, [], ◌∷◌, ◌++◌, All}
+use Rattle.std.proofs.Common.{length, take, Some, None, refl, sym, ap, subst, ◌∙◌, arith}
 use Rattle.std.specs.List.{slice_get}
 use Rattle.std.proofs.lemmas.Bool.{and_parts, eq-eqb, eqb-true}
 use Rattle.std.proofs.lemmas.List.{take_all, length-append}
 use Rattle.std.proofs.lemmas.List.Elements.{All-head}
 use Rattle.object_id.specs.declared.entry.Entry.{Entry}
-use Rattle.object_id.specs.declared.entry.Entry.TheVariants.{Format, Join, Leave, Reweight, Recovered, Reserve, Publish, Clone, Snapshot, Delete, Lock, Unlock}
+use Rattle.object_id.specs.declared.entry.Entry.TheVariants.{Format, Join, Leave, Reweight, Recovered, Reserve, Publish, Clone, Snapshot}
+use Rattle.object_id.specs.declared.entry.Entry.TheVariants.{Delete, Lock, Unlock}
 use Rattle.object_id.specs.declared.node.NodeId.{NodeId}
 use Rattle.object_id.specs.declared.oid.Vid.{Vid}
 use Rattle.epoch_log.specs.Epochs.{epoch_of}
@@ -44,7 +46,8 @@ module _ (log later read : List Entry) (from : ℕ) (me : NodeId) (unread : List
     plain_entry unsnapped nothing =
         nothing_put log last later read from me requests sessions own has
         (commands_own log last later read from me unread requests sessions own awaited has)
-        (apart log last later read from me unread requests sessions own awaited has) unsnapped (λ vid writer. nothing vid writer.session writer.node)
+        (apart log last later read from me unread requests sessions own awaited has) unsnapped
+        (λ vid writer. nothing vid writer.session writer.node)
 
     -- it stands there once, where a request waits for it
     stands_once : IsCommandEntry me last → times last (last ∷ later) ≤ 1
@@ -116,7 +119,8 @@ module _ (log later read : List Entry) (from : ℕ) (me : NodeId) (unread : List
             kept = kept_tail log last later read from me requests sessions own has session vid.0 (kept.to_put here).has.kept;
             since =
                 let at_put : granted_in (log ++ last ∷ []) vid.0 ≡ epoch_of (log ++ last ∷ [])
-                = ap (λ (e : Entry). granted_in (log ++ e ∷ []) vid.0) put ∙ given.since ∙ ap (λ (e : Entry). epoch_of (log ++ e ∷ [])) (sym put) in
+                = ap (λ (e : Entry). granted_in (log ++ e ∷ []) vid.0) put ∙ given.since
+                ∙ ap (λ (e : Entry). epoch_of (log ++ e ∷ [])) (sym put) in
                 omega (arith, at_put);
           }
 
@@ -124,8 +128,8 @@ module _ (log later read : List Entry) (from : ℕ) (me : NodeId) (unread : List
           → HasLock (log ++ Snapshot by old vid ∷ []) later me session (epoch_of (take (place + 1) (log ++ Snapshot by old vid ∷ []))) vid.0
       placed_then place after got = ⊎_elim
           (λ (there : slice_get log place ≡ Some last).
-          absurd (reserved_apart log (last ∷ later) me session (epoch_of read) vid.0 (epoch_of (take (place + 1) log)) vid.0 (kept.to_put here).has
-          (kept.placed place after there) refl))
+          absurd (reserved_apart log (last ∷ later) me session (epoch_of read) vid.0 (epoch_of (take (place + 1) log)) vid.0
+          (kept.to_put here).has (kept.placed place after there) refl))
           (λ (new : (place ≡ length log) × (last ≡ last)).
           let count : length (log ++ last ∷ []) ≡ length log + 1 = length-append log (last ∷ []) in
           let all : take (place + 1) (log ++ last ∷ []) ≡ log ++ last ∷ []
@@ -144,7 +148,8 @@ module _ (log later read : List Entry) (from : ℕ) (me : NodeId) (unread : List
 
     snapshot_entry : HasClaims (log ++ Snapshot by old vid ∷ []) later read from me requests sessions
     snapshot_entry =
-        let kept = subst (IsStageKept log (last ∷ later) read from me which.request.session (opened_in which.request.session sessions)) which.at
+        let kept = subst (IsStageKept log (last ∷ later) read from me which.request.session (opened_in which.request.session sessions))
+        which.at
         (has.commands which.req which.request which.op which.there which.command) in
         published log last later read from me unread requests sessions own awaited has which (λ never. never) vid (kept.to_put here).has
         (λ session opened made is. (is.to_put here).has) once (λ (of : ℕ). old.0 ≡ of)
@@ -159,7 +164,8 @@ module _ (log later read : List Entry) (from : ℕ) (me : NodeId) (unread : List
     -- its disk is the session's until then
     pub snapshot_writes : (session : ℕ) × (writer_of (log_effects log) old.0 ≡ Some (holder_at me session))
     snapshot_writes =
-        let kept = subst (IsStageKept log (last ∷ later) read from me which.request.session (opened_in which.request.session sessions)) which.at
+        let kept = subst (IsStageKept log (last ∷ later) read from me which.request.session (opened_in which.request.session sessions))
+        which.at
         (has.commands which.req which.request which.op which.there which.command) in
         (which.request.session, lock-writer log (last ∷ later) me which.request.session (epoch_of read) old.0 (kept.of_disk here))
 

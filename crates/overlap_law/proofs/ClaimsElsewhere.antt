@@ -1,11 +1,13 @@
--- An entry that isn't the node's own, and takes nothing from its sessions, leaves what their works rest on: another node's, and that of a member
--- that leaves, joins or gets another weight.
-use Rattle.std.proofs.Common.{◌≡◌, ◌≢◌, inl, inr, ⊎_elim, ℕ, ◌==◌, Bool, true, false, ◌&&◌, ◌||◌, List, [], ◌∷◌, ◌++◌, Option, Some, refl, sym, ap, subst, ◌∙◌}
+-- An entry that isn't the node's own, and takes nothing from its sessions, leaves what their works rest on: another node's, and that of a
+-- member that leaves, joins or gets another weight.
+use Rattle.std.proofs.Common.{◌≡◌, ◌≢◌, inl, inr, ⊎_elim, ℕ, ◌==◌, Bool, true, false, ◌&&◌, ◌||◌, List, [], ◌∷◌, ◌++◌, Option, Some, refl}
+use Rattle.std.proofs.Common.{sym, ap, subst, ◌∙◌}
 use Rattle.std.proofs.lemmas.Bool.{eqb-true, ne_eqb}
 use Rattle.std.proofs.lemmas.Option.{same_Some}
 use Rattle.std.specs.FinMap as tree
 use Rattle.object_id.specs.declared.entry.Entry.{Entry}
-use Rattle.object_id.specs.declared.entry.Entry.TheVariants.{Format, Join, Leave, Reweight, Recovered, Reserve, Publish, Clone, Snapshot, Delete, Lock, Unlock}
+use Rattle.object_id.specs.declared.entry.Entry.TheVariants.{Format, Join, Leave, Reweight, Recovered, Reserve, Publish, Clone, Snapshot}
+use Rattle.object_id.specs.declared.entry.Entry.TheVariants.{Delete, Lock, Unlock}
 use Rattle.object_id.specs.declared.node.NodeId.{NodeId}
 use Rattle.object_id.specs.declared.oid.Vid.{Vid}
 use Rattle.disk_lock.specs.declared.holder.Holder.{Holder}
@@ -27,7 +29,8 @@ use Rattle.overlap_law.proofs.KeptIds.{no_more_stays, not_taken, yet-writer, yet
 use Rattle.overlap_law.proofs.WriterChanges.{entry_keeps_writer}
 
 -- a session's entry is its node's
-nodes_entry : (known : List Effect) (me : NodeId) (session : ℕ) (entry : Entry) → IsSessionsEntry known me session entry → IsEntryOf me entry
+nodes_entry : (known : List Effect) (me : NodeId) (session : ℕ) (entry : Entry) → IsSessionsEntry known me session entry
+    → IsEntryOf me entry
 nodes_entry known me session (Format members) is = absurd is
 nodes_entry known me session (Join node zone vnodes) is = absurd is
 nodes_entry known me session (Leave node) is = absurd is
@@ -59,7 +62,8 @@ one_nodes one other (Unlock by of vid) is too = sym is ∙ too
 -- an entry takes nothing from a node's sessions
 abbrev pub Spares : List Entry → NodeId → Entry → Type 0
 Spares log me last =
-    (session vid : ℕ) → writer_of (log_effects log) vid ≡ Some (holder_at me session) → may_take_writer vid (holder_at me session) last ≡ false
+    (session vid : ℕ) → writer_of (log_effects log) vid ≡ Some (holder_at me session) → may_take_writer vid (holder_at me session) last
+    ≡ false
 
 module _ (log : List Entry) (last : Entry) (outbox read : List Entry) (from : ℕ) (me : NodeId) (requests : Requests) (sessions : Sessions)
     (has : HasClaims log outbox read from me requests sessions) (spares : Spares log me last) (strange : IsEntryOf me last → ⊥)
@@ -126,7 +130,8 @@ by_node me other apart by own false = refl
 
 -- another node's, whose snapshots are of disks that its own sessions have locked
 pub other_spares : (log : List Entry) (me other : NodeId) → me.0 ≢ other.0 → (last : Entry) → IsEntryOf other last
-    → ((by : NodeId) (old vid : Vid) → last ≡ Snapshot by old vid → (session : ℕ) × (writer_of (log_effects log) old.0 ≡ Some (holder_at other session)))
+    → ((by : NodeId) (old vid : Vid) → last ≡ Snapshot by old vid → (session : ℕ)
+    × (writer_of (log_effects log) old.0 ≡ Some (holder_at other session)))
     → Spares log me last
 other_spares log me other apart (Format members) own snaps session vid writer = absurd own
 other_spares log me other apart (Join node zone vnodes) own snaps session vid writer = absurd own

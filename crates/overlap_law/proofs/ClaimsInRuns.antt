@@ -41,14 +41,15 @@ use Rattle.sheep_world.specs.HostChanges.{joined_host, host_after_return}
 use Rattle.sheep_world.specs.LogFronts.{IsFront}
 use Rattle.sheep_world.specs.MembershipChanges.{lost_host, join_of, last_weight}
 use Rattle.sheep_world.specs.NodeCauses.{NodeCause, GuestAsks, RequestComes, ReplyComes, LossIsTold, EntryIsRead, EntryIsPut, RecoveryTicks}
-use Rattle.sheep_world.specs.NodeCauses.{WorkIsRetried, input_of_cause, IsCause, host_with_node, log_after_cause}
+use Rattle.sheep_world.specs.NodeCauses.{WorkIsRetried, ClientAsks, input_of_cause, IsCause, host_with_node, log_after_cause}
 use Rattle.sheep_world.specs.Opening.{format_entry, initial_world}
 use Rattle.sheep_world.specs.Step.{EventOutcome}
 use Rattle.sheep_world.proofs.BegunWorlds.{by_induction}
-use Rattle.sheep_world.proofs.EventInversion.{happens}
+use Rattle.sheep_world.proofs.ClientReads.{goes_by_kind}
 use Rattle.sheep_world.proofs.LogFrontLaws.{all_read, next_after}
 use Rattle.sheep_world.proofs.NodesByTheLog.{knows_its_number}
 use Rattle.sheep_world.proofs.WireAtOpening.{opening_found}
+use Rattle.sheep_world.specs.RunsWithAsks.{Move}
 use Rattle.overlap_law.specs.AwaitedEntries.{IsSessionsCommand, IsCommandEntry}
 use Rattle.overlap_law.specs.Grants.{writer_of}
 use Rattle.overlap_law.specs.Past.{MomentWithPast, run_with_past}
@@ -117,6 +118,7 @@ module _ (script : List Statement) (range : RunsAreInRange script) where
     goes (EntryIsPut entry) so = (entry, so.0, so.1, refl)
     goes RecoveryTicks so = refl
     goes WorkIsRetried so = refl
+    goes (ClientAsks req ask) so = refl
 
     front : IsFront host.node.peer.entries world.log
     front = all_read script world began n host there
@@ -147,6 +149,8 @@ module _ (script : List Statement) (range : RunsAreInRange script) where
         reads_none world.log front.rest inputs.RecoverTick host.node (λ entry is. cc (is)) host.node.peer.entries refl front.is
     reads WorkIsRetried so =
         reads_none world.log front.rest inputs.RetryTick host.node (λ entry is. cc (is)) host.node.peer.entries refl front.is
+    reads (ClientAsks req ask) so =
+        reads_none world.log front.rest (inputs.Guest req 0 ask) host.node (λ entry is. cc (is)) host.node.peer.entries refl front.is
 
     -- what holds together of the node that steps, as far as it has come
     pub together_so_far : (cause : NodeCause) (so : IsCause script world n host cause) (so_far : StepState)
@@ -198,6 +202,7 @@ module _ (script : List Statement) (range : RunsAreInRange script) where
         is_no_return (EntryIsPut entry) = tt
         is_no_return RecoveryTicks = tt
         is_no_return WorkIsRetried = tt
+        is_no_return (ClientAsks req ask) = tt
 
   -- another node, where one puts an entry
   module _ (world : World) (began : Began script world) (all : AreClaimedAmong world.log world.hosts) (n : ℕ) (host : Host)
@@ -241,6 +246,7 @@ module _ (script : List Statement) (range : RunsAreInRange script) where
         (λ theirs. differ (ap (λ (m : NodeId). m.0) (one_nodes other.node.me host.node.me entry theirs own)))
     other_step RecoveryTicks so q other apart at here = all q other at here
     other_step WorkIsRetried so q other apart at here = all q other at here
+    other_step (ClientAsks req ask) so q other apart at here = all q other at here
 
     pub step_claimed : (cause : NodeCause) → IsCause script world n host cause → (so_far : StepState)
         → Leads (input_of_cause cause) host.node (input_received (input_of_cause cause) (at_first host.node)) so_far
@@ -358,7 +364,7 @@ module _ (script : List Statement) (range : RunsAreInRange script) where
   pub claimed_in_worlds : (world : World) → Began script world → AreClaimedAmong world.log world.hosts
   claimed_in_worlds = by_induction script (λ (world : World). AreClaimedAmong world.log world.hosts) (record {
     opens = opens;
-    keeps = λ event world made began is all. kept event world made began (happens script event world made is) all;
+    keeps = λ event world made began is all. kept event world made began (goes_by_kind script event world made is) all;
   })
 
   -- ---- along trails
@@ -380,7 +386,7 @@ module _ (script : List Statement) (range : RunsAreInRange script) where
     along_trail : {moment : MomentWithPast} → MomentTrail script start moment → AreClaimedAmong moment.world.log moment.world.hosts
     along_trail trail = world_along script Among claimed_in_worlds start began in_step trail
 
-  pub claims-in_run : (events : List Event) (start moment : MomentWithPast) → run_with_past script events ≡ Some start
+  pub claims-in_run : (events : List Move) (start moment : MomentWithPast) → run_with_past script events ≡ Some start
       → MomentTrail script start moment → ClaimsAreKept moment.world.log moment.world.hosts
   claims-in_run events start moment is trail =
       record { each = λ n host there up. along_trail start (began-with_past script events start is) trail n host there up }

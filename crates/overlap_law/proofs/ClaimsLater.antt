@@ -3,7 +3,8 @@ use Rattle.std.proofs.Common.{inl, inr, ⊎_elim, ℕ, ◌+◌, ◌≤◌, Bool,
 use Rattle.std.specs.Ordering.{nat_cmp}
 use Rattle.std.specs.FinMap as tree
 use Rattle.object_id.specs.declared.entry.Entry.{Entry}
-use Rattle.object_id.specs.declared.entry.Entry.TheVariants.{Format, Join, Leave, Reweight, Recovered, Reserve, Publish, Clone, Snapshot, Delete, Lock, Unlock}
+use Rattle.object_id.specs.declared.entry.Entry.TheVariants.{Format, Join, Leave, Reweight, Recovered, Reserve, Publish, Clone, Snapshot}
+use Rattle.object_id.specs.declared.entry.Entry.TheVariants.{Delete, Lock, Unlock}
 use Rattle.object_id.specs.declared.entry.Origin.TheVariants.{Fresh, SnapshotOf, CloneOf}
 use Rattle.object_id.specs.declared.node.NodeId.{NodeId}
 use Rattle.object_id.specs.declared.oid.Vid.{Vid}
@@ -12,18 +13,22 @@ use Rattle.inode.specs.Layout.{Content}
 use Rattle.vdi_ops.specs.Op.{Task, Opening, WritingBack, Tagging, Copying, Making, OpStage, Asked, Working, Publishing, Answered}
 use Rattle.sheep_node.specs.declared.course.Request.{Request}
 use Rattle.sheep_node.specs.declared.session.Session.{Session}
-use Rattle.overlap_law.specs.WriterClaims.{HasLock, HasReservation, HasPlace, IsGrantKept, IsForDisk, IsMakingKept, IsTaskKept, IsPublicationKept, IsStageKept, IsLetGo, IsDiskKept, HasClaims}
+use Rattle.overlap_law.specs.WriterClaims.{HasLock, HasReservation, HasPlace, IsGrantKept, IsForDisk, IsMakingKept, IsTaskKept}
+use Rattle.overlap_law.specs.WriterClaims.{IsPublicationKept, IsStageKept, IsLetGo, IsDiskKept, HasClaims}
 use Rattle.overlap_law.proofs.KeptIds.{lock_by, reserved_by_then, place_by, yet_by}
 
-module _ (log outbox read later : List Entry) (from next : ℕ) (after : epoch_of read ≤ epoch_of later) (on : from ≤ next) (me : NodeId) where
+module _ (log outbox read later : List Entry) (from next : ℕ) (after : epoch_of read ≤ epoch_of later) (on : from ≤ next)
+    (me : NodeId) where
   module _ (session : ℕ) where
     lock_read : (vid : ℕ) → HasLock log outbox me session (epoch_of read) vid → HasLock log outbox me session (epoch_of later) vid
     lock_read vid = lock_by log outbox me session (epoch_of read) vid (epoch_of later) after
 
-    reserved_read : (vid : ℕ) → HasReservation log outbox me session (epoch_of read) vid → HasReservation log outbox me session (epoch_of later) vid
+    reserved_read : (vid : ℕ) → HasReservation log outbox me session (epoch_of read) vid
+        → HasReservation log outbox me session (epoch_of later) vid
     reserved_read vid = reserved_by_then log outbox me session (epoch_of read) vid (epoch_of later) after
 
-    place_read : (vid old : ℕ) → HasPlace log outbox me session (epoch_of read) vid old → HasPlace log outbox me session (epoch_of later) vid old
+    place_read : (vid old : ℕ) → HasPlace log outbox me session (epoch_of read) vid old
+        → HasPlace log outbox me session (epoch_of later) vid old
     place_read vid old = place_by log outbox me session (epoch_of read) vid (epoch_of later) after old
 
     module _ (opened : Option (Bool × ℕ)) where
@@ -46,7 +51,8 @@ module _ (log outbox read later : List Entry) (from next : ℕ) (after : epoch_o
       grant_read epoch vid (Lock by of name (Some tag)) is = is
       grant_read epoch vid (Unlock by of old) is = tt
 
-      for_disk_read : (entry : Entry) → IsForDisk log outbox read from me session opened entry → IsForDisk log outbox later next me session opened entry
+      for_disk_read : (entry : Entry) → IsForDisk log outbox read from me session opened entry
+          → IsForDisk log outbox later next me session opened entry
       for_disk_read (Format members) is = tt
       for_disk_read (Join node zone vnodes) is = tt
       for_disk_read (Leave node) is = tt
@@ -106,7 +112,8 @@ module _ (log outbox read later : List Entry) (from next : ℕ) (after : epoch_o
       publication_read (Lock by of name tag) made is = is
       publication_read (Unlock by of old) made is = is
 
-      stage_read : (stage : OpStage) → IsStageKept log outbox read from me session opened stage → IsStageKept log outbox later next me session opened stage
+      stage_read : (stage : OpStage) → IsStageKept log outbox read from me session opened stage
+          → IsStageKept log outbox later next me session opened stage
       stage_read (Asked entry) is = record {
         first = is.first;
         granted = λ place behind got vid granted.
@@ -127,7 +134,8 @@ module _ (log outbox read later : List Entry) (from next : ℕ) (after : epoch_o
         (λ (goes : IsLetGo requests session inode.vid). inr goes) is,
   )
 
-  pub claims_read : (requests : tree.FinMap nat_cmp Request) (sessions : tree.FinMap nat_cmp Session) → HasClaims log outbox read from me requests sessions
+  pub claims_read : (requests : tree.FinMap nat_cmp Request) (sessions : tree.FinMap nat_cmp Session)
+      → HasClaims log outbox read from me requests sessions
       → HasClaims log outbox later next me requests sessions
   claims_read requests sessions has = record {
     unlocked = has.unlocked;

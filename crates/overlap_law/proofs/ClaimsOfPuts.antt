@@ -1,5 +1,5 @@
--- Whatever entry a node puts, its sessions have what their works rest on afterwards; and so have those of the other nodes, and of all where a
--- member leaves, joins or gets another weight.
+-- Whatever entry a node puts, its sessions have what their works rest on afterwards; and so have those of the other nodes, and of all where
+-- a member leaves, joins or gets another weight.
 use Rattle.std.proofs.Common.{◌≡◌, ◌≢◌, ℕ, ◌≤◌, Bool, true, List, [], ◌∷◌, ◌++◌, All, Option, Some, None, refl, sym, ap, subst, ◌∙◌, arith}
 use Rattle.std.specs.FinMap as tree
 use Rattle.std.proofs.lemmas.Option.{same_Some}
@@ -18,7 +18,8 @@ use Rattle.sheep_node.specs.declared.course.Request.{Request}
 use Rattle.sheep_node.specs.OwnEntries.{IsEntryOf}
 use Rattle.overlap_law.specs.AwaitedEntries.{IsCommandEntry, HasAsker, IsSessionsCommand}
 use Rattle.overlap_law.specs.CommandDisks.{opened_in}
-use Rattle.overlap_law.specs.WriterClaims.{holder_at, IsFirstEntry, LetsGo, HasLock, HasReservation, IsStageKept, IsPublicationKept, HasClaims}
+use Rattle.overlap_law.specs.WriterClaims.{holder_at, IsFirstEntry, LetsGo, HasLock, HasReservation, IsStageKept, IsPublicationKept}
+use Rattle.overlap_law.specs.WriterClaims.{HasClaims}
 use Rattle.overlap_law.proofs.AwaitedChanges.{Requests, IsOwnCourse, AreAwaited}
 use Rattle.overlap_law.proofs.AwaitedCommands.{is_command, waits_at}
 use Rattle.overlap_law.proofs.ClaimChanges.{Sessions}
@@ -27,7 +28,8 @@ use Rattle.overlap_law.proofs.ClaimPuts.{here_once}
 use Rattle.overlap_law.proofs.CountedEntries.{times, same_entry}
 use Rattle.overlap_law.proofs.KeptIds.{reservation-writer}
 
-module _ (log : List Entry) (last : Entry) (later read : List Entry) (from : ℕ) (me : NodeId) (unread : List Entry) (requests : Requests) (sessions : Sessions)
+module _ (log : List Entry) (last : Entry) (later read : List Entry) (from : ℕ) (me : NodeId) (unread : List Entry) (requests : Requests)
+    (sessions : Sessions)
     (own : All (IsEntryOf me) (last ∷ later)) (awaited : AreAwaited read me unread None me requests (last ∷ later))
     (has : HasClaims log (last ∷ later) read from me requests sessions) where
   -- ---- commands of the node, each of its session
@@ -61,7 +63,8 @@ module _ (log : List Entry) (last : Entry) (later read : List Entry) (from : ℕ
     asker : HasAsker requests last
     asker = awaited.awaited last is (let here = here_once log last later read from me requests sessions own has in omega (arith, here))
 
-    by_stage : (req : ℕ) (request : Request) (op : Op) → tree.get requests req ≡ Some request → request.course ≡ Commanding op → (stage : OpStage)
+    by_stage : (req : ℕ) (request : Request) (op : Op) → tree.get requests req ≡ Some request → request.course ≡ Commanding op
+        → (stage : OpStage)
         → op.stage ≡ stage → waits_at last stage ≡ true → Publisher
     by_stage req request op there command (Asked wanted) at waits =
         let first = (subst (IsStageKept log (last ∷ later) read from me request.session (opened_in request.session sessions)) at
@@ -90,7 +93,8 @@ module _ (log : List Entry) (last : Entry) (later read : List Entry) (from : ℕ
 
     pub publisher : Publisher
     publisher =
-        by_course asker.req asker.request asker.there asker.request.course refl (awaited.commands.own asker.req asker.request asker.there) asker.waits
+        by_course asker.req asker.request asker.there asker.request.course refl (awaited.commands.own asker.req asker.request asker.there)
+        asker.waits
 
   -- ---- what it put by is left
 
@@ -102,13 +106,15 @@ module _ (log : List Entry) (last : Entry) (later read : List Entry) (from : ℕ
       (once : times last (last ∷ later) ≤ 1)
       (old : ℕ → Type 0) (locked : (of : ℕ) → old of → HasLock log (last ∷ later) me p.request.session (epoch_of read) of)
       (takes : TakesBy last me vid old) (letting : (of : ℕ) → old of → LetsGo of (Publishing last p.made))
-      (stage : IsStageKept (log ++ last ∷ []) later read from me p.request.session (opened_in p.request.session sessions) (Publishing last p.made)) where
+      (stage : IsStageKept (log ++ last ∷ []) later read from me p.request.session (opened_in p.request.session sessions)
+      (Publishing last p.made)) where
     sole : (other : ℕ) (second : Request) (second_op : Op) → tree.get requests other ≡ Some second → second.course ≡ Commanding second_op
         → second.session ≡ p.request.session → other ≡ p.req
     sole other second second_op got command same = apart other p.req second p.request second_op p.op got p.there command p.command same
 
     nobody : (q : ℕ) (second : Request) (second_op : Op) → tree.get requests q ≡ Some second → second.course ≡ Commanding second_op
-        → second.session ≢ p.request.session → (wanted : Entry) (made : Option Content) → second_op.stage ≡ Publishing wanted made → last ≢ wanted
+        → second.session ≢ p.request.session → (wanted : Entry) (made : Option Content) → second_op.stage ≡ Publishing wanted made
+        → last ≢ wanted
     nobody q second second_op got command other wanted made at same =
         let kept = subst (IsStageKept log (last ∷ later) read from me second.session (opened_in second.session sessions))
         (at ∙ ap (λ (e : Entry). Publishing e made) (sym same)) (has.commands q second second_op got command) in
@@ -119,9 +125,9 @@ module _ (log : List Entry) (last : Entry) (later read : List Entry) (from : ℕ
 
     pub published : HasClaims (log ++ last ∷ []) later read from me requests sessions
     published =
-        publication_put log last later read from me requests sessions own has once p.req p.request p.op p.there p.command p.made p.at sole vid reserved
-        old locked takes letting stage
+        publication_put log last later read from me requests sessions own has once p.req p.request p.op p.there p.command p.made p.at sole
+        vid reserved old locked takes letting stage
         (λ q second second_op got command other.
         others_given log later read from me requests sessions last own has not_first p.request.session nobody
-        (taken_none log last later read from me requests sessions own has once p.req p.request p.op p.there p.command p.made p.at sole vid reserved old
-        locked takes) q second second_op got command other)
+        (taken_none log last later read from me requests sessions own has once p.req p.request p.op p.there p.command p.made p.at sole vid
+        reserved old locked takes) q second second_op got command other)

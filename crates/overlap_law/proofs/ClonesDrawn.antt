@@ -36,7 +36,6 @@ use Rattle.vdi_ops.specs.Op.{Copying, Working, Op, OpStage}
 use Rattle.vdi_ops.specs.Tables.{kept_entry, table_in, inode_by}
 use Rattle.vdi_ops.proofs.TableLemmas.{kept_stays}
 use Rattle.sheep_node.specs.declared.course.Course.TheVariants.{Commanding}
-use Rattle.sheep_node.specs.declared.event.Event.{Event}
 use Rattle.sheep_node.specs.declared.input.Input.{Input}
 use Rattle.sheep_node.specs.Changes.{EndsWork}
 use Rattle.sheep_node.specs.SoundWorks.{IsSoundStage}
@@ -44,6 +43,7 @@ use Rattle.sheep_node.specs.State.{Node}
 use Rattle.sheep_node.specs.StepState.{StepState}
 use Rattle.sheep_world.specs.NodeCauses.{input_of_cause, host_with_node}
 use Rattle.sheep_world.specs.World.{Host}
+use Rattle.sheep_world.specs.RunsWithAsks.{Move}
 use Rattle.overlap_law.specs.Attempts.{AttemptRecord}
 use Rattle.overlap_law.specs.Drafts.{IsReservedEntry}
 use Rattle.overlap_law.specs.MomentChanges.{MomentTrail, RunsAreInRange}
@@ -86,7 +86,7 @@ above_in : (effects : List Effect) (elder vid : ℕ) (ids : List ℕ) → chain_
 unfolding is_above
 above_in effects elder vid ids chain above = ap (list_any (λ id. id == elder)) (sym chain) ∙ above
 
-module _ (script : List Statement) (range : RunsAreInRange script) (events : List Event) (start : MomentWithPast)
+module _ (script : List Statement) (range : RunsAreInRange script) (events : List Move) (start : MomentWithPast)
     (ran : run_with_past script events ≡ Some start) (on : SteppingNode) (is : IsStepping script start.world on)
     (by : StepsByChanges on.cause) (so_far : StepState) (leads : LeadsInStep on (first_in_step on) so_far)
     (trail : MomentTrail script start (moment_in_step script on start so_far)) (good_id : ℕ → Bool)
@@ -241,7 +241,7 @@ module _ (script : List Statement) (range : RunsAreInRange script) (events : Lis
 
 -- ---- every moment in the middle of a step
 
-pub clones_drawn : (script : List Statement) → RunsAreInRange script → (events : List Event) (start before : MomentWithPast)
+pub clones_drawn : (script : List Statement) → RunsAreInRange script → (events : List Move) (start before : MomentWithPast)
     → run_with_past script events ≡ Some start → MomentTrail script start before → (good_id : ℕ → Bool)
     → ReadsAreToCome script good_id start before → (live : ℕ → Bool) → ((oid : ℕ) → live oid ≡ true)
     → EntriesAreMade (log_effects before.world.log) live good_id before.past.attempts

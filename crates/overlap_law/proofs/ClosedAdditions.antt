@@ -33,7 +33,7 @@ use Rattle.sheep_world.specs.HistoryAdditions.{added_by, begins_on, block_checke
 use Rattle.sheep_world.specs.HistoryAdditions.{check_write_grown, disk_of, has_begun_check_write, is_on_disk, reply_adds, reply_grown}
 use Rattle.sheep_world.specs.HistoryAdditions.{write_ended}
 use Rattle.sheep_world.specs.NodeCauses.{NodeCause, GuestAsks, RequestComes, ReplyComes, LossIsTold, EntryIsRead, EntryIsPut, RecoveryTicks}
-use Rattle.sheep_world.specs.NodeCauses.{WorkIsRetried}
+use Rattle.sheep_world.specs.NodeCauses.{WorkIsRetried, ClientAsks}
 use Rattle.overlap_law.specs.HistoryGrowth.{added_at_cause, check_write_at}
 use Rattle.overlap_law.specs.PastWords.{is_refusal}
 
@@ -201,3 +201,4 @@ module _ (P : HistEvent → Type 0) where
       cause_adds start world (EntryIsPut entry) = All-nil P
       cause_adds start world RecoveryTicks = All-nil P
       cause_adds start world WorkIsRetried = All-nil P
+      cause_adds start world (ClientAsks req ask) = All-nil P

@@ -23,8 +23,9 @@ use Rattle.sheep_world.specs.NodeCauses.{NodeCause, IsCause}
 use Rattle.sheep_world.specs.Opening.{initial_world}
 use Rattle.sheep_world.specs.Step.{EventOutcome}
 use Rattle.sheep_world.proofs.BegunWorlds.{goes_on}
-use Rattle.sheep_world.proofs.EventInversion.{happens}
+use Rattle.sheep_world.proofs.ClientReads.{goes_by_kind}
 use Rattle.sheep_world.proofs.WireAtOpening.{opening_found}
+use Rattle.sheep_world.specs.RunsWithAsks.{Move}
 use Rattle.overlap_law.specs.Past.{MomentWithPast, past_after_event, first_moment, run_on, run_with_past}
 use Rattle.overlap_law.specs.Words.{Hosts}
 use Rattle.overlap_law.proofs.ItemsAtBegin.{lost_none}
@@ -45,7 +46,7 @@ module _ (script : List Statement) (req : ℕ) (Q : List HistEvent → Requests 
         → Q history requests
     pub grown : (history added : List HistEvent) → list_any (begins_write_of req) added ≡ false → (requests : Requests)
         → Q history requests → Q (history ++ added) requests
-    pub steps : (events : List Event) (before : MomentWithPast) → run_with_past script events ≡ Some before → Began script before.world
+    pub steps : (events : List Move) (before : MomentWithPast) → run_with_past script events ≡ Some before → Began script before.world
         → AllHave before.past.history before.world.hosts → (n : ℕ) (host : Host) → tree.get before.world.hosts n ≡ Some host
         → is_host_up host ≡ true → (cause : NodeCause) → IsCause script before.world n host cause
         → Leaves before.past.history (outcome_of_step script n host cause before.world)
@@ -53,7 +54,7 @@ module _ (script : List Statement) (req : ℕ) (Q : List HistEvent → Requests 
   module _ (kept : IsKeptWithHistory) where
     -- ---- one event
 
-    module _ (events : List Event) (before : MomentWithPast) (run : run_with_past script events ≡ Some before)
+    module _ (events : List Move) (before : MomentWithPast) (run : run_with_past script events ≡ Some before)
         (began : Began script before.world) (all : AllHave before.past.history before.world.hosts) where
       abbrev history : List HistEvent
       history = before.past.history
@@ -100,7 +101,7 @@ module _ (script : List Statement) (req : ℕ) (Q : List HistEvent → Requests 
     -- ---- each run
 
     record HoldsSoFar (moment : MomentWithPast) : Type 0 where
-      events : List Event
+      events : List Move
       run : run_with_past script events ≡ Some moment
       holds : AllHave moment.past.history moment.world.hosts
 
@@ -120,12 +121,12 @@ module _ (script : List Statement) (req : ℕ) (Q : List HistEvent → Requests 
     events_keep : KeptByEvents script HoldsSoFar
     unfolding past_after_event
     events_keep event before made began is so = record {
-      events = so.events ++ event ∷ [];
+      events = so.events ++ is.move ∷ [];
       run = run_with_one_more script event made so.events before is so.run;
-      holds = kind_leaves so.events before so.run began so.holds event made (happens script event before.world made is)
+      holds = kind_leaves so.events before so.run began so.holds event made (goes_by_kind script event before.world made is)
           (goes_on script event before.world made began is);
     }
 
-    pub with_history-in_run : (events : List Event) (moment : MomentWithPast) → run_with_past script events ≡ Some moment
+    pub with_history-in_run : (events : List Move) (moment : MomentWithPast) → run_with_past script events ≡ Some moment
         → AllHave moment.past.history moment.world.hosts
     with_history-in_run events moment is = (run-kept_by_events script HoldsSoFar opens_so events_keep events moment is).holds

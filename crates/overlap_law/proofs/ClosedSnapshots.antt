@@ -1,6 +1,7 @@
--- Each attempt on a disk that became a snapshot has ended by then, or is of a gateway that left before: over each change of a moment, and so in every
--- run in range.
-use Rattle.std.proofs.Common.{◌≡◌, ◌⊎◌, inl, inr, ⊎_elim, arith, ℕ, ◌≤◌, ◌==◌, ◌||◌, Bool, true, false, cond, List, [], ◌∷◌, ◌++◌, length, slice_get, Option, Some, None, refl, sym, ap, subst, ◌∙◌, append-nil, append_assoc}
+-- Each attempt on a disk that became a snapshot has ended by then, or is of a gateway that left before: over each change of a moment, and
+-- so in every run in range.
+use Rattle.std.proofs.Common.{◌≡◌, ◌⊎◌, inl, inr, ⊎_elim, arith, ℕ, ◌≤◌, ◌==◌, ◌||◌, Bool, true, false, cond, List, [], ◌∷◌, ◌++◌, length}
+use Rattle.std.proofs.Common.{slice_get, Option, Some, None, refl, sym, ap, subst, ◌∙◌, append-nil, append_assoc}
 use Rattle.std.specs.List.{list_any}
 use Rattle.std.specs.Option.{option_map_or}
 use Rattle.std.proofs.lemmas.Bool.{both_ways, eqb-true, or_cases}
@@ -35,9 +36,11 @@ use Rattle.overlap_law.specs.Packets.{Wire, message_name_at, is_name_in_wire}
 use Rattle.overlap_law.specs.Past.{MomentWithPast}
 use Rattle.overlap_law.specs.Reached.{Hosts}
 use Rattle.overlap_law.specs.TiedAttempts.{IsTied}
-use Rattle.overlap_law.specs.Traffic.{Traffic, NothingMoves, MessageIsLost, ReplyIsReceived, RequestIsAnswered, RequestsAreSent, AttemptBegins, RepliesGo}
+use Rattle.overlap_law.specs.Traffic.{Traffic, NothingMoves, MessageIsLost, ReplyIsReceived, RequestIsAnswered, RequestsAreSent}
+use Rattle.overlap_law.specs.Traffic.{AttemptBegins, RepliesGo}
 use Rattle.overlap_law.specs.WriterClaims.{IsGivenNoMore}
-use Rattle.overlap_law.specs.Writers.{session_holder, bound_of, IsUnderTheGrant, HasEnded, IsFencedOff, ThereIsOneWriter, AttemptsHaveBegun, EndsInOrder, WritersTakeTurns}
+use Rattle.overlap_law.specs.Writers.{session_holder, bound_of, IsUnderTheGrant, HasEnded, IsFencedOff, ThereIsOneWriter, AttemptsHaveBegun}
+use Rattle.overlap_law.specs.Writers.{EndsInOrder, WritersTakeTurns}
 use Rattle.overlap_law.proofs.AttemptLists.{got_more, got_marked, fates_told}
 use Rattle.overlap_law.proofs.DatedEffects.{by_entries, last_epoch-push, last_epoch-most, epoch_rises}
 use Rattle.overlap_law.proofs.KeptIds.{no_more_stays}
@@ -88,7 +91,8 @@ pub snapped_no_more : (vid : ℕ) (log : List Entry) → was_snapped log vid ≡
 snapped_no_more vid = by_entries (λ (log : List Entry). was_snapped log vid ≡ true → IsGivenNoMore log vid)
     (λ is. absurd (both_ways (was_snapped [] vid) (ap (list_any (snaps vid)) log_effects-none) is)) one_more
   where
-    one_more : (log : List Entry) (entry : Entry) → (was_snapped log vid ≡ true → IsGivenNoMore log vid) → was_snapped (log ++ entry ∷ []) vid ≡ true
+    one_more : (log : List Entry) (entry : Entry) → (was_snapped log vid ≡ true → IsGivenNoMore log vid)
+        → was_snapped (log ++ entry ∷ []) vid ≡ true
         → IsGivenNoMore (log ++ entry ∷ []) vid
     one_more log entry before is = ⊎_elim
         (λ (was : was_snapped log vid ≡ true). no_more_stays log entry vid (before was))
@@ -97,23 +101,28 @@ snapped_no_more vid = by_entries (λ (log : List Entry). was_snapped log vid ≡
         let effect = (outcome (log_effects log) entry).effect in
         let high = snaps-state vid (state_of (log_effects log) vid) effect snapped in
         let same : rank (state_of (log_effects (log ++ entry ∷ [])) vid) ≡ rank (state_after vid (state_of (log_effects log) vid) effect)
-        = ap (λ (all : List Effect). rank (state_of all vid)) (log_effects-push log entry) ∙ ap rank (state_of-push (log_effects log) effect vid) in
+        = ap (λ (all : List Effect). rank (state_of all vid)) (log_effects-push log entry)
+        ∙ ap rank (state_of-push (log_effects log) effect vid) in
         omega (arith, high, same))
         (λ (never : false ≡ true). absurd (cc (never)))
         (or_cases (snaps vid (outcome (log_effects log) entry).effect) false now))
-        (or_cases (was_snapped log vid) (snaps vid (outcome (log_effects log) entry).effect || false) (sym (snapped-push log entry vid) ∙ is))
+        (or_cases (was_snapped log vid) (snaps vid (outcome (log_effects log) entry).effect || false)
+        (sym (snapped-push log entry vid) ∙ is))
 
 -- who may write an id may be given it
-pub given-no_writer : (log : List Entry) (vid : ℕ) (writer : Holder) → IsGivenNoMore log vid → writer_of (log_effects log) vid ≡ Some writer → ⊥
+pub given-no_writer : (log : List Entry) (vid : ℕ) (writer : Holder) → IsGivenNoMore log vid → writer_of (log_effects log) vid ≡ Some writer
+    → ⊥
 given-no_writer log vid writer gone is =
-    by_reservation (reservation_on (record { 0 = vid }) (reservations_of (log_effects log))) refl (sym (writer-by (log_effects log) vid) ∙ is)
+    by_reservation (reservation_on (record { 0 = vid }) (reservations_of (log_effects log))) refl
+    (sym (writer-by (log_effects log) vid) ∙ is)
   where
     by_reservation : (o : Option Reservation) → reservation_on (record { 0 = vid }) (reservations_of (log_effects log)) ≡ o
         → option_map_or (λ (r : Reservation). Some (reserver r)) (reservation_on (record { 0 = vid }) (reservations_of (log_effects log)))
         (holder_of (log_effects log) vid) ≡ Some writer → ⊥
     by_reservation None none by =
         let held : holder_of (log_effects log) vid ≡ Some writer
-        = sym (ap (λ (o : Option Reservation). option_map_or (λ (r : Reservation). Some (reserver r)) o (holder_of (log_effects log) vid)) none) ∙ by in
+        = sym (ap (λ (o : Option Reservation). option_map_or (λ (r : Reservation). Some (reserver r)) o (holder_of (log_effects log) vid))
+        none) ∙ by in
         let at : rank (state_of (log_effects log) vid) ≡ 2 = ap rank (held-works log vid writer held) in
         omega (arith, gone, at)
     by_reservation (Some reservation) found by =
@@ -121,7 +130,8 @@ given-no_writer log vid writer gone is =
         = ap rank (found_reserved (log_effects log) (sound-log_effects log) vid reservation found) in
         omega (arith, gone, at)
 
-pub snapped-no_writer : (log : List Entry) (vid : ℕ) (writer : Holder) → was_snapped log vid ≡ true → writer_of (log_effects log) vid ≡ Some writer → ⊥
+pub snapped-no_writer : (log : List Entry) (vid : ℕ) (writer : Holder) → was_snapped log vid ≡ true
+    → writer_of (log_effects log) vid ≡ Some writer → ⊥
 snapped-no_writer log vid writer snapped is = given-no_writer log vid writer (snapped_no_more vid log snapped) is
 
 -- ---- a disk becomes a snapshot once
@@ -138,10 +148,12 @@ snaps-working before (effects.Freed of) vid lawful is = absurd (cc (is))
 snaps-working before (effects.Withdrawn of) vid lawful is = absurd (cc (is))
 snaps-working before (effects.Left node) vid lawful is = absurd (cc (is))
 
-snapped_once : (log : List Entry) (entry : Entry) (vid : ℕ) → was_snapped log vid ≡ true → snaps vid (outcome (log_effects log) entry).effect ≡ false
+snapped_once : (log : List Entry) (entry : Entry) (vid : ℕ) → was_snapped log vid ≡ true
+    → snaps vid (outcome (log_effects log) entry).effect ≡ false
 snapped_once log entry vid was = by_test (snaps vid (outcome (log_effects log) entry).effect) refl
   where
-    by_test : (b : Bool) → snaps vid (outcome (log_effects log) entry).effect ≡ b → snaps vid (outcome (log_effects log) entry).effect ≡ false
+    by_test : (b : Bool) → snaps vid (outcome (log_effects log) entry).effect ≡ b
+        → snaps vid (outcome (log_effects log) entry).effect ≡ false
     by_test false is = is
     by_test true is =
         let gone = snapped_no_more vid log was in
@@ -164,7 +176,8 @@ snapped-later log vid was = by_entries (λ (more : List Entry). IsSince log (log
         let other = snapped_once all entry vid since.0 in
         subst (λ (later : List Entry). IsSince log later vid) (append_assoc log more (entry ∷ [])) (
           snapped-push all entry vid ∙ ap (λ (b : Bool). b || (snaps vid (outcome (log_effects all) entry).effect || false)) since.0,
-          last_epoch-push (snaps vid) all entry ∙ ap (λ (b : Bool). cond b (epoch_of (all ++ entry ∷ [])) (snapped_in all vid)) other ∙ since.1,
+          last_epoch-push (snaps vid) all entry ∙ ap (λ (b : Bool). cond b (epoch_of (all ++ entry ∷ [])) (snapped_in all vid)) other
+              ∙ since.1,
         )
 
 -- a disk is a snapshot, and became one in this epoch or before
@@ -173,10 +186,12 @@ pub record IsOnSnapshot (log : List Entry) (vid epoch : ℕ) : Type 0 where
   pub read : snapped_in log vid ≤ epoch
 
 -- one that a node has read of
-pub on_snapshot : (log : List Entry) (n : ℕ) (me : NodeId) (peer : Peer) → HasReadOf log n me peer → (vid : ℕ) → was_snapped peer.entries vid ≡ true
+pub on_snapshot : (log : List Entry) (n : ℕ) (me : NodeId) (peer : Peer) → HasReadOf log n me peer → (vid : ℕ)
+    → was_snapped peer.entries vid ≡ true
     → IsOnSnapshot log vid peer.epoch
 on_snapshot log n me peer read vid was =
-    let since = subst (λ (all : List Entry). IsSince peer.entries all vid) (sym read.front.is) (snapped-later peer.entries vid was read.front.rest) in
+    let since = subst (λ (all : List Entry). IsSince peer.entries all vid) (sym read.front.is)
+    (snapped-later peer.entries vid was read.front.rest) in
     let most = last_epoch-most (snaps vid) peer.entries in
     let same = since.1 in
     let epoch = read.epoch_so in
@@ -187,7 +202,8 @@ on_snapshot log n me peer read vid was =
 -- what an attempt on a snapshot has come to
 abbrev IsClosed : List Entry → Wire → AttemptRecord → Type 0
 IsClosed log wire attempt =
-    HasEnded wire attempt (snapped_in log (vid_of (object_of attempt))) ⊎ IsFencedOff log attempt (snapped_in log (vid_of (object_of attempt)))
+    HasEnded wire attempt (snapped_in log (vid_of (object_of attempt)))
+    ⊎ IsFencedOff log attempt (snapped_in log (vid_of (object_of attempt)))
 
 module _ (log : List Entry) (entry : Entry) (wire : Wire) (attempt : AttemptRecord) where
   abbrev id : ℕ
@@ -200,14 +216,16 @@ module _ (log : List Entry) (entry : Entry) (wire : Wire) (attempt : AttemptReco
   does = (outcome (log_effects log) entry).effect
 
   -- it becomes one by the entry
-  module _ (snapped : snaps (vid_of (object_of attempt)) (outcome (log_effects log) entry).effect ≡ true) (began : attempt.epoch ≤ epoch_of log) where
+  module _ (snapped : snaps (vid_of (object_of attempt)) (outcome (log_effects log) entry).effect ≡ true)
+      (began : attempt.epoch ≤ epoch_of log) where
     newest : snapped_in (log ++ entry ∷ []) (vid_of (object_of attempt)) ≡ epoch_of (log ++ entry ∷ [])
     newest = last_epoch-push (snaps id) log entry ∙ ap (λ (b : Bool). cond b (epoch_of longer) (snapped_in log id)) snapped
 
     closes : IsUnderTheGrant log attempt (vid_of (object_of attempt)) ⊎ (HasEnded wire attempt (bound_of log (vid_of (object_of attempt)))
         ⊎ IsFencedOff log attempt (bound_of log (vid_of (object_of attempt))))
         → (IsUnderTheGrant log attempt (vid_of (object_of attempt))
-        → takes_writer (vid_of (object_of attempt)) attempt.gateway (outcome (log_effects log) entry).effect ≡ true → EndsInOrder log entry wire attempt)
+        → takes_writer (vid_of (object_of attempt)) attempt.gateway (outcome (log_effects log) entry).effect ≡ true
+        → EndsInOrder log entry wire attempt)
         → IsClosed (log ++ entry ∷ []) wire attempt
     closes (inl under) owed = by_end (owed under (snaps-take id attempt.gateway does snapped))
       where
@@ -256,13 +274,21 @@ module _ (log : List Entry) (entry : Entry) (wire : Wire) (attempt : AttemptReco
 
 closed_after : (log : List Entry) (entry : Entry) (wire : Wire) (attempts : List AttemptRecord) → AttemptsHaveBegun log attempts
     → EachAttempt attempts (λ j attempt. IsUnderTheGrant log attempt (vid_of (object_of attempt))
-    → takes_writer (vid_of (object_of attempt)) attempt.gateway (outcome (log_effects log) entry).effect ≡ true → EndsInOrder log entry wire attempt)
+    → takes_writer (vid_of (object_of attempt)) attempt.gateway (outcome (log_effects log) entry).effect ≡ true
+    → EndsInOrder log entry wire attempt)
     → ThereIsOneWriter log wire attempts → SnapshotsAreClosed log wire attempts → SnapshotsAreClosed (log ++ entry ∷ []) wire attempts
-closed_after log entry wire attempts began owed one closed = record { each = λ j attempt got snapped. by_test j attempt got snapped (snaps (vid_of (object_of attempt)) (outcome (log_effects log) entry).effect) refl }
+closed_after log entry wire attempts began owed one closed =
+    record {
+      each = λ j attempt got snapped. by_test j attempt got snapped
+          (snaps (vid_of (object_of attempt)) (outcome (log_effects log) entry).effect) refl;
+    }
   where
-    by_test : (j : ℕ) (attempt : AttemptRecord) → slice_get attempts j ≡ Some attempt → was_snapped (log ++ entry ∷ []) (vid_of (object_of attempt)) ≡ true
-        → (b : Bool) → snaps (vid_of (object_of attempt)) (outcome (log_effects log) entry).effect ≡ b → IsClosed (log ++ entry ∷ []) wire attempt
-    by_test j attempt got snapped true now = closes log entry wire attempt now (began j attempt got) (one.each j attempt got) (owed j attempt got)
+    by_test : (j : ℕ) (attempt : AttemptRecord) → slice_get attempts j ≡ Some attempt
+        → was_snapped (log ++ entry ∷ []) (vid_of (object_of attempt)) ≡ true
+        → (b : Bool) → snaps (vid_of (object_of attempt)) (outcome (log_effects log) entry).effect ≡ b
+        → IsClosed (log ++ entry ∷ []) wire attempt
+    by_test j attempt got snapped true now =
+        closes log entry wire attempt now (began j attempt got) (one.each j attempt got) (owed j attempt got)
     by_test j attempt got snapped false other =
         let id = vid_of (object_of attempt) in
         let before : was_snapped log id ≡ true
@@ -270,7 +296,8 @@ closed_after log entry wire attempts began owed one closed = record { each = λ 
         (λ (was : was_snapped log id ≡ true). was)
         (λ (now : (snaps id (outcome (log_effects log) entry).effect || false) ≡ true).
         absurd (both_ways (snaps id (outcome (log_effects log) entry).effect || false) (ap (λ (b : Bool). b || false) other) now))
-        (or_cases (was_snapped log id) (snaps id (outcome (log_effects log) entry).effect || false) (sym (snapped-push log entry id) ∙ snapped)) in
+        (or_cases (was_snapped log id) (snaps id (outcome (log_effects log) entry).effect || false)
+        (sym (snapped-push log entry id) ∙ snapped)) in
         stays_closed log entry wire attempt other (closed.each j attempt got before)
 
 -- ---- each kind of traffic
@@ -288,16 +315,20 @@ module _ (log : List Entry) where
         (closed.each j attempt got snapped);
   }
     where
-      still : (j : ℕ) (attempt : AttemptRecord) → slice_get attempts j ≡ Some attempt → (place : ℕ) (target : NodeId) → slice_get attempt.targets place ≡ Some target
+      still : (j : ℕ) (attempt : AttemptRecord) → slice_get attempts j ≡ Some attempt → (place : ℕ) (target : NodeId)
+          → slice_get attempt.targets place ≡ Some target
           → is_name_in_wire wire (message_name_at attempt place) ≡ false → is_name_in_wire later (message_name_at attempt place) ≡ false
       still j attempt got place target among none = by_test (is_name_in_wire later (message_name_at attempt place)) refl
         where
-          by_test : (b : Bool) → is_name_in_wire later (message_name_at attempt place) ≡ b → is_name_in_wire later (message_name_at attempt place) ≡ false
+          by_test : (b : Bool) → is_name_in_wire later (message_name_at attempt place) ≡ b
+              → is_name_in_wire later (message_name_at attempt place) ≡ false
           by_test false is = is
-          by_test true is = absurd (both_ways (is_name_in_wire wire (message_name_at attempt place)) none (fewer j attempt got place target among is))
+          by_test true is =
+              absurd (both_ways (is_name_in_wire wire (message_name_at attempt place)) none (fewer j attempt got place target among is))
 
   -- with what is told of a message
-  told_closed : (wire : Wire) (attempt : AttemptRecord) (fates : List MessageFate) → IsClosed log wire attempt → IsClosed log wire (record attempt { fates = fates })
+  told_closed : (wire : Wire) (attempt : AttemptRecord) (fates : List MessageFate) → IsClosed log wire attempt
+      → IsClosed log wire (record attempt { fates = fates })
   told_closed wire attempt fates (inl ended) = inl (record { quiet = record { none = ended.quiet.none }; before = ended.before })
   told_closed wire attempt fates (inr fenced) =
       inr (record { left = fenced.left; leave = fenced.leave; before = fenced.before; granted_later = fenced.granted_later })
@@ -306,7 +337,8 @@ module _ (log : List Entry) where
   abbrev IsClosedIf : Wire → AttemptRecord → Type 0
   IsClosedIf wire attempt = was_snapped log (vid_of (object_of attempt)) ≡ true → IsClosed log wire attempt
 
-  marked_closed : (wire : Wire) (told : MessageFate) (sender : NodeId) (number : ℕ) (attempts : List AttemptRecord) → SnapshotsAreClosed log wire attempts
+  marked_closed : (wire : Wire) (told : MessageFate) (sender : NodeId) (number : ℕ) (attempts : List AttemptRecord)
+      → SnapshotsAreClosed log wire attempts
       → SnapshotsAreClosed log wire (attempts_with_fate told sender number attempts)
   marked_closed wire told sender number attempts closed = record {
     each = λ j now got.
@@ -322,11 +354,12 @@ module _ (log : List Entry) where
         (λ (old : slice_get attempts j ≡ Some attempt). closed.each j attempt old)
         (λ (own : (j ≡ length attempts) × (new ≡ attempt)).
         subst (IsClosedIf wire) own.1
-        (λ snapped. absurd (snapped-no_writer log (vid_of (object_of new)) (session_holder new.gateway.0 new.session) snapped under.writer)))
-        (got_more attempts new j attempt got);
+        (λ snapped. absurd (snapped-no_writer log (vid_of (object_of new)) (session_holder new.gateway.0 new.session) snapped
+        under.writer))) (got_more attempts new j attempt got);
   }
 
-  module _ (hosts hosts_after : Hosts) (wire : Wire) (attempts : List AttemptRecord) (of_incarnations : AttemptsAreOfIncarnations hosts wire attempts) where
+  module _ (hosts hosts_after : Hosts) (wire : Wire) (attempts : List AttemptRecord)
+      (of_incarnations : AttemptsAreOfIncarnations hosts wire attempts) where
     traffic_closed : {later : Wire} {after : List AttemptRecord} → Traffic hosts hosts_after wire attempts later after
         → ((attempt : AttemptRecord) → after ≡ attempts ++ attempt ∷ [] → IsUnderTheGrant log attempt (vid_of (object_of attempt)))
         → SnapshotsAreClosed log wire attempts → SnapshotsAreClosed log later after
@@ -337,13 +370,15 @@ module _ (log : List Entry) where
             → ((attempt : AttemptRecord) → after ≡ attempts ++ attempt ∷ [] → IsUnderTheGrant log attempt (vid_of (object_of attempt)))
             → SnapshotsAreClosed log later attempts → SnapshotsAreClosed log later after
         by_kind NothingMoves begins closed = closed
-        by_kind {later} (MessageIsLost name (Request to bytes) there) begins closed = marked_closed later Doomed name.sender name.number attempts closed
+        by_kind {later} (MessageIsLost name (Request to bytes) there) begins closed =
+            marked_closed later Doomed name.sender name.number attempts closed
         by_kind (MessageIsLost name (Reply from bytes) there) begins closed = closed
         by_kind (ReplyIsReceived name from bytes there) begins closed = closed
         by_kind {later} (RequestIsAnswered name to bytes up rsp there answer) begins closed =
             marked_closed later (fate_of_say rsp.say) name.sender name.number attempts closed
         by_kind (RequestsAreSent n sends by nothing) begins closed = closed
-        by_kind {later} (AttemptBegins n sends attempt begun) begins closed = more_closed later attempts attempt (begins attempt refl) closed
+        by_kind {later} (AttemptBegins n sends attempt begun) begins closed =
+            more_closed later attempts attempt (begins attempt refl) closed
         by_kind (RepliesGo n) begins closed = closed
 
 module _ (script : List Statement) (range : RunsAreInRange script) (start : MomentWithPast) (began : Began script start.world)

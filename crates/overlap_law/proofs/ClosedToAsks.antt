@@ -13,7 +13,7 @@ use Rattle.sheep_node.specs.Step.{on_request, recovery_stepped, on_put, on_recov
 use Rattle.sheep_node.specs.Step.{node_step}
 use Rattle.sheep_node.specs.Changes.{input_received}
 use Rattle.sheep_world.specs.NodeCauses.{NodeCause, GuestAsks, RequestComes, ReplyComes, LossIsTold, EntryIsRead, EntryIsPut, RecoveryTicks}
-use Rattle.sheep_world.specs.NodeCauses.{WorkIsRetried, input_of_cause}
+use Rattle.sheep_world.specs.NodeCauses.{WorkIsRetried, ClientAsks, input_of_cause}
 use Rattle.overlap_law.specs.StepMoments.{StepsByChanges, StepsAtOnce}
 
 -- what a node is asked for, and does for it, is as it was
@@ -39,6 +39,7 @@ received_alike (EntryIsRead entry) node by = (refl, refl, refl)
 received_alike (EntryIsPut entry) node by = absurd by
 received_alike RecoveryTicks node by = absurd by
 received_alike WorkIsRetried node by = (refl, refl, refl)
+received_alike (ClientAsks req ask) node by = (refl, refl, refl)
 
 pub due_alike : (node : Node) (so_far : StepState) → IsAskedAlike node so_far → IsAskedAlike node (recovered_put so_far)
 unfolding recovered_put
@@ -58,3 +59,4 @@ made_alike (EntryIsRead entry) node by = absurd by
 made_alike (EntryIsPut entry) node by = due_alike node (on_put node.outbox (at_first node)) (put_alike node.outbox node)
 made_alike RecoveryTicks node by = due_alike node (on_recover_tick (at_first node)) (refl, refl, refl)
 made_alike WorkIsRetried node by = absurd by
+made_alike (ClientAsks req ask) node by = absurd by

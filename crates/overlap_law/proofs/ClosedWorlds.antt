@@ -8,10 +8,10 @@ use Rattle.sheep_node.specs.declared.event.Event.{Event}
 use Rattle.sheep_node.specs.StepState.{StepState}
 use Rattle.sheep_node.specs.Changes as changes
 use Rattle.sheep_world.specs.World.{Host, World}
-use Rattle.sheep_world.specs.Step.{EventOutcome, step}
+use Rattle.sheep_world.specs.Step.{EventOutcome}
 use Rattle.sheep_world.specs.NodeCauses.{event_of_cause, host_with_node}
 use Rattle.sheep_world.specs.EventKinds.{outcome_of_step}
-use Rattle.sheep_world.specs.Began.{Began}
+use Rattle.sheep_world.specs.Began.{Began, MakesMove}
 use Rattle.sheep_world.proofs.BegunWorlds.{goes_on}
 use Rattle.overlap_law.specs.Past.{MomentWithPast}
 use Rattle.overlap_law.specs.StepMoments.{SteppingNode, IsStepping, StepsByChanges, first_in_step, LeadsInStep, moment_in_step}
@@ -20,7 +20,7 @@ use Rattle.overlap_law.specs.MomentChanges.{MomentChange, MomentTrail}
 
 module _ (script : List Statement) (P : World → Type 0) (holds : (world : World) → Began script world → P world) (start : MomentWithPast)
     (began : Began script start.world) where
-  at_end : (event : Event) (made : EventOutcome) → step script event start.world ≡ Some made → P made.world
+  at_end : (event : Event) (made : EventOutcome) → MakesMove script event start.world made → P made.world
   at_end event made happened = holds made.world (goes_on script event start.world made began happened)
 
   module _ (in_step : (stepping : SteppingNode) → IsStepping script start.world stepping → StepsByChanges stepping.cause
@@ -63,6 +63,19 @@ module _ (script : List Statement) (Q : ℕ → Host → Type 0) where
 
     pub hosts_after : {before after : MomentWithPast} → MomentChange script start before after → EachIsSo after.world
     hosts_after change = world_after script EachIsSo holds start began in_step change
+
+    pub hosts_before : {before after : MomentWithPast} → MomentChange script start before after → EachIsSo before.world
+    hosts_before (moments.StepBegins stepping is by) = holds start.world began
+    hosts_before (moments.StepGoesOn stepping so_far next is by within) = in_step stepping is by so_far within.leads
+    hosts_before (moments.StepIsMade stepping is by) = holds start.world began
+    hosts_before (moments.LossIsUntold event made happened h) = holds start.world began
+    hosts_before (moments.DeliveryIsUnread event made happened h) = holds start.world began
+    hosts_before (moments.NodeIsLost event made happened h) = holds start.world began
+    hosts_before (moments.NodeLeaves event made happened h) = holds start.world began
+    hosts_before (moments.NodeIsReweighted event made happened h) = holds start.world began
+    hosts_before (moments.NodeJoins event made happened h) = holds start.world began
+    hosts_before (moments.NodeComesBack event made happened h) = holds start.world began
+    hosts_before (moments.PhaseEnds event made happened h) = holds start.world began
 
     pub hosts_along : {moment : MomentWithPast} → MomentTrail script start moment → EachIsSo moment.world
     hosts_along trail = world_along script EachIsSo holds start began in_step trail

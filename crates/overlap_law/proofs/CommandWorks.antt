@@ -15,13 +15,13 @@ use Rattle.vdi_ops.specs.InodeWorks.{create_inode}
 use Rattle.vdi_ops.specs.Op.{Opening, Working, Op}
 use Rattle.vdi_ops.specs.Tables.{holes, inode_by}
 use Rattle.sheep_node.specs.declared.course.Course.TheVariants.{Commanding}
-use Rattle.sheep_node.specs.declared.event.Event.{Event}
 use Rattle.sheep_node.specs.declared.input.Input.{Input}
 use Rattle.sheep_node.specs.Changes.{ToWork, RequestSteps}
 use Rattle.sheep_node.specs.State.{Node}
 use Rattle.sheep_node.specs.StepState.{StepState}
 use Rattle.sheep_world.specs.NodeCauses.{input_of_cause, host_with_node}
 use Rattle.sheep_world.specs.World.{Host}
+use Rattle.sheep_world.specs.RunsWithAsks.{Move}
 use Rattle.overlap_law.specs.CommandDisks.{opened_in}
 use Rattle.overlap_law.specs.MomentChanges.{MomentTrail, RunsAreInRange}
 use Rattle.overlap_law.specs.NamedWorks.{NamesWhatIsMade, OtherWorksNameWhatIsMade, NewInodesNameWhatIsMade}
@@ -41,7 +41,7 @@ use Rattle.overlap_law.proofs.StepsToWorks.{IsNotDriven, IsOfOther, WithoutEntry
 use Rattle.overlap_law.proofs.StepsToWorks.{comes_to_other}
 pub use Rattle.overlap_law.proofs.StepsToWorks.{command_act}
 
-module _ (script : List Statement) (range : RunsAreInRange script) (events : List Event) (start : MomentWithPast)
+module _ (script : List Statement) (range : RunsAreInRange script) (events : List Move) (start : MomentWithPast)
     (ran : run_with_past script events ≡ Some start) (on : SteppingNode) (is : IsStepping script start.world on)
     (by : StepsByChanges on.cause) (so_far : StepState) (leads : LeadsInStep on (first_in_step on) so_far)
     (trail : MomentTrail script start (moment_in_step script on start so_far)) (live good_id : ℕ → Bool)
@@ -107,7 +107,7 @@ module _ (script : List Statement) (range : RunsAreInRange script) (events : Lis
 
 -- ---- every moment in the middle of a step
 
-pub others_name : (script : List Statement) → RunsAreInRange script → (events : List Event) (start before : MomentWithPast)
+pub others_name : (script : List Statement) → RunsAreInRange script → (events : List Move) (start before : MomentWithPast)
     → run_with_past script events ≡ Some start → MomentTrail script start before → (live good_id : ℕ → Bool)
     → CallsLive live before.world.log before.past.attempts
     → EntriesAreMade (log_effects before.world.log) live good_id before.past.attempts → OwnEntriesAreMade live before.past.attempts

@@ -23,7 +23,8 @@ few_pass : (test : Statement → Bool) (list : List Statement) → length (filte
 few_pass test [] = omega arith
 few_pass test (s ∷ rest) = by_test (test s) (few_pass test rest)
   where
-    by_test : (b : Bool) → length (filter test rest) ≤ length rest → length (cond b (s ∷ filter test rest) (filter test rest)) ≤ suc (length rest)
+    by_test : (b : Bool) → length (filter test rest) ≤ length rest
+        → length (cond b (s ∷ filter test rest) (filter test rest)) ≤ suc (length rest)
     by_test true less = omega (arith, less)
     by_test false less = omega (arith, less)
 
@@ -78,7 +79,8 @@ controls-few script =
 pub text-few : (script : List Statement) → length script ≤ INPUT_BYTES_MAX → HasFewControls script
 text-few script short = record { few = (let controls = controls-few script in omega (arith, controls, short)) }
 
-pub text-room : (script : List Statement) (world : World) → IsScript script → length script ≤ INPUT_BYTES_MAX → Began script world → MayGrow world
+pub text-room : (script : List Statement) (world : World) → IsScript script → length script ≤ INPUT_BYTES_MAX → Began script world
+    → MayGrow world
 text-room script world is_script short began = has_room script is_script (text-few script short) world began
 
 pub text-in_range : (script : List Statement) → IsScript script → length script ≤ INPUT_BYTES_MAX

@@ -14,9 +14,9 @@ use Rattle.guest_driver.specs.Driver.{Writes, DriverStage}
 use Rattle.guest_driver.specs.Pieces.{Piece}
 use Rattle.sheep_node.specs.declared.course.Course.TheVariants.{Driving}
 use Rattle.sheep_node.specs.declared.course.Request.{Request}
-use Rattle.sheep_node.specs.declared.event.Event.{Event}
 use Rattle.sheep_node.specs.State.{session_at}
 use Rattle.sheep_world.specs.World.{Host}
+use Rattle.sheep_world.specs.RunsWithAsks.{Move}
 use Rattle.overlap_law.specs.CopiedStrips.{BesidePiecesIsUnwritten, NoneElseWrites}
 use Rattle.overlap_law.specs.Headline.{ledger_of}
 use Rattle.overlap_law.specs.MomentChanges.{MomentChange, MomentTrail, Then, RunsAreInRange}
@@ -31,7 +31,7 @@ use Rattle.overlap_law.proofs.ItemsStayOpen.{own_item}
 use Rattle.overlap_law.proofs.StandingItems.{stands_among}
 use Rattle.overlap_law.proofs.WrittenStays.{written-in_run}
 
-module _ (script : List Statement) (range : RunsAreInRange script) (events : List Event) (start before after : MomentWithPast)
+module _ (script : List Statement) (range : RunsAreInRange script) (events : List Move) (start before after : MomentWithPast)
     (run : run_with_past script events ≡ Some start) (trail : MomentTrail script start before)
     (change : MomentChange script start before after) where
   items : ItemsAreOfPieces (ledger_of after.past.history) after.world.hosts
@@ -70,8 +70,9 @@ module _ (script : List Statement) (range : RunsAreInRange script) (events : Lis
             outside (own_inside place being.item at
             (own_item req being.item (being.of ∙ ap (λ (k : ℕ). Some k) (sym (eqb-true req being.attempt.req own)))))
         by_owner false apart =
-            (none_else script range events start run (Then trail change)).each n host there up req unit request opened disk payload stage piece rest got on course known inside below being
-            (λ same. both_ways (req == being.attempt.req) apart (eq-eqb req being.attempt.req same))
+            (none_else script range events start run (Then trail change)).each n host there up req unit request opened disk payload stage
+            piece rest got on course known inside below being (λ same. both_ways (req == being.attempt.req) apart
+            (eq-eqb req being.attempt.req same))
 
   pub beside_unwritten : BesidePiecesIsUnwritten (ledger_of after.past.history) after.world.hosts after.past.attempts
   beside_unwritten = record {

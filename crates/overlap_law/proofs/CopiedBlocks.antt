@@ -34,8 +34,8 @@ use Rattle.guest_driver.specs.PieceWorks.{entry_of, object_bytes, create_copy}
 use Rattle.sheep_node.specs.State.{session_at}
 use Rattle.sheep_node.specs.declared.course.Course.TheVariants.{Driving}
 use Rattle.sheep_node.specs.declared.course.Request.{Request}
-use Rattle.sheep_node.specs.declared.event.Event.{Event}
 use Rattle.sheep_world.specs.World.{Host}
+use Rattle.sheep_world.specs.RunsWithAsks.{Move}
 use Rattle.overlap_law.specs.Attempts.{AttemptRecord, object_of, attempts_on}
 use Rattle.overlap_law.specs.CopiedStrips.{IsBlockOf, IsReadOfStrips, IsFetchedOfStrips, BesidePiecesIsUnwritten}
 use Rattle.overlap_law.specs.StripReadsAlike.{ItemsAreOfBytes}
@@ -85,7 +85,7 @@ ends_within : (kind : Kind) (spec : VdiSpec) (size large unit : ℕ) → kind �
 ends_within kind spec size large unit block end most same =
     subst (λ (k : Kind). unit_end k unit ≤ object_size spec k) (sym block) (omega (arith, end, most, same))
 
-module _ (script : List Statement) (range : RunsAreInRange script) (events : List Event) (event : Event)
+module _ (script : List Statement) (range : RunsAreInRange script) (events : List Move) (event : Move)
     (start end before after : MomentWithPast) (way : IsOnTheWay script events event start end before after) (good_id : ℕ → Bool)
     (test : CallsAvailable start after good_id) (replies : RepliesAreAlone script good_id start before after)
     (entries : EntriesKeepBlocks good_id before after)

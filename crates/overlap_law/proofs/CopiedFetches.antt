@@ -34,10 +34,10 @@ use Rattle.sheep_node.specs.Changes.{EndsWork}
 use Rattle.sheep_node.specs.State.{session_at}
 use Rattle.sheep_node.specs.StepState.{StepState}
 use Rattle.sheep_node.specs.declared.course.Course.TheVariants.{Driving}
-use Rattle.sheep_node.specs.declared.event.Event.{Event}
 use Rattle.sheep_world.specs.Began.{Began}
 use Rattle.sheep_world.specs.NodeCauses.{host_with_node, input_of_cause}
 use Rattle.sheep_world.specs.World.{Host}
+use Rattle.sheep_world.specs.RunsWithAsks.{Move}
 use Rattle.overlap_law.specs.Attempts.{AttemptRecord, attempts_on}
 use Rattle.overlap_law.specs.BornObjects.{IsBorn}
 use Rattle.overlap_law.specs.CopiedStrips.{IsBlockOf, IsReadOfStrips, IsFetchedOfStrips}
@@ -82,7 +82,7 @@ blocks_of policy kind d p n coded block aligned =
 no_offset : (n : ℕ) → n - 0 ≡ n
 no_offset n = omega arith
 
-module _ (script : List Statement) (range : RunsAreInRange script) (events : List Event) (start : MomentWithPast)
+module _ (script : List Statement) (range : RunsAreInRange script) (events : List Move) (start : MomentWithPast)
     (run : run_with_past script events ≡ Some start) (good_id : ℕ → Bool) (fewer : CallsFewer good_id (good_id_at start))
     (closed : AboveIsGood (log_effects start.world.log) good_id) (before : MomentWithPast) (trail : MomentTrail script start before) where
   began : Began script start.world
@@ -197,7 +197,7 @@ module _ (script : List Statement) (range : RunsAreInRange script) (events : Lis
             ap (λ (from : ℕ). piece_at bytes from BLOCK_BYTES) (sym (no_offset (BLOCK_BYTES * unit)))
             ∙ block_stands script range events start run stepping is by so_far leads trail_here session req number work attempt status
             (Driving (Writes payload Fetching piece rest)) bytes ends disk.inode home (whole_piece disk.inode piece) reads_so its_id
-            its_index by_blocks d p coded policy_known
+            its_index by_blocks d p coded refl policy_known
             (good_object script range events start run good_id fewer closed before trail stepping so_far is by leads same session req number
             work attempt status payload bytes piece rest disk ends opened good alive born) unit in_piece j one at covers standing quiet
             is_block

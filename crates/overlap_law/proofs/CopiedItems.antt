@@ -15,23 +15,24 @@ use Rattle.sheep_node.specs.declared.course.Request.{Request}
 use Rattle.sheep_node.specs.declared.event.Event.{Event}
 use Rattle.sheep_node.specs.SessionQueues.{session_among}
 use Rattle.sheep_node.specs.StepState.{StepState}
-use Rattle.sheep_world.specs.Began.{Began}
+use Rattle.sheep_world.specs.Began.{Began, MakesMove}
 use Rattle.sheep_world.specs.EventKinds.{outcome_of_step}
 use Rattle.sheep_world.specs.NodeCauses.{event_of_cause, host_with_node}
-use Rattle.sheep_world.specs.Step.{EventOutcome, step}
+use Rattle.sheep_world.specs.Step.{EventOutcome}
 use Rattle.sheep_world.specs.World.{Host}
+use Rattle.sheep_world.specs.RunsWithAsks.{Move}
 use Rattle.overlap_law.specs.AloneItems.{HasOwnItems}
 use Rattle.overlap_law.specs.Headline.{ledger_of}
 use Rattle.overlap_law.specs.MomentChanges.{MomentChange, MomentTrail, Then, RunsAreInRange}
 use Rattle.overlap_law.specs.MomentChanges as moments
 use Rattle.overlap_law.specs.Past.{MomentWithPast, moment_after, run_with_past}
-use Rattle.overlap_law.specs.RequestsOfScript.{IsCourseOfAsk}
+use Rattle.overlap_law.specs.RequestsOfScript.{IsCourseOfAsk, is_of_client}
 use Rattle.overlap_law.specs.StepMoments.{SteppingNode, IsStepping, StepsByChanges, LeadsInStep, first_in_step, moment_in_step}
 use Rattle.overlap_law.specs.WrittenPieces.{ItemsAreOfPieces}
 use Rattle.overlap_law.proofs.AloneItemsInSteps.{by_replies, course_in_step, on_disk, own_in_step, own_there}
 use Rattle.overlap_law.proofs.AlonePieces.{asks_on, item_so, items_of_cut, items_of_pieces-in_run}
 use Rattle.overlap_law.proofs.AttemptLists.{place_of}
-use Rattle.overlap_law.proofs.CoursesOfAsks.{IsPlacedIn}
+use Rattle.overlap_law.proofs.CoursesOfAsks.{IsNoClients, asked_none, course_none, placed_unless, IsPlacedIn}
 use Rattle.overlap_law.proofs.CoursesOfScript.{asked_by, BeganOn, requests_placed}
 use Rattle.overlap_law.proofs.EntryWorks.{known_disk}
 use Rattle.overlap_law.proofs.NoRecoveredDue.{began-with_past}
@@ -42,7 +43,7 @@ use Rattle.overlap_law.proofs.WorksInMoments.{well_along}
 
 -- ---- in the middle of a step
 
-module _ (script : List Statement) (range : RunsAreInRange script) (events : List Event) (start : MomentWithPast)
+module _ (script : List Statement) (range : RunsAreInRange script) (events : List Move) (start : MomentWithPast)
     (ran : run_with_past script events ≡ Some start) where
   began : Began script start.world
   began = began-with_past script events start ran
@@ -68,20 +69,22 @@ module _ (script : List Statement) (range : RunsAreInRange script) (events : Lis
       HasCourse now = (disk : Option ℕ)
           × IsCourseOfAsk (asked_by script req) (session_among request.session now.node.sessions).disk disk request.course
 
-      course_elsewhere : tree.get start.world.hosts n ≡ Some host → HasCourse host
-      course_elsewhere at =
-          let (disk, begun, placed) = subst (IsPlacedIn (asked_by script) (BeganOn script start.world.guests) req host.node.sessions) got
-          (requests_placed script range start.world began n host at req) in
+      course_elsewhere : IsNoClients (asked_by script req) request.course → tree.get start.world.hosts n ≡ Some host → HasCourse host
+      course_elsewhere unless_so at =
+          let (disk, begun, placed) = placed_unless (asked_by script) (BeganOn script start.world.guests) req
+          (session_among request.session host.node.sessions).disk request.course unless_so
+          (subst (IsPlacedIn (asked_by script) (BeganOn script start.world.guests) req host.node.sessions) got
+          (requests_placed script range start.world began n host at req)) in
           (disk, placed)
 
       -- it is where its statement allows
-      course_here : HasCourse host
-      course_here = ⊎_elim
+      course_here : IsNoClients (asked_by script req) request.course → HasCourse host
+      course_here unless_so = ⊎_elim
           (λ (own : IsHere).
           subst HasCourse own.1
           (course_in_step script range events start ran on is by so_far leads req request
-          (ap (λ (h : Host). tree.get h.node.requests req) own.1 ∙ got)))
-          (λ (other : IsElsewhere). course_elsewhere other.1)
+          (ap (λ (h : Host). tree.get h.node.requests req) own.1 ∙ got) unless_so))
+          (λ (other : IsElsewhere). course_elsewhere unless_so other.1)
           cases
 
       -- and its items are its own
@@ -92,7 +95,8 @@ module _ (script : List Statement) (range : RunsAreInRange script) (events : Lis
 
         own_elsewhere : tree.get start.world.hosts n ≡ Some host → AreOwn
         own_elsewhere at_start =
-            let (disk, course) = course_elsewhere at_start in
+            let (disk, course) = course_elsewhere
+            (asked_none (asked_by script req) (asks.Disk (disk_asks.Write offset payload)) request.course asked) at_start in
             let onit = on_disk (asked_by script req) offset payload asked (session_among request.session host.node.sessions).disk disk
             request.course course in
             let same : disk ≡ Some opened.inode.vid
@@ -115,7 +119,8 @@ module _ (script : List Statement) (range : RunsAreInRange script) (events : Lis
     of_pieces = record {
       each = λ n host there up req index unit place offset request opened disk item payload stage piece rest before at course cut inside got
           own.
-          let (began_on, placed) = course_here n host there up req request at.there in
+          let (began_on, placed) = course_here n host there up req request at.there
+          (course_none (asked_by script req) request.course (ap is_of_client course)) in
           let asks = asks_on (asked_by script req) opened began_on request.course payload stage piece rest
           (subst (λ (o : Option Disk). IsCourseOfAsk (asked_by script req) o began_on request.course) at.on placed) course in
           let known = known_disk host.node (well_along script range start began trail n host there) request.session opened at.on in
@@ -129,10 +134,10 @@ module _ (script : List Statement) (range : RunsAreInRange script) (events : Lis
 
   -- ---- behind each change
 
-  at_end : (event : Event) (made : EventOutcome) → step script event start.world ≡ Some made
+  at_end : (event : Event) (made : EventOutcome) → MakesMove script event start.world made
       → ItemsAreOfPieces (ledger_of (moment_after script event start made).past.history) (moment_after script event start made).world.hosts
   at_end event made happened =
-      items_of_pieces-in_run script range (events ++ event ∷ []) (moment_after script event start made)
+      items_of_pieces-in_run script range (events ++ happened.move ∷ []) (moment_after script event start made)
       (run_with_one_more script event made events start happened ran)
 
   pub pieces_after : {before after : MomentWithPast} → MomentTrail script start before → MomentChange script start before after

@@ -14,8 +14,8 @@ use Rattle.object_store.specs.Bytes.{piece_at}
 use Rattle.gf256.specs.Strip.{IsBlock}
 use Rattle.cluster_script.specs.declared.statement.Statement.{Statement}
 use Rattle.vdi_directory.specs.Decisions.{log_effects}
-use Rattle.sheep_node.specs.declared.event.Event.{Event}
 use Rattle.sheep_world.specs.Began.{Began}
+use Rattle.sheep_world.specs.RunsWithAsks.{Move}
 use Rattle.overlap_law.specs.Attempts.{AttemptRecord, object_of, attempts_on}
 use Rattle.overlap_law.specs.CopiedStrips.{IsBlockOf, IsReadOfStrips, IsFetchedOfStrips}
 use Rattle.overlap_law.specs.CreatedPieces.{CreatesAreOf}
@@ -85,7 +85,7 @@ fewer_strips few many moment fewer =
 
 -- ---- over a change
 
-module _ (script : List Statement) (range : RunsAreInRange script) (events : List Event) (start before after : MomentWithPast)
+module _ (script : List Statement) (range : RunsAreInRange script) (events : List Move) (start before after : MomentWithPast)
     (run : run_with_past script events ≡ Some start) (trail : MomentTrail script start before)
     (change : MomentChange script start before after) where
   began : Began script start.world
@@ -189,7 +189,7 @@ module _ (script : List Statement) (range : RunsAreInRange script) where
         (test_at_start script way.change good_id (test_before script way.change good_id test)) before way.behind) served);
   }
 
-  pub creates_strips : (events : List Event) (event : Event) (start end : MomentWithPast) → run_with_past script events ≡ Some start
+  pub creates_strips : (events : List Move) (event : Move) (start end : MomentWithPast) → run_with_past script events ≡ Some start
       → next_moment script event start ≡ Some end → (good_id : ℕ → Bool) → {moment : MomentWithPast} → MomentTrail script start moment
       → TrailLeft script start moment end → CallsAvailable start moment good_id
       → CreatesAreOf (IsFetchedOfStrips moment.world.log good_id moment.world.hosts moment.past.attempts) moment.world.hosts

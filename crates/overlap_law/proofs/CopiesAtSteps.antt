@@ -38,7 +38,8 @@ use Rattle.sheep_node.specs.declared.input.Input.TheVariants as inputs
 use Rattle.sheep_node.specs.RecoveryView.{shown_node, recovery_state_of}
 use Rattle.sheep_node.specs.Step.{node_step}
 use Rattle.sheep_world.specs.World.{Host}
-use Rattle.sheep_world.specs.NodeCauses.{NodeCause, GuestAsks, RequestComes, ReplyComes, LossIsTold, EntryIsRead, EntryIsPut, RecoveryTicks, WorkIsRetried, input_of_cause, IsCause, log_after_cause}
+use Rattle.sheep_world.specs.NodeCauses.{NodeCause, GuestAsks, RequestComes, ReplyComes, LossIsTold, EntryIsRead, EntryIsPut, RecoveryTicks}
+use Rattle.sheep_world.specs.NodeCauses.{WorkIsRetried, ClientAsks, input_of_cause, IsCause, log_after_cause}
 use Rattle.sheep_world.specs.Began.{Began}
 use Rattle.sheep_world.proofs.LogFrontLaws.{all_read}
 use Rattle.sheep_world.proofs.RecoveryMessages.{same_said}
@@ -196,6 +197,7 @@ module _ (script : List Statement) (range : RunsAreInRange script) (start : Mome
     asked_so (EntryIsPut entry) so request comes = absurd (cc (comes))
     asked_so RecoveryTicks so request comes = absurd (cc (comes))
     asked_so WorkIsRetried so request comes = absurd (cc (comes))
+    asked_so (ClientAsks req ask) so request comes = absurd (cc (comes))
 
     up : stepping.host.is_lost ≡ false
     up = not_lost stepping.host is.up
@@ -276,6 +278,7 @@ module _ (script : List Statement) (range : RunsAreInRange script) (start : Mome
     told_so (EntryIsPut entry) so log number said tells message sent oid level asks_row search on own = absurd tells
     told_so RecoveryTicks so log number said tells message sent oid level asks_row search on own = absurd tells
     told_so WorkIsRetried so log number said tells message sent oid level asks_row search on own = absurd tells
+    told_so (ClientAsks req ask) so log number said tells message sent oid level asks_row search on own = absurd tells
 
     pub stepped_so : PeerRowsSo (AnswersAreSo effects live attempts) (RowIsSo effects live attempts) stepping.host.node
         (node_step (input_of_cause stepping.cause) stepping.host.node).node.peer

@@ -1,5 +1,6 @@
 -- The units of a copy are of attempts: of a row that a create makes, or that a write goes over, and of one that a recovery finds.
-use Rattle.std.proofs.Common.{◌≡◌, ◌⊎◌, inl, inr, ⊎_elim, arith, ℕ, ◌+◌, ◌-◌, ◌≤◌, nat_le, Bool, true, false, List, [], ◌&&◌, length, take, drop, refl, sym, ap, subst, ◌∙◌}
+use Rattle.std.proofs.Common.{◌≡◌, ◌⊎◌, inl, inr, ⊎_elim, arith, ℕ, ◌+◌, ◌-◌, ◌≤◌, nat_le, Bool, true, false, List, [], ◌&&◌, length, take}
+use Rattle.std.proofs.Common.{drop, refl, sym, ap, subst, ◌∙◌}
 use Rattle.std.proofs.lemmas.Bool.{le-leb}
 use Rattle.std.proofs.lemmas.List.{length-replicate}
 use Rattle.object_id.specs.declared.oid.Kind.{Kind}

@@ -4,7 +4,8 @@ use Rattle.std.specs.List.{count_by}
 use Rattle.std.proofs.lemmas.List.Sums.{sum_by-append, sum_by-cons}
 use Rattle.object_id.specs.declared.node.NodeId.{NodeId}
 use Rattle.object_id.specs.declared.entry.Entry.{Entry}
-use Rattle.object_id.specs.declared.entry.Entry.TheVariants.{Format, Join, Leave, Reweight, Recovered, Reserve, Publish, Clone, Snapshot, Delete, Lock, Unlock}
+use Rattle.object_id.specs.declared.entry.Entry.TheVariants.{Format, Join, Leave, Reweight, Recovered, Reserve, Publish, Clone, Snapshot}
+use Rattle.object_id.specs.declared.entry.Entry.TheVariants.{Delete, Lock, Unlock}
 use Rattle.object_id.specs.Same.{is_same_entry}
 use Rattle.object_id.proofs.SameLemmas.{entries_decided}
 use Rattle.sheep_node.specs.OwnEntries.{IsEntryOf}
@@ -20,7 +21,8 @@ once_if same = cond same 1 0
 pub times-append : (entry : Entry) (xs ys : List Entry) → times entry (xs ++ ys) ≡ times entry xs + times entry ys
 times-append entry = sum_by-append (λ other. once_if (is_same_entry entry other))
 
-pub times-cons : (entry first : Entry) (later : List Entry) → times entry (first ∷ later) ≡ once_if (is_same_entry entry first) + times entry later
+pub times-cons : (entry first : Entry) (later : List Entry)
+    → times entry (first ∷ later) ≡ once_if (is_same_entry entry first) + times entry later
 times-cons entry = sum_by-cons (λ other. once_if (is_same_entry entry other))
 
 pub times-none : (entry : Entry) → times entry [] ≡ 0
@@ -28,7 +30,8 @@ times-none entry =
     let twice : times entry ([] ++ []) ≡ times entry [] + times entry [] = times-append entry [] [] in
     omega (arith, twice)
 
-pub times-push : (entry : Entry) (xs : List Entry) (last : Entry) → times entry (xs ++ last ∷ []) ≡ times entry xs + once_if (is_same_entry entry last)
+pub times-push : (entry : Entry) (xs : List Entry) (last : Entry)
+    → times entry (xs ++ last ∷ []) ≡ times entry xs + once_if (is_same_entry entry last)
 times-push entry xs last =
     let more = times-append entry xs (last ∷ []) in
     let one = times-cons entry last [] in
@@ -42,7 +45,8 @@ pub itself : (entry : Entry) → is_same_entry entry entry ≡ true
 itself entry = (entries_decided entry entry).1 refl
 
 -- what is no entry of a node's commands is none of them
-pub none_of_them : (me : NodeId) (entry other : Entry) → IsCommandEntry me entry → (IsCommandEntry me other → ⊥) → is_same_entry entry other ≡ false
+pub none_of_them : (me : NodeId) (entry other : Entry) → IsCommandEntry me entry → (IsCommandEntry me other → ⊥)
+    → is_same_entry entry other ≡ false
 none_of_them me entry other is not = by_test (is_same_entry entry other) refl
   where
     by_test : (b : Bool) → is_same_entry entry other ≡ b → is_same_entry entry other ≡ false

@@ -1,4 +1,5 @@
 -- Every change leaves each request of a node at a place that what it asked allows.
+use Rattle.sheep_node.specs.declared.course.Course.{Course}
 use Rattle.std.proofs.Common.{◌≡◌, ℕ, false, [], ◌∷◌, ◌++◌, Option, Some, None, refl, sym, ap, subst, ◌∙◌}
 use Rattle.std.specs.Ordering.{nat_cmp}
 use Rattle.std.specs.FinMap as tree
@@ -25,7 +26,9 @@ use Rattle.sheep_node.specs.Courses.{inode_open}
 use Rattle.sheep_node.specs.Guests.{queued_as, seen_by_command}
 use Rattle.sheep_node.specs.May.{May}
 use Rattle.sheep_node.specs.SessionQueues.{QueuesAreDiskRequests, CommandsAreAlone}
-use Rattle.sheep_node.specs.Changes.{Arrival, Outcome, ToWork, ToEntry, ToReply, without_ended_work, RequestSteps, DiskBegins, DiskGoesOn, CommandBegins, CommandGoesOn, CommandDecided, CheckBegins, CheckGoesOn, ObjectBegins, ObjectIsDone, EntryBegins, EntryDecided, input_received, Change, Leads}
+use Rattle.sheep_node.specs.Changes.{Arrival, Outcome, ToWork, ToEntry, ToReply, without_ended_work, RequestSteps, DiskBegins, DiskGoesOn}
+use Rattle.sheep_node.specs.Changes.{CommandBegins, CommandGoesOn, CommandDecided, CheckBegins, CheckGoesOn, ObjectBegins, ObjectIsDone}
+use Rattle.sheep_node.specs.Changes.{EntryBegins, EntryDecided, input_received, Change, Leads}
 use Rattle.sheep_node.proofs.OneWorkParts.{Requests, Sessions}
 use Rattle.sheep_node.proofs.ReceivedInputs.{received_keeps}
 use Rattle.sheep_node.proofs.SessionViews.{same_seen, own_seen}
@@ -34,8 +37,12 @@ use Rattle.sheep_node.proofs.SoleParts.{CommandsAre, same_command, command_is_fr
 use Rattle.sheep_node.proofs.StepChain.{kept_by_chain}
 use Rattle.sheep_node.proofs.WantedSteps.{driver_begins-wanted, driver_goes_on-wanted}
 use Rattle.overlap_law.specs.RequestsOfScript.{IsDriverOf, IsOnDisk}
-use Rattle.overlap_law.proofs.CoursesOfAsks.{disk_in, id_of_disk, IsOfSession, check_working, IsPlacedAt, IsPlacedIn, ArePlaced, PlacedSoFar, IsBrought, session_placed, all_placed, moved_others, freed_placed, others_ended, ended_placed, course_placed, HasMoved, driven_placed, commanded_placed, checked_placed}
-use Rattle.overlap_law.proofs.StepsOfAsks.{IsCheckAsked, driver_begins-asked, driver_goes_on-asked, check_begins-asked, check_goes_on-asked, command_begins-asked, command_goes_on-asked, command_decided-asked}
+use Rattle.overlap_law.proofs.CoursesOfAsks.{disk_in, id_of_disk, check_working, IsPlacedAt, IsPlacedIn, ArePlaced, PlacedSoFar, IsBrought}
+use Rattle.overlap_law.proofs.CoursesOfAsks.{session_placed, all_placed, moved_others, freed_placed, others_ended, ended_placed}
+use Rattle.overlap_law.proofs.CoursesOfAsks.{course_placed, HasMoved, driven_placed, commanded_placed, checked_placed, IsBroughtBy}
+use Rattle.overlap_law.proofs.CoursesOfAsks.{object_placed, but_one}
+use Rattle.overlap_law.proofs.StepsOfAsks.{IsCheckAsked, driver_begins-asked, driver_goes_on-asked, check_begins-asked, check_goes_on-asked}
+use Rattle.overlap_law.proofs.StepsOfAsks.{command_begins-asked, command_goes_on-asked, command_decided-asked}
 use Rattle.overlap_law.proofs.ChangeWalk.{ComesNext, IsKeptByParts, change_holds}
 use Rattle.guest_driver.specs.InodeQueue.{InodeQueue}
 use Rattle.sheep_node.specs.SessionQueues.{session_among}
@@ -63,7 +70,7 @@ module _ (asked : ℕ → Option Ask) (Began : ℕ → Option ℕ → Type 0) {i
 
   -- what a request that comes brings
   abbrev Brings : ℕ → Ask → StepState → ℕ → Type 0
-  Brings session ask so_far req = IsOfSession ask × (asked req ≡ Some ask) × Began req (id_of_disk (session_in session so_far).disk)
+  Brings session ask so_far req = IsBroughtBy asked Began req (session_in session so_far).disk ask
 
   brings : (so_far : StepState) (session req : ℕ) (ask : Ask) (refusal : Option Cause)
       → Arrival input node so_far session req ask refusal → Brings session ask so_far req
@@ -131,9 +138,12 @@ module _ (asked : ℕ → Option Ask) (Began : ℕ → Option ℕ → Type 0) {i
       (record { disk = here.2.on.disk; there = refl; same = here.2.on.same }) here.2.working here.2.of
       (check_goes_on-asked here.2.on.disk bytes check step is here.2.is) now
   steps_placed so_far session req next moved (ObjectBegins work arrival) all =
-      absurd (brings so_far session req (asks.Object work) None arrival).0
+      object_placed asked Began session req work so_far (brings so_far session req (asks.Object work) None arrival) all.1
   steps_placed so_far session req next moved (ObjectIsDone number work attempt status bytes does ends) all =
-      absurd (course_placed asked Began session req (DoingWork does) so_far ends.ends.request all.1).2
+      let freed = without_ended_work session req work status so_far in (
+        but_one asked Began req freed.node.requests freed.node.sessions (freed_placed asked Began session req work status so_far all.1),
+        tt,
+      )
   steps_placed so_far session req next moved (EntryBegins entry arrival) all =
       absurd (brings so_far session req (asks.Entry entry) None arrival).0
   steps_placed so_far session req next moved (EntryDecided entry wanted from read there waits) all =
@@ -151,7 +161,9 @@ module _ (asked : ℕ → Option Ask) (Began : ℕ → Option ℕ → Type 0) {i
       comes session req ask disk arrival on =
           let here = brings so_far session req (asks.Disk ask) None arrival in
           let after : Session
-          = record (session_in session so_far) { queue = (session_in session so_far).queue ++ queued_as disk.inode.spec.shift req ask ∷ [] } in
+          = record (session_in session so_far) {
+            queue = (session_in session so_far).queue ++ queued_as disk.inode.spec.shift req ask ∷ [];
+          } in
           let began : id_of_disk (session_in session so_far).disk ≡ Some disk.inode.vid = ap id_of_disk on in
           all_placed asked Began req (tree.insert so_far.node.requests req (record { session = session; course = Waiting ask }))
           (tree.insert so_far.node.sessions session after)
@@ -206,4 +218,14 @@ placed_grows asked Began Begins requests sessions grows all req = by_got (tree.g
     by_got : (o : Option Request) → tree.get requests req ≡ o → IsPlacedIn asked Began req sessions o
         → IsPlacedIn asked Begins req sessions o
     by_got None got is = tt
-    by_got (Some request) got (began, b, is) = (began, grows req request began got b, is)
+    by_got (Some request) got is = by_course request.course (λ began b. grows req request began got b) is
+      where
+        by_course : (course : Course) → ((began : Option ℕ) → Began req began → Begins req began)
+            → IsPlacedAt asked Began req (disk_in (session_among request.session sessions)) course
+            → IsPlacedAt asked Begins req (disk_in (session_among request.session sessions)) course
+        by_course (Waiting ask) more (began, b, is) = (began, more began b, is)
+        by_course (Driving driver) more (began, b, is) = (began, more began b, is)
+        by_course (Commanding op) more (began, b, is) = (began, more began b, is)
+        by_course (Checking check) more (began, b, is) = (began, more began b, is)
+        by_course (DoingWork work) more none = none
+        by_course (AwaitingDecision entry) more (began, b, is) = (began, more began b, is)

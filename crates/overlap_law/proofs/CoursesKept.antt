@@ -3,7 +3,6 @@
 use Rattle.std.proofs.Common.{◌≡◌, List, Some}
 use Rattle.cluster_script.specs.declared.statement.Statement.{Statement}
 use Rattle.vdi_directory.specs.Decisions.{log_effects}
-use Rattle.sheep_node.specs.declared.event.Event.{Event}
 use Rattle.overlap_law.specs.Drafts.{WhatIsPublishedIsCreated}
 use Rattle.overlap_law.specs.Groups.{CoursesAreKept}
 use Rattle.overlap_law.specs.MomentChanges.{RunsAreInRange, Still}
@@ -17,8 +16,9 @@ use Rattle.overlap_law.proofs.GrantsOfCommands.{grants-in_run}
 use Rattle.overlap_law.proofs.LastEntriesOfNodes.{publishers_write}
 use Rattle.overlap_law.proofs.PublishedInRuns.{outboxes-in_run}
 use Rattle.overlap_law.proofs.PublishedRead.{published_alone}
+use Rattle.sheep_world.specs.RunsWithAsks.{Move}
 
-module _ (script : List Statement) (range : RunsAreInRange script) (events : List Event) (moment : MomentWithPast)
+module _ (script : List Statement) (range : RunsAreInRange script) (events : List Move) (moment : MomentWithPast)
     (is : run_with_past script events ≡ Some moment) where
   pub published_created : WhatIsPublishedIsCreated (good_id_at moment) moment.world.hosts moment.past.attempts
   published_created = record {

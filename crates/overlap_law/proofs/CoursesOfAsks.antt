@@ -37,13 +37,15 @@ use Rattle.sheep_node.specs.State.{Node, new_session}
 use Rattle.sheep_node.specs.StepState.{StepState, session_in, request_ended, with_sole_request}
 use Rattle.sheep_node.specs.Courses.{after_driver_step, disk_after, after_command_step}
 use Rattle.sheep_node.specs.Guests.{seen_by_command}
+use Rattle.peer_proto.specs.declared.work.ObjWork.{ObjWork}
 use Rattle.sheep_node.specs.May.{is_disk_course}
 use Rattle.sheep_node.specs.SessionQueues.{session_among, command_in}
-use Rattle.sheep_node.specs.Changes.{HasRequest, Outcome, ToWork, ToEntry, ToReply, outcome_of_driver, outcome_of_command, outcome_of_check, without_ended_work}
+use Rattle.sheep_node.specs.Changes.{HasRequest, Outcome, ToWork, ToEntry, ToReply, outcome_of_driver, outcome_of_command, outcome_of_check}
+use Rattle.sheep_node.specs.Changes.{without_ended_work}
 use Rattle.sheep_node.proofs.OneWorkParts.{Requests, Sessions}
 use Rattle.sheep_node.proofs.SessionViews.{IsSeen, same_seen, free_seen, own_seen}
 use Rattle.sheep_node.proofs.SoleParts.{CommandsAre, IsFreeFor}
-use Rattle.overlap_law.specs.RequestsOfScript.{IsOnDisk, IsDriverOfAsk, IsCourseOfAsk}
+use Rattle.overlap_law.specs.RequestsOfScript.{IsOnDisk, IsDriverOfAsk, IsCourseOfAsk, is_of_client}
 use Rattle.overlap_law.proofs.StepsOfAsks.{IsDriverAskedAt, driver_stays-asked, IsCheckAskedAt, IsOpAskedAt}
 
 -- what a session has open
@@ -125,10 +127,47 @@ plain session req course so_far sole there disk q request got of = by_kind (is_d
         (sym got ∙ ap (tree.get so_far.node.requests) (sym same) ∙ there) in
         ap (λ (r : Request). is_disk_course r.course) found ∙ disk
 
+-- a request is no client's: something was asked, or its course isn't a client's
+abbrev pub IsNoClients : Option Ask → Course → Type 0
+IsNoClients asked course = asked ≡ None → is_of_client course ≡ true → ⊥
+
+pub asked_none : (asked : Option Ask) (ask : Ask) (course : Course) → asked ≡ Some ask → IsNoClients asked course
+asked_none asked ask course is none client = cc (none, is)
+
+pub course_none : (asked : Option Ask) (course : Course) → is_of_client course ≡ false → IsNoClients asked course
+course_none asked course is none client = cc (is, client)
+
 module _ (asked : ℕ → Option Ask) (Began : ℕ → Option ℕ → Type 0) where
   -- a request is where its ask, the open disk and the disk on which it began allow
+  abbrev pub IsPlacedAs : ℕ → Option Disk → Course → Type 0
+  IsPlacedAs req opened course = (began : Option ℕ) × Began req began × IsCourseOfAsk (asked req) opened began course
+
+  -- or is a client's, for which nothing was asked
   abbrev pub IsPlacedAt : ℕ → Option Disk → Course → Type 0
-  IsPlacedAt req opened course = (began : Option ℕ) × Began req began × IsCourseOfAsk (asked req) opened began course
+  IsPlacedAt req opened (Waiting ask) = IsPlacedAs req opened (Waiting ask)
+  IsPlacedAt req opened (Driving driver) = IsPlacedAs req opened (Driving driver)
+  IsPlacedAt req opened (Commanding op) = IsPlacedAs req opened (Commanding op)
+  IsPlacedAt req opened (Checking check) = IsPlacedAs req opened (Checking check)
+  IsPlacedAt req opened (DoingWork work) = asked req ≡ None
+  IsPlacedAt req opened (AwaitingDecision entry) = IsPlacedAs req opened (AwaitingDecision entry)
+
+  -- where something was asked, or the course is no client's, it is so placed
+  pub placed_unless : (req : ℕ) (opened : Option Disk) (course : Course) → IsNoClients (asked req) course → IsPlacedAt req opened course
+      → IsPlacedAs req opened course
+  placed_unless req opened (Waiting ask) unless_so is = is
+  placed_unless req opened (Driving driver) unless_so is = is
+  placed_unless req opened (Commanding op) unless_so is = is
+  placed_unless req opened (Checking check) unless_so is = is
+  placed_unless req opened (DoingWork work) unless_so is = absurd (unless_so is refl)
+  placed_unless req opened (AwaitingDecision entry) unless_so is = is
+
+  pub placed_as : (req : ℕ) (opened : Option Disk) (course : Course) → is_of_client course ≡ false → IsPlacedAt req opened course
+      → IsPlacedAs req opened course
+  placed_as req opened course none is = placed_unless req opened course (course_none (asked req) course none) is
+
+  pub placed_by_ask : (req : ℕ) (ask : Ask) → asked req ≡ Some ask → (opened : Option Disk) (course : Course) → IsPlacedAt req opened course
+      → IsPlacedAs req opened course
+  placed_by_ask req ask of opened course is = placed_unless req opened course (asked_none (asked req) ask course of) is
 
   abbrev pub IsPlacedIn : ℕ → Sessions → Option Request → Type 0
   IsPlacedIn req sessions request = IsSeen disk_in (IsPlacedAt req) sessions request
@@ -145,9 +184,25 @@ module _ (asked : ℕ → Option Ask) (Began : ℕ → Option ℕ → Type 0) wh
   PlacedSoFar so_far = ArePlaced so_far.node.requests so_far.node.sessions
 
   -- what is asked is of a session, and begins on the disk that this has open
+  abbrev pub IsBroughtAs : ℕ → Option Disk → Ask → Type 0
+  IsBroughtAs req opened ask = IsOfSession ask × (asked req ≡ Some ask) × Began req (id_of_disk opened)
+
+  -- or is a client's
+  abbrev pub IsBroughtBy : ℕ → Option Disk → Ask → Type 0
+  IsBroughtBy req opened (asks.Disk ask) = IsBroughtAs req opened (asks.Disk ask)
+  IsBroughtBy req opened (asks.Vdi ask) = IsBroughtAs req opened (asks.Vdi ask)
+  IsBroughtBy req opened (asks.Object work) = asked req ≡ None
+  IsBroughtBy req opened (asks.Entry entry) = IsBroughtAs req opened (asks.Entry entry)
+
+  pub brought_by : (req : ℕ) (opened : Option Disk) (ask : Ask) → IsBroughtAs req opened ask → IsBroughtBy req opened ask
+  brought_by req opened (asks.Disk ask) is = is
+  brought_by req opened (asks.Vdi ask) is = is
+  brought_by req opened (asks.Object work) is = absurd is.0
+  brought_by req opened (asks.Entry entry) is = is
+
   abbrev pub IsBrought : Input → Node → Type 0
   IsBrought input node = (req session : ℕ) (ask : Ask) → input ≡ inputs.Guest req session ask
-      → IsOfSession ask × (asked req ≡ Some ask) × Began req (id_of_disk (session_among session node.sessions).disk)
+      → IsBroughtBy req (session_among session node.sessions).disk ask
 
   stays_placed : (req : ℕ) (old new : Disk) → new.inode.vid ≡ old.inode.vid → new.inode.spec ≡ old.inode.spec → (course : Course)
       → is_disk_course course ≡ true → IsPlacedAt req (Some old) course → IsPlacedAt req (Some new) course
@@ -323,3 +378,15 @@ module _ (asked : ℕ → Option Ask) (Began : ℕ → Option ℕ → Type 0) wh
             },
           )
       by_act (check_acts.Reply found) is = tt
+
+  -- a client's read begins
+  pub object_placed : (number req : ℕ) (work : ObjWork) (so_far : StepState) → asked req ≡ None → PlacedSoFar so_far
+      → HasMoved req (ToWork work) (with_sole_request number req (DoingWork work) so_far)
+  object_placed number req work so_far none all = (
+    moved_others req number (DoingWork work) after so_far
+        (λ q other. same_seen disk_in (IsPlacedAt q) so_far.node.sessions number after refl (tree.get so_far.node.requests q) (all q)),
+    own_seen disk_in (IsPlacedAt req) so_far.node.sessions number after req (DoingWork work) so_far.node.requests none,
+  )
+    where
+      after : Session
+      after = record (session_in number so_far) { command = Some req }

@@ -1,6 +1,6 @@
 -- Each change of a node leaves its reads where they stand, and tells those that it replies to as they may be read: if what comes of a piece
 -- may be read of it, and zeros of holes.
-use Rattle.std.proofs.Common.{◌≡◌, ◌≢◌, ℕ, Bool, List, [], ◌∷◌, ◌++◌, Option, Some, None, refl, sym, ap, subst, ◌∙◌}
+use Rattle.std.proofs.Common.{◌≡◌, ◌≢◌, ⊎_elim, ℕ, Bool, true, List, [], ◌∷◌, ◌++◌, Option, Some, None, refl, sym, ap, subst, ◌∙◌}
 use Rattle.std.specs.Prelude.{IsTrue, unwrap_or}
 use Rattle.std.specs.FinMap as tree
 use Rattle.std.proofs.lemmas.Option.{same_Some}
@@ -25,6 +25,7 @@ use Rattle.guest_driver.specs.Pieces.{is_ask}
 use Rattle.vdi_ops.specs.Op.{OpStep, disk_change}
 use Rattle.sheep_node.specs.declared.ask.Ask.{Ask}
 use Rattle.sheep_node.specs.declared.ask.Ask.TheVariants as asks
+use Rattle.sheep_node.specs.declared.input.Input.TheVariants as inputs
 use Rattle.sheep_node.specs.declared.input.Input.{Input}
 use Rattle.sheep_node.specs.declared.course.Course.{Course}
 use Rattle.sheep_node.specs.declared.course.Course.TheVariants.{Waiting, Driving, Commanding, Checking, DoingWork, AwaitingDecision}
@@ -53,6 +54,7 @@ use Rattle.overlap_law.proofs.SeenCourses.{AreSeen, moved_seen, gone_seen, cours
 use Rattle.overlap_law.proofs.ChangeWalk.{ComesNext, freed_holds, kept_by_steps, change_holds}
 use Rattle.guest_driver.specs.InodeQueue.{InodeQueue}
 use Rattle.sheep_node.specs.SessionQueues.{session_among}
+use Rattle.sheep_world.specs.ClientAsks.{is_read_ask}
 
 module _ (May_be : Reading) (ledger : Ledger) (effects : List Effect) (good_id : ℕ → Bool) (asked : ℕ → Option Ask) where
   abbrev Q : ℕ → Option Disk → Course → Type 0
@@ -163,7 +165,10 @@ module _ (May_be : Reading) (ledger : Ledger) (effects : List Effect) (good_id :
     brings_none : (session req : ℕ) (ask : Ask) (refusal : Option Cause) → Arrival input node so_far session req ask refusal
         → ((disk_ask : DiskAsk) → ask ≢ asks.Disk disk_ask) → IsNoDiskAsk (asked req)
     brings_none session req ask refusal arrival other disk_ask asks_so =
-        other disk_ask (same_Some ask (asks.Disk disk_ask) (sym (goes.brought req session ask arrival.from) ∙ asks_so))
+        ⊎_elim
+        (λ (so : asked req ≡ Some ask). other disk_ask (same_Some ask (asks.Disk disk_ask) (sym so ∙ asks_so)))
+        (λ (none : (asked req ≡ None) × (is_read_ask ask ≡ true)). let nothing = none.0 in cc (nothing, asks_so))
+        (goes.brought req session ask arrival.from)
 
     steps_so : (session req : ℕ) (next : Outcome) (moved : StepState) → RequestSteps input node so_far session req next moved
         → HasStepped session req next moved
@@ -220,6 +225,13 @@ module _ (May_be : Reading) (ledger : Ledger) (effects : List Effect) (good_id :
     steps_so session req next moved (EntryDecided entry wanted from read there waits) =
         unasked session req next moved all (course_so session req (AwaitingDecision wanted) so_far there all)
 
+    -- a read or write that comes is asked under its number
+    asks_disk : (req session : ℕ) (ask : DiskAsk) → input ≡ inputs.Guest req session (asks.Disk ask) → asked req ≡ Some (asks.Disk ask)
+    asks_disk req session ask from = ⊎_elim
+        (λ (so : asked req ≡ Some (asks.Disk ask)). so)
+        (λ (none : (asked req ≡ None) × (is_read_ask (asks.Disk ask) ≡ true)). let reads = none.1 in absurd (cc (reads)))
+        (goes.brought req session (asks.Disk ask) from)
+
     comes : ComesNext AreSo lined_kept input node so_far
     comes session req ask disk arrival on =
         let after : Session
@@ -229,7 +241,7 @@ module _ (May_be : Reading) (ledger : Ledger) (effects : List Effect) (good_id :
         let may_come = subst (λ (input : Input). May input node) arrival.from may in
         let whole : IsTrue (is_ask ask) = may_come.condition.asked in
         moved_seen disk_in Q req session (Waiting ask) after so_far
-        (goes.brought req session (asks.Disk ask) arrival.from, whole)
+        (asks_disk req session ask arrival.from, whole)
         (λ q other seen. same_seen disk_in (Q q) so_far.node.sessions session after refl (tree.get so_far.node.requests q) seen) all
 
     pub change_so : (next : StepState) → Change input node so_far next → AreSoFar next

@@ -1,5 +1,6 @@
 -- In each run in range each request of a node is at a place that its statement allows, and began on the disk that its session has open.
-use Rattle.std.proofs.Common.{◌≡◌, ◌≢◌, ⊎_elim, ℕ, true, List, [], ◌∷◌, ◌++◌, fold, Contains, Option, Some, None, option_map, refl, sym, ap, subst, ◌∙◌}
+use Rattle.std.proofs.Common.{◌≡◌, ◌≢◌, ⊎_elim, ℕ, true, List, [], ◌∷◌, ◌++◌, fold, Contains, Option, Some, None, option_map, refl, sym, ap}
+use Rattle.std.proofs.Common.{subst, ◌∙◌, false}
 use Rattle.std.specs.Prelude.{unwrap_or}
 use Rattle.std.specs.Option.{option_and_then}
 use Rattle.std.specs.FinMap as tree
@@ -33,33 +34,40 @@ use Rattle.sheep_world.specs.declared.progress.SessionProgress.{SessionProgress}
 use Rattle.sheep_world.specs.Asking.{ask_of_statement, session_asking}
 use Rattle.sheep_world.specs.Began.{Began, IsInvariant}
 use Rattle.sheep_world.specs.Effects.{disk_open, progress_with_started}
-use Rattle.sheep_world.specs.EventKinds.{log_after_return, world_after_return, EventKind, NodeStep, UntoldLoss, UnreadDelivery, NodeLoss, NodeLeave, NodeReweight, NodeJoin, NodeReturn, PhaseEnd}
+use Rattle.sheep_world.specs.EventKinds.{log_after_return, world_after_return, EventKind, NodeStep, UntoldLoss, UnreadDelivery, NodeLoss}
+use Rattle.sheep_world.specs.EventKinds.{NodeLeave, NodeReweight, NodeJoin, NodeReturn, PhaseEnd}
 use Rattle.sheep_world.specs.HostChanges.{joined_host, host_after_return}
 use Rattle.sheep_world.specs.MembershipChanges.{lost_host}
-use Rattle.sheep_world.specs.NodeCauses.{NodeCause, GuestAsks, RequestComes, ReplyComes, LossIsTold, EntryIsRead, EntryIsPut, RecoveryTicks, WorkIsRetried, input_of_cause, IsCause, progress_at_cause, world_after_cause, host_with_node}
+use Rattle.sheep_world.specs.NodeCauses.{NodeCause, GuestAsks, RequestComes, ReplyComes, LossIsTold, EntryIsRead, EntryIsPut, RecoveryTicks}
+use Rattle.sheep_world.specs.NodeCauses.{WorkIsRetried, ClientAsks, input_of_cause, IsCause, progress_at_cause, world_after_cause}
+use Rattle.sheep_world.specs.NodeCauses.{host_with_node}
 use Rattle.sheep_world.specs.NodeSteps.{progress_after_reply}
 use Rattle.sheep_world.specs.Opening.{initial_world, format_entry}
 use Rattle.sheep_world.specs.Step.{EventOutcome}
 use Rattle.sheep_world.specs.World.{Host, World, node_at, no_progress, progress_at, is_host_up}
 use Rattle.sheep_world.proofs.BegunWorlds.{by_induction}
-use Rattle.sheep_world.proofs.EventInversion.{happens}
+use Rattle.sheep_world.proofs.ClientReads.{goes_by_kind}
 use Rattle.sheep_world.proofs.StepsByCause.{sound_step}
 use Rattle.sheep_world.proofs.WireAtEvents.{is_ready}
 use Rattle.sheep_world.proofs.WireAtOpening.{opening_found}
+use Rattle.sheep_world.specs.RunsWithAsks.{Move}
 use Rattle.overlap_law.specs.Past.{MomentWithPast, run_with_past}
 use Rattle.overlap_law.specs.MomentChanges.{RunsAreInRange}
-use Rattle.overlap_law.specs.RequestsOfScript.{IsCourseOfAsk, IsRequestOfScript, RequestsAreTheScripts}
+use Rattle.overlap_law.specs.RequestsOfScript.{IsCourseOfAsk, IsRequestOfScript, RequestsAreTheScripts, is_of_client}
 use Rattle.overlap_law.proofs.CausedWorks.{IsNotServed}
-use Rattle.overlap_law.proofs.CoursesOfAsks.{id_of_disk, IsOfSession, ArePlaced, IsPlacedIn, IsBrought}
+use Rattle.overlap_law.proofs.CoursesOfAsks.{id_of_disk, IsOfSession, ArePlaced, IsPlacedIn, IsBrought, IsBroughtBy, brought_by, placed_as}
 use Rattle.overlap_law.proofs.CoursesAtChanges.{none_placed, placed_in_chain, placed_grows}
 use Rattle.overlap_law.proofs.GuestsOfScript.{asked_inside}
 use Rattle.overlap_law.proofs.KnownSteps.{together}
 use Rattle.overlap_law.proofs.NoRecoveredDue.{began-with_past}
 use Rattle.overlap_law.proofs.RepliesApart.{step_apart}
 use Rattle.overlap_law.proofs.RequestsInRuns.{at_place, statement_of}
-use Rattle.overlap_law.proofs.SessionsOfRequests.{IsAskedIn, brought, asked_so_far, are_asked}
-use Rattle.overlap_law.proofs.UnansweredRequests.{Guests, unanswered_in, stays_by, found_unanswered, others_unreplied, back_empty, first_empty}
+use Rattle.overlap_law.proofs.SessionsOfRequests.{are_scripts}
+use Rattle.overlap_law.proofs.UnansweredRequests.{Guests, unanswered_in, stays_by, found_unanswered, back_empty, first_empty}
 use Rattle.overlap_law.proofs.WholeInRuns.{sound_here, may_change}
+use Rattle.overlap_law.proofs.RepliesElsewhere.{unreplied_elsewhere}
+use Rattle.overlap_law.proofs.AsksInCauses.{no_request}
+use Rattle.sheep_world.specs.ClientAsks.{is_read_ask}
 
 -- what the request of a number asks
 abbrev pub asked_by : List Statement → ℕ → Option Ask
@@ -119,7 +127,8 @@ module _ (script : List Statement) where
     on = is.on;
   }
 
-  pub found_began : (world : World) (n : ℕ) (host : Host) (cause : NodeCause) (req : ℕ) (disk : Option ℕ) → BeganOn script world.guests req disk
+  pub found_began : (world : World) (n : ℕ) (host : Host) (cause : NodeCause) (req : ℕ) (disk : Option ℕ)
+      → BeganOn script world.guests req disk
       → BeganOn script (progress_at_cause cause world) req disk
   found_began world n host cause req disk is = record {
     session = is.session;
@@ -163,20 +172,29 @@ module _ (script : List Statement) where
         },
       )
 
+  client_brings : (world : World) (host : Host) (req number : ℕ) (own : Ask) → is_read_ask own ≡ true → asked_by script req ≡ None
+      → IsBroughtBy (asked_by script) (BeganOn script world.guests) req (session_among number host.node.sessions).disk own
+  client_brings world host req number (asks.Disk ask) reads none = absurd (cc (reads))
+  client_brings world host req number (asks.Vdi ask) reads none = absurd (cc (reads))
+  client_brings world host req number (asks.Object work) reads none = none
+  client_brings world host req number (asks.Entry entry) reads none = absurd (cc (reads))
+
   pub brings : (world : World) (n : ℕ) (host : Host) (cause : NodeCause) → tree.get world.hosts n ≡ Some host
       → IsCause script world n host cause
       → IsBrought (asked_by script) (BeganOn script (progress_at_cause cause world)) (input_of_cause cause) host.node
   brings world n host (GuestAsks session begins ask) there asked req number own from =
       let found = progress_at_cause (GuestAsks session begins ask) world in
       let Brings : ℕ → ℕ → Ask → Type 0
-      = λ (req number : ℕ) (ask : Ask). IsOfSession ask × (asked_by script req ≡ Some ask)
-      × BeganOn script found req (id_of_disk (session_among number host.node.sessions).disk) in
+      = λ (req number : ℕ) (ask : Ask). IsBroughtBy (asked_by script) (BeganOn script found) req
+      (session_among number host.node.sessions).disk ask in
       let same : begins ≡ req = cc (from) in
       let of : session.number ≡ number = cc (from) in
       let what : ask ≡ own = cc (from) in
       subst (λ (k : ℕ). Brings k number own) same
       (subst (λ (k : ℕ). Brings begins k own) of
-      (subst (Brings begins session.number) what (begins_asked world n host session begins ask there asked)))
+      (subst (Brings begins session.number) what
+      (brought_by (asked_by script) (BeganOn script found) begins (session_among session.number host.node.sessions).disk ask
+      (begins_asked world n host session begins ask there asked))))
   brings world n host (RequestComes name to request) there so req number own from = absurd (cc (from))
   brings world n host (ReplyComes name to rsp) there so req number own from = absurd (cc (from))
   brings world n host (LossIsTold name packet) there so req number own from = absurd (cc (from))
@@ -184,6 +202,11 @@ module _ (script : List Statement) where
   brings world n host (EntryIsPut entry) there so req number own from = absurd (cc (from))
   brings world n host RecoveryTicks there so req number own from = absurd (cc (from))
   brings world n host WorkIsRetried there so req number own from = absurd (cc (from))
+  brings world n host (ClientAsks begins what) there so req number own from =
+      let same : begins ≡ req = cc (from) in
+      let asks : what ≡ own = cc (from) in
+      client_brings world host req number own (ap is_read_ask (sym asks) ∙ so.reads)
+      (ap (option_and_then ask_of_statement) (no_request so req same))
 
   -- ---- each node's requests
 
@@ -246,6 +269,7 @@ module _ (script : List Statement) where
     stepped_placed n host there up (EntryIsPut entry) caused are = by_step n host there up (EntryIsPut entry) caused tt are
     stepped_placed n host there up RecoveryTicks caused are = by_step n host there up RecoveryTicks caused tt are
     stepped_placed n host there up WorkIsRetried caused are = by_step n host there up WorkIsRetried caused tt are
+    stepped_placed n host there up (ClientAsks req ask) caused are = by_step n host there up (ClientAsks req ask) caused tt are
 
     -- with the world's sessions as the step finds them, and as it leaves them
     pub placed_found : (n : ℕ) (host : Host) (cause : NodeCause) (node : Node) → HasPlaced script world.guests node
@@ -276,16 +300,10 @@ module _ (script : List Statement) where
           step_apart (input_of_cause cause) host.node (sound n host there up cause caused) req request reply has among)
           (stepped_placed n host there up cause caused (placed_found n host cause host.node (are n host there)))))
           (λ (other : (m ≢ n) × (tree.get world.hosts m ≡ Some now)).
-          let replied = (asked_so_far script n host.incarnation (input_of_cause cause) host.node (brought script world n host cause caused)
-          (are_asked script world began n host there) (step_chain (input_of_cause cause) host.node)).replied in
           placed_left (progress_at_cause cause world) (node_step (input_of_cause cause) host.node).outputs.replies now.node
-          (λ req request has reply among same.
-          let (session, disk, here) = replied reply among in
-          let asks_here : IsAskedIn script n host.incarnation req session
-          = subst (λ (k : ℕ). IsAskedIn script n host.incarnation k session) same here in
-          others_unreplied script n m host.incarnation now.incarnation req session request.session other.0 asks_here
-          (are_asked script world began m now other.1 req request has))
-          (placed_found n host cause now.node (are m now other.1)))
+          (λ req request has reply among.
+          unreplied_elsewhere script range.is_script world began n m host now there other.1 other.0 req request has cause caused reply
+          among) (placed_found n host cause now.node (are m now other.1)))
           (get-insert_cases world.hosts n (host_with_node host (node_step (input_of_cause cause) host.node).node) m now got)
 
       return_placed : (n : ℕ) (host : Host) → AllPlaced (world_after_return script n host world)
@@ -328,7 +346,7 @@ module _ (script : List Statement) where
     placed_invariant : IsInvariant script AllPlaced
     placed_invariant = record {
       opens = opens_placed;
-      keeps = λ event world made began is are. kind_placed range world began are event made (happens script event world made is);
+      keeps = λ event world made began is are. kind_placed range world began are event made (goes_by_kind script event world made is);
     }
 
     pub requests_placed : (world : World) → Began script world → AllPlaced world
@@ -336,11 +354,14 @@ module _ (script : List Statement) where
 
     -- as the invariant says it
     of_script : (world : World) → Began script world → (n req : ℕ) (host : Host) (request : Request) → tree.get world.hosts n ≡ Some host
-        → tree.get host.node.requests req ≡ Some request → IsRequestOfScript script world n host req request
-    of_script world began n req host request there got =
-        let (disk, at, course) = subst (IsPlacedIn (asked_by script) (BeganOn script world.guests) req host.node.sessions) got
-        (requests_placed world began n host there req) in
-        let asked = are_asked script world began n host there req request got in
+        → tree.get host.node.requests req ≡ Some request → is_of_client request.course ≡ false
+        → IsRequestOfScript script world n host req request
+    of_script world began n req host request there got none =
+        let (disk, at, course) = placed_as (asked_by script) (BeganOn script world.guests) req
+        (session_among request.session host.node.sessions).disk request.course none
+        (subst (IsPlacedIn (asked_by script) (BeganOn script world.guests) req host.node.sessions) got
+        (requests_placed world began n host there req)) in
+        let asked = are_scripts script range.is_script world began n host there req request got none in
         let (statement, stands, own) = statement_of request.session (request_at script req) asked.asking in
         let session : at.session ≡ request.session = same_Some at.session request.session (sym at.asking ∙ asked.asking) in
         let there_too : Contains (progress_at request.session world).unanswered at.started
@@ -366,9 +387,9 @@ module _ (script : List Statement) where
               (subst (λ (a : Option Ask). IsCourseOfAsk a opened disk request.course) asks course);
         }
 
-  pub requests-in_run : RunsAreInRange script → (events : List Event) (moment : MomentWithPast) → run_with_past script events ≡ Some moment
+  pub requests-in_run : RunsAreInRange script → (events : List Move) (moment : MomentWithPast) → run_with_past script events ≡ Some moment
       → RequestsAreTheScripts script moment.world
   requests-in_run range events moment is = record {
     each = λ n req host request there up got asks.
-        of_script range moment.world (began-with_past script events moment is) n req host request there got;
+        of_script range moment.world (began-with_past script events moment is) n req host request there got asks;
   }

@@ -161,21 +161,25 @@ driven_covered number req disk step so_far on may is same all =
             subst (λ (k : ℕ). CoversBehind k queued step.driver) size (is queued there own).1,
       ),
     )
-    (λ q other seen. same_seen size_and_queue (IsCovered q) so_far.node.sessions number after place (tree.get so_far.node.requests q) seen) all
+    (λ q other seen. same_seen size_and_queue (IsCovered q) so_far.node.sessions number after place (tree.get so_far.node.requests q) seen)
+    all
 
 command_covered : (number req : ℕ) (step : OpStep) (so_far : StepState) → IsFreeFor number req so_far.node.requests → CoveredSoFar so_far
     → CoveredSoFar (after_command_step number req step so_far)
 command_covered number req step so_far alone all =
-    let after : Session = record (session_in number so_far) { disk = disk_after (disk_change step) (session_in number so_far).disk; command = Some req } in
+    let after : Session = record (session_in number
+    so_far) { disk = disk_after (disk_change step) (session_in number so_far).disk; command = Some req } in
     moved_seen size_and_queue IsCovered req number (Commanding step.op) after so_far tt
-    (λ q other seen. free_seen size_and_queue (IsCovered q) so_far.node.sessions number after req q so_far.node.requests alone other seen) all
+    (λ q other seen. free_seen size_and_queue (IsCovered q) so_far.node.sessions number after req q so_far.node.requests alone other seen)
+    all
 
 sole_covered : (number req : ℕ) (course : Course) (so_far : StepState) → IsCovered req (size_and_queue (session_in number so_far)) course
     → CoveredSoFar so_far → CoveredSoFar (with_sole_request number req course so_far)
 sole_covered number req course so_far is all =
     let after : Session = record (session_in number so_far) { command = Some req } in
     moved_seen size_and_queue IsCovered req number course after so_far is
-    (λ q other seen. same_seen size_and_queue (IsCovered q) so_far.node.sessions number after refl (tree.get so_far.node.requests q) seen) all
+    (λ q other seen. same_seen size_and_queue (IsCovered q) so_far.node.sessions number after refl (tree.get so_far.node.requests q) seen)
+    all
 
 -- ---- every change
 
@@ -192,7 +196,8 @@ queued_none so_far session req none queues queued there same =
 
 module _ {input : Input} {node : Node} (may : May input node) (sound : IsSoundStep input node) (queued : QueuesAreDiskRequests node)
     (sole : CommandsAreAlone node) where
-  steps_covered : (so_far : StepState) (session req : ℕ) (next : Outcome) (moved : StepState) → RequestSteps input node so_far session req next moved
+  steps_covered : (so_far : StepState) (session req : ℕ) (next : Outcome) (moved : StepState)
+      → RequestSteps input node so_far session req next moved
       → AreInPlace so_far → CoveredSoFar moved
   steps_covered so_far session req next moved (DiskBegins ask disk there on runs) all =
       let before = course_covered session req (Waiting ask) so_far there all.2 in
@@ -231,7 +236,8 @@ module _ {input : Input} {node : Node} (may : May input node) (sound : IsSoundSt
   steps_covered so_far session req next moved (ObjectBegins asked arrival) all = sole_covered session req (DoingWork asked) so_far tt all.2
   steps_covered so_far session req next moved (ObjectIsDone number work attempt status bytes asked ends) all =
       freed_covered session req work status so_far all.2
-  steps_covered so_far session req next moved (EntryBegins entry arrival) all = sole_covered session req (AwaitingDecision entry) so_far tt all.2
+  steps_covered so_far session req next moved (EntryBegins entry arrival) all =
+      sole_covered session req (AwaitingDecision entry) so_far tt all.2
   steps_covered so_far session req next moved (EntryDecided entry wanted from read there waits) all = all.2
 
   comes : (so_far : StepState) → AreInPlace so_far → ComesNext AreCovered lined_covered input node so_far
@@ -271,8 +277,10 @@ pub received_covered : (input : Input) (node : Node) → CoveredSoFar (at_first 
 received_covered = received_keeps (λ works requests sessions. AreCovered requests sessions) none_covered
 
 -- in the middle of a step
-pub covered_in_chain : (input : Input) (node : Node) → May input node → IsSoundStep input node → QueuesAreDiskRequests node → CommandsAreAlone node
-    → AreCovered node.requests node.sessions → (so_far : StepState) → Leads input node (input_received input (at_first node)) so_far → CoveredSoFar so_far
+pub covered_in_chain : (input : Input) (node : Node) → May input node → IsSoundStep input node → QueuesAreDiskRequests node
+    → CommandsAreAlone node
+    → AreCovered node.requests node.sessions → (so_far : StepState) → Leads input node (input_received input (at_first node)) so_far
+    → CoveredSoFar so_far
 covered_in_chain input node may sound queued sole all so_far leads =
     (kept_by_chain AreInPlace (λ so_far next change. change_keeps_place may sound queued sole so_far next change) leads (
       received_alone input node sole,

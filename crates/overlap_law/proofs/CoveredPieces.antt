@@ -1,5 +1,6 @@
 -- What a queue has of a read or write covers the objects of its pieces, as it begins and as it goes on; and what may run is in the queue.
-use Rattle.std.proofs.Common.{◌≡◌, arith, ℕ, zero, suc, ◌+◌, ◌-◌, ◌≤◌, ◌<◌, Bool, true, false, not, ◌||◌, cond, List, [], ◌∷◌, ◌++◌, length, map, All, Option, Some, None, refl, subst}
+use Rattle.std.proofs.Common.{◌≡◌, arith, ℕ, zero, suc, ◌+◌, ◌-◌, ◌≤◌, ◌<◌, Bool, true, false, not, ◌||◌, cond, List, [], ◌∷◌, ◌++◌, length}
+use Rattle.std.proofs.Common.{map, All, Option, Some, None, refl, subst}
 use Rattle.std.specs.List.{find, list_any, range_with_len}
 use Rattle.std.specs.Option.{option_map_or}
 use Rattle.std.proofs.lemmas.List.Elements.{All-nil, All-cons, All-tail}
@@ -16,7 +17,8 @@ use Rattle.guest_driver.specs.PieceWorks.{table_with_entry}
 use Rattle.guest_driver.specs.OnDisk.{pieces_left}
 use Rattle.guest_driver.specs.Refusals.{refusal_on}
 use Rattle.guest_driver.specs.Driver as drivers
-use Rattle.guest_driver.specs.Driver.{Driver, Reads, Writes, DriverStage, InPlace, Fetching, Creating, Entering, DriverStep, read_on, write_done, begin_unless_refused, begin_driver, driver_on_done}
+use Rattle.guest_driver.specs.Driver.{Driver, Reads, Writes, DriverStage, InPlace, Fetching, Creating, Entering, DriverStep, read_on}
+use Rattle.guest_driver.specs.Driver.{write_done, begin_unless_refused, begin_driver, driver_on_done}
 use Rattle.guest_driver.proofs.NextLemmas.{read-keeps, write-keeps}
 use Rattle.sheep_node.specs.Guests.{queued_as}
 
@@ -51,8 +53,8 @@ begins_covered disk req ask = by_refusal ask (refusal_on disk false ask)
         → All (CoversPiece (queued_as disk.inode.spec.shift req ask)) (pieces_left (begin_unless_refused disk.inode ask refusal).driver)
     by_refusal ask (Some cause) = All-nil (CoversPiece (queued_as disk.inode.spec.shift req ask))
     by_refusal (disk_asks.Read offset size) None =
-        read-keeps (CoversPiece (queued_as disk.inode.spec.shift req (disk_asks.Read offset size))) disk.inode [] (pieces disk.inode.spec.shift offset size)
-        (all_covered disk.inode.spec.shift req (disk_asks.Read offset size))
+        read-keeps (CoversPiece (queued_as disk.inode.spec.shift req (disk_asks.Read offset size))) disk.inode []
+        (pieces disk.inode.spec.shift offset size) (all_covered disk.inode.spec.shift req (disk_asks.Read offset size))
     by_refusal (disk_asks.Write offset payload) None =
         write-keeps (CoversPiece (queued_as disk.inode.spec.shift req (disk_asks.Write offset payload))) disk.inode payload
         (pieces disk.inode.spec.shift offset (length payload)) (all_covered disk.inode.spec.shift req (disk_asks.Write offset payload))

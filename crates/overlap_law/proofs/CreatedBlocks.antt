@@ -37,10 +37,10 @@ use Rattle.sheep_node.specs.SoundWorks.{IsSoundCourse}
 use Rattle.sheep_node.specs.State.{session_at}
 use Rattle.sheep_node.specs.declared.course.Course.TheVariants.{Driving}
 use Rattle.sheep_node.specs.declared.course.Request.{Request}
-use Rattle.sheep_node.specs.declared.event.Event.{Event}
 use Rattle.sheep_node.proofs.SessionViews.{IsSeen}
 use Rattle.sheep_world.specs.Began.{Began}
 use Rattle.sheep_world.specs.World.{Host}
+use Rattle.sheep_world.specs.RunsWithAsks.{Move}
 use Rattle.overlap_law.specs.Attempts.{AttemptRecord}
 use Rattle.overlap_law.specs.CreatedPieces.{anything, CreatesPiece, OfHole, OfCopy}
 use Rattle.overlap_law.specs.Each.{spec_in}
@@ -90,7 +90,7 @@ use Rattle.overlap_law.proofs.TiedInRuns.{kept_tied}
 use Rattle.overlap_law.proofs.TrafficOfChanges.{traffic}
 use Rattle.overlap_law.proofs.WorksInMoments.{well_after}
 
-module _ (script : List Statement) (range : RunsAreInRange script) (events : List Event) (event : Event)
+module _ (script : List Statement) (range : RunsAreInRange script) (events : List Move) (event : Move)
     (start end before after : MomentWithPast) (way : IsOnTheWay script events event start end before after) (good_id : ℕ → Bool)
     (test : CallsAvailable start after good_id) (replies : RepliesAreAlone script good_id start before after)
     (entries : EntriesKeepBlocks good_id before after)
@@ -115,7 +115,8 @@ module _ (script : List Statement) (range : RunsAreInRange script) (events : Lis
       replies) entries
 
   reservable : All IsReservable after.world.log
-  reservable = (on_the_way script LogIsReservable (kept_reservable script range) events start after way.run (Then way.behind way.change)).all
+  reservable =
+      (on_the_way script LogIsReservable (kept_reservable script range) events start after way.run (Then way.behind way.change)).all
 
   inodes : InodesStay (log_effects after.world.log) good_id after.world.hosts after.past.attempts
   inodes = inodes_along script range events start way.run good_id test.fewer
@@ -212,7 +213,8 @@ module _ (script : List Statement) (range : RunsAreInRange script) (events : Lis
         let inside_so : piece.index < objects_of opened.inode.spec
         = subst (λ (s : VdiSpec). piece.index < objects_of s) (sym same_spec)
         (subst (λ (k : ℕ). k < objects_of spec) (sym same_index) block.object) in
-        let (j, entry, comes, own) = table_comes script range events start way.run after (Then way.behind way.change) n host there up request.session
+        let (j, entry, comes, own) = table_comes script range events start way.run after (Then way.behind way.change) n host there up
+        request.session
         opened on req request asked refl (ap is_disk_course course) covered.0
         (λ bytes one later entering. let never = sym course ∙ entering in cc (never)) good_id inodes.tables good lives piece.index
         inside_so (λ one among_queue its. All-head (CoversPiece one) piece rest (covered.1 one among_queue its).0) in (
@@ -231,8 +233,8 @@ module _ (script : List Statement) (range : RunsAreInRange script) (events : Lis
         let may = holes_stay script range events start before after way.run way.behind way.change good_id
         (disks_out before (on_the_way script AreOut (kept_out script range) events start before way.run way.behind))
         (disks_out after (on_the_way script AreOut (kept_out script range) events start after way.run (Then way.behind way.change)))
-        (enters_to_come script range events start before after way.run way.behind way.change good_id commands) written grows vid index unit disk
-        spec block j entry comes (own ∙ hole) in
+        (enters_to_come script range events start before after way.run way.behind way.change good_id commands) written grows vid index unit
+        disk spec block j entry comes (own ∙ hole) in
         let bytes : zeros BLOCK_BYTES ≡ bytes_by unit work.work
         = sym (ap (λ (w : ObjWork). bytes_by unit w) same
         ∙ hole_beside payload piece unit among outside opened.inode kind inside (subst IsWork same is_work)) in
@@ -320,8 +322,8 @@ module _ (script : List Statement) (range : RunsAreInRange script) (events : Lis
         → Stands work.work
     may_stay strips =
         by_create
-        (creates_served script range events event start end way.run way.happens good_id (Then way.behind way.change) way.left test n host there up req work request opened
-        payload piece rest got asked on course)
+        (creates_served script range events event start end way.run way.happens good_id (Then way.behind way.change) way.left test n host
+        there up req work request opened payload piece rest got asked on course)
       where
         by_create : CreatesPiece (IsFetchedServed after.world.log good_id after.world.hosts after.past.attempts) opened.inode payload
             piece work.work

@@ -40,12 +40,12 @@ use Rattle.sheep_node.specs.State.{session_at}
 use Rattle.sheep_node.specs.StepState.{StepState}
 use Rattle.sheep_node.specs.declared.course.Course.TheVariants.{Driving}
 use Rattle.sheep_node.specs.declared.course.Request.{Request}
-use Rattle.sheep_node.specs.declared.event.Event.{Event}
 use Rattle.sheep_node.specs.declared.session.Session.{Session}
 use Rattle.sheep_node.proofs.SessionViews.{IsSeen}
 use Rattle.sheep_world.specs.Began.{Began}
 use Rattle.sheep_world.specs.NodeCauses.{host_with_node, input_of_cause}
 use Rattle.sheep_world.specs.World.{Host}
+use Rattle.sheep_world.specs.RunsWithAsks.{Move}
 use Rattle.overlap_law.specs.BornObjects.{IsBorn}
 use Rattle.overlap_law.specs.CommandDisks.{opened_as}
 use Rattle.overlap_law.specs.CreatedPieces.{anything}
@@ -107,7 +107,7 @@ fetched_object : (disk : Disk) (payload : List ℕ) (piece : Piece) (rest : List
     → work ≡ read_object disk.inode piece (entry_of disk.inode piece)
 fetched_object disk payload piece rest work is = cc (is)
 
-module _ (script : List Statement) (range : RunsAreInRange script) (events : List Event) (start : MomentWithPast)
+module _ (script : List Statement) (range : RunsAreInRange script) (events : List Move) (start : MomentWithPast)
     (run : run_with_past script events ≡ Some start) (good_id : ℕ → Bool) (fewer : CallsFewer good_id (good_id_at start))
     (closed : AboveIsGood (log_effects start.world.log) good_id) (before : MomentWithPast) (trail : MomentTrail script start before) where
   began : Began script start.world
@@ -291,7 +291,7 @@ module _ (script : List Statement) (range : RunsAreInRange script) (events : Lis
               read_unit script range events start run stepping is by so_far leads trail_here (good_at start)
               (told_pieces-in_run script range events start run) session req number work attempt status
               (Driving (Writes payload Fetching piece rest)) bytes ends (object_number (entry_of disk.inode piece) piece.index)
-              disk.inode.spec.policy 0 (object_bytes disk.inode) is_read in_copies
+              disk.inode.spec.policy 0 (object_bytes disk.inode) is_read in_copies refl
               (good_object
               (read_born script range events start run stepping is by so_far leads trail_here (good_at start)
               (told_pieces-in_run script range events start run) session req number work attempt status

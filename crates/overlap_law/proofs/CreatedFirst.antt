@@ -20,13 +20,13 @@ use Rattle.vdi_ops.specs.InodeWorks.{create_inode}
 use Rattle.vdi_ops.specs.Op.{OpStage}
 use Rattle.sheep_node.specs.declared.course.Course.TheVariants.{Commanding}
 use Rattle.sheep_node.specs.declared.course.Request.{Request}
-use Rattle.sheep_node.specs.declared.event.Event.{Event}
 use Rattle.sheep_node.specs.Changes.{Leads}
 use Rattle.sheep_node.specs.StepState.{StepState}
 use Rattle.sheep_node.specs.SessionQueues.{session_among}
 use Rattle.sheep_node.proofs.OneWorkParts.{Requests, Sessions}
 use Rattle.sheep_world.specs.Began.{Began}
 use Rattle.sheep_world.specs.NodeCauses.{input_of_cause, host_with_node}
+use Rattle.sheep_world.specs.RunsWithAsks.{Move}
 use Rattle.overlap_law.specs.CommandDisks.{opened_in}
 use Rattle.overlap_law.specs.Courses.{IsOfStage, IsCreatedNow}
 use Rattle.overlap_law.specs.Drafts.{published_by}
@@ -82,7 +82,7 @@ made_for log outbox read from me session opened of vid (entries.Unlock by number
 
 -- ---- in the middle of a step
 
-module _ (script : List Statement) (range : RunsAreInRange script) (events : List Event) (start : MomentWithPast)
+module _ (script : List Statement) (range : RunsAreInRange script) (events : List Move) (start : MomentWithPast)
     (is : run_with_past script events ≡ Some start) where
   began : Began script start.world
   began = began-with_past script events start is
@@ -177,7 +177,7 @@ module _ (script : List Statement) (range : RunsAreInRange script) where
       inr (created_now script range events start ran on steps by so_far within.leads trail q (record { 0 = vid }) made))
       (publication_from q (record { 0 = vid }) (input_of_cause on.cause) on.host.node so_far next within.change is.request is.there is.says)
 
-  pub publications-on_the_way : (events : List Event) (start moment : MomentWithPast) → run_with_past script events ≡ Some start
+  pub publications-on_the_way : (events : List Move) (start moment : MomentWithPast) → run_with_past script events ≡ Some start
       → MomentTrail script start moment → PublicationsAreCreated moment
   publications-on_the_way events start moment ran trail n host there up q request vid got says =
       inodes-on_the_way PublishedBy script range none_published opens_so comes_so events start moment ran trail n host there up q vid.0

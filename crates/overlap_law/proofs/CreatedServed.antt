@@ -14,9 +14,9 @@ use Rattle.peer_proto.specs.Work.{oid_of}
 use Rattle.gateway.specs.State.{Open, Work}
 use Rattle.vdi_directory.specs.Decisions.{log_effects}
 use Rattle.sheep_node.specs.Changes.{attempt_in}
-use Rattle.sheep_node.specs.declared.event.Event.{Event}
 use Rattle.sheep_world.specs.Began.{Began}
 use Rattle.sheep_world.specs.NodeCauses.{host_with_node}
+use Rattle.sheep_world.specs.RunsWithAsks.{Move}
 use Rattle.overlap_law.specs.Attempts.{AttemptRecord, object_of}
 use Rattle.overlap_law.specs.CreatedPieces.{CreatesAreOf}
 use Rattle.overlap_law.specs.Grants.{writer_of}
@@ -55,7 +55,7 @@ fewer_served few many moment fewer =
 
 -- ---- over a change
 
-module _ (script : List Statement) (range : RunsAreInRange script) (events : List Event) (start before after : MomentWithPast)
+module _ (script : List Statement) (range : RunsAreInRange script) (events : List Move) (start before after : MomentWithPast)
     (run : run_with_past script events ≡ Some start) (trail : MomentTrail script start before)
     (change : MomentChange script start before after) where
   began : Began script start.world
@@ -115,7 +115,8 @@ module _ (script : List Statement) (range : RunsAreInRange script) where
   served_kept : IsKeptByTests script HasServed
   served_kept = record {
     fewer = fewer_served;
-    opens = pieces_open (IsFetchedServed (first_moment script).world.log (good_id_at (first_moment script)) (first_moment script).world.hosts
+    opens =
+        pieces_open (IsFetchedServed (first_moment script).world.log (good_id_at (first_moment script)) (first_moment script).world.hosts
         (first_moment script).past.attempts) script;
     keeps = λ events event start end before after way good_id test served.
         served_still script range events start before after way.run way.behind way.change good_id
@@ -125,7 +126,7 @@ module _ (script : List Statement) (range : RunsAreInRange script) where
         (test_at_start script way.change good_id (test_before script way.change good_id test)) before way.behind) served);
   }
 
-  pub creates_served : (events : List Event) (event : Event) (start end : MomentWithPast) → run_with_past script events ≡ Some start
+  pub creates_served : (events : List Move) (event : Move) (start end : MomentWithPast) → run_with_past script events ≡ Some start
       → next_moment script event start ≡ Some end → (good_id : ℕ → Bool) → {moment : MomentWithPast} → MomentTrail script start moment
       → TrailLeft script start moment end → CallsAvailable start moment good_id
       → CreatesAreOf (IsFetchedServed moment.world.log good_id moment.world.hosts moment.past.attempts) moment.world.hosts

@@ -1,6 +1,7 @@
--- Each change of a moment on the way of an event keeps that before each write of an object stands a made create of it: what a write goes to is
--- an own object of an open disk, or an inode, of a working disk that is published.
-use Rattle.std.proofs.Common.{◌≡◌, inl, ⊎_elim, arith, ℕ, ◌≤◌, ◌<◌, Bool, false, List, length, Option, Some, None, unwrap_or, slice_get, slice_index, refl, sym, ap, subst, ◌∙◌}
+-- Each change of a moment on the way of an event keeps that before each write of an object stands a made create of it: what a write goes to
+-- is an own object of an open disk, or an inode, of a working disk that is published.
+use Rattle.std.proofs.Common.{◌≡◌, inl, ⊎_elim, arith, ℕ, ◌≤◌, ◌<◌, Bool, false, List, length, Option, Some, None, unwrap_or, slice_get}
+use Rattle.std.proofs.Common.{slice_index, refl, sym, ap, subst, ◌∙◌}
 use Rattle.std.specs.Prelude.{not, ◌&&◌}
 use Rattle.std.specs.FinMap as tree
 use Rattle.std.specs.List.{list_any}
@@ -24,13 +25,13 @@ use Rattle.gateway.specs.State.{Open}
 use Rattle.guest_driver.specs.declared.disk.Disk.{Disk}
 use Rattle.guest_driver.specs.PieceWorks.{write_entry}
 use Rattle.sheep_node.specs.declared.session.Session.{Session}
-use Rattle.sheep_node.specs.declared.event.Event.{Event}
 use Rattle.sheep_node.specs.Changes.{attempt_in}
 use Rattle.sheep_node.specs.SessionQueues.{session_among}
 use Rattle.sheep_node.specs.State.{Node, new_session}
 use Rattle.sheep_world.specs.Began.{Began}
 use Rattle.sheep_world.specs.NodeCauses.{input_of_cause, host_with_node}
 use Rattle.sheep_world.specs.World.{Host}
+use Rattle.sheep_world.specs.RunsWithAsks.{Move}
 use Rattle.overlap_law.specs.Attempts.{AttemptRecord, object_of}
 use Rattle.overlap_law.specs.Fates.{IsCreated, AttemptsAreOrdered, CreatesComeFirst}
 use Rattle.overlap_law.specs.Grants.{published_in}
@@ -125,7 +126,8 @@ module _ (moment : MomentWithPast) (all : NamesWhatIsMade moment) (n : ℕ) (hos
     host.node.peer.epoch,
     subst (λ (oid : ℕ). IsCreated moment.past.attempts oid host.node.peer.epoch) (sym object)
         (all.named.own n host at up (write_entry inode piece) inode.vid piece.index
-        (record { to_do = inl entering; object = refl; inside = few; covered = entry_covered inode piece id }) id (entry_own inode piece id)),
+        (record { to_do = inl entering; object = refl; inside = few; covered = entry_covered inode piece id }) id
+        (entry_own inode piece id)),
   )
   goes_made (ToInode (vid, id, object)) =
       let same : vid_of (oid_of work) ≡ vid = ap vid_of object ∙ vid-of_inode vid id in (
@@ -235,7 +237,8 @@ module _ (script : List Statement) (range : RunsAreInRange script) (start before
           behind)
           (λ (now : IsOpenedNow script start before after j attempt).
           let (epoch, created) = opened_made j attempt now writes in
-          let within : created.place < length before.past.attempts = slice_get_within before.past.attempts created.place created.create created.there in
+          let within : created.place < length before.past.attempts = slice_get_within before.past.attempts created.place created.create
+          created.there in
           let last = now.last in
           create_after j attempt there epoch created (omega (arith, within, last)))
           (come_now script range start began change j attempt there);
@@ -243,8 +246,9 @@ module _ (script : List Statement) (range : RunsAreInRange script) (start before
 
 -- ---- on the way of an event
 
-module _ (script : List Statement) (range : RunsAreInRange script) (events : List Event) (start before after : MomentWithPast)
-    (is : run_with_past script events ≡ Some start) (trail : MomentTrail script start before) (change : MomentChange script start before after) where
+module _ (script : List Statement) (range : RunsAreInRange script) (events : List Move) (start before after : MomentWithPast)
+    (is : run_with_past script events ≡ Some start) (trail : MomentTrail script start before)
+    (change : MomentChange script start before after) where
   pub first-on_the_way : (good_id : ℕ → Bool)
       → TablesAreOfTheChain (log_effects before.world.log) before.world.hosts before.past.attempts
       → WorksNameWhatIsMade (log_effects before.world.log) good_id before.world.hosts before.past.attempts
@@ -255,5 +259,6 @@ module _ (script : List Statement) (range : RunsAreInRange script) (events : Lis
         chains = chains;
         good_id = good_id;
         named = named;
-        published = published_made before.world.log every_id before.past.attempts (published-on_the_way script range events start before is trail);
+        published = published_made before.world.log every_id before.past.attempts
+            (published-on_the_way script range events start before is trail);
       }) first (ordered-in_run script range events start after is (Then trail change))

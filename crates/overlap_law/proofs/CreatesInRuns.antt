@@ -25,14 +25,15 @@ use Rattle.sheep_node.proofs.StepResults.{step_reads}
 use Rattle.sheep_node.proofs.ValidLaws.{reservable_after, valid_input}
 use Rattle.sheep_world.specs.World.{Host, World, is_host_up}
 use Rattle.sheep_world.specs.Opening.{initial_world}
-use Rattle.sheep_world.specs.Step.{EventOutcome, step}
+use Rattle.sheep_world.specs.Step.{EventOutcome}
 use Rattle.sheep_world.specs.NodeCauses.{NodeCause, input_of_cause, IsCause, world_after_cause}
 use Rattle.sheep_world.specs.HostChanges.{host_after_step}
-use Rattle.sheep_world.specs.Began.{Began, IsInvariant}
+use Rattle.sheep_world.specs.Began.{Began, IsInvariant, MakesMove}
 use Rattle.sheep_world.specs.LogHolds.{MayGrow}
 use Rattle.sheep_world.specs.HoldsTogether.{RepliesFit}
 use Rattle.sheep_world.proofs.BegunWorlds.{by_induction}
 use Rattle.sheep_world.proofs.LogFrontLaws.{all_read}
+use Rattle.sheep_world.proofs.LogAtOpening.{nodes-valid}
 use Rattle.overlap_law.specs.RowsInRange.{RowsCanBeTold, CreatesAsRowsAre, CreatesAreInRange, ObjectsAreFew}
 use Rattle.overlap_law.proofs.CausedWorks.{IsNotServed, not_served}
 use Rattle.overlap_law.proofs.FittingReplies.{replies_fit}
@@ -94,7 +95,8 @@ module _ (script : List Statement) (is_script : IsScript script) (grows : (world
           = reservable_after input host.node.peer.entries (valid_input input host.node may.condition sound.valid_disks.read)
           sound.valid_disks.read in
           step_sends_so effects input host.node may (names_objects script world n host cause caused) sound reservable
-          (caused_known script is_script (effects_after input host.node) world n host cause caused)
+          (caused_known script is_script (effects_after input host.node) world n host cause
+          (nodes-valid script is_script grows world began n host there) caused)
           (nodes_know_by script is_script grows world began n host there) later received
 
     steps_send_creates : StepsSendSo IsCreateBy script world
@@ -103,7 +105,7 @@ module _ (script : List Statement) (is_script : IsScript script) (grows : (world
         step_so (IsCreateBy log) (λ known to request wanted is. asks_nothing (log_effects log) known request.ask wanted is) cause host.node
         (λ not received. by_works n host there up cause caused next not received)
 
-    module _ (event : Event) (made : EventOutcome) (happened : step script event world ≡ Some made)
+    module _ (event : Event) (made : EventOutcome) (happened : MakesMove script event world made)
         (after : IsSoundWorld script made.world) where
       pub creates_after : CreatesAreInRange made.world
       creates_after = record {

@@ -25,8 +25,10 @@ use Rattle.sheep_world.specs.World.{Host, World}
 use Rattle.sheep_world.specs.Messages.{wire_with_reply}
 use Rattle.sheep_world.specs.NodeSteps.{wire_with_request}
 use Rattle.sheep_world.specs.Step.{EventOutcome}
-use Rattle.sheep_world.specs.NodeCauses.{NodeCause, GuestAsks, RequestComes, ReplyComes, LossIsTold, EntryIsRead, EntryIsPut, RecoveryTicks, WorkIsRetried, input_of_cause, wire_at_cause, is_up_among, wire_after_cause}
-use Rattle.sheep_world.specs.EventKinds.{log_after_return, EventKind, NodeStep, UntoldLoss, UnreadDelivery, NodeLoss, NodeLeave, NodeReweight, NodeJoin, NodeReturn, PhaseEnd}
+use Rattle.sheep_world.specs.NodeCauses.{NodeCause, GuestAsks, RequestComes, ReplyComes, LossIsTold, EntryIsRead, EntryIsPut, RecoveryTicks}
+use Rattle.sheep_world.specs.NodeCauses.{WorkIsRetried, ClientAsks, input_of_cause, wire_at_cause, is_up_among, wire_after_cause}
+use Rattle.sheep_world.specs.EventKinds.{log_after_return, EventKind, NodeStep, UntoldLoss, UnreadDelivery, NodeLoss, NodeLeave}
+use Rattle.sheep_world.specs.EventKinds.{NodeReweight, NodeJoin, NodeReturn, PhaseEnd}
 use Rattle.sheep_world.specs.HostChanges.{host_after_step}
 use Rattle.sheep_world.proofs.WireAfterSends.{Wire, IsSent, got_sent}
 use Rattle.sheep_world.proofs.RecoveryMessages.{without_got}
@@ -81,6 +83,7 @@ module _ (P : Packet → Type 0) where
   at_cause_so (EntryIsPut entry) wire so = so
   at_cause_so RecoveryTicks wire so = so
   at_cause_so WorkIsRetried wire so = so
+  at_cause_so (ClientAsks req ask) wire so = so
 
   after_cause_so : (cause : NodeCause) (hosts : tree.FinMap nat_cmp Host) (node : Node) (wire : Wire) → RepliesBy cause node → AllSo wire
       → AllSo (wire_after_cause cause hosts node wire)
@@ -93,6 +96,7 @@ module _ (P : Packet → Type 0) where
   after_cause_so (EntryIsPut entry) hosts node wire said so = so
   after_cause_so RecoveryTicks hosts node wire said so = so
   after_cause_so WorkIsRetried hosts node wire said so = so
+  after_cause_so (ClientAsks req ask) hosts node wire said so = so
 
   -- ---- each kind of event
 
@@ -121,6 +125,7 @@ module _ (P : Packet → Type 0) where
     by_any (EntryIsPut entry) node = tt
     by_any RecoveryTicks node = tt
     by_any WorkIsRetried node = tt
+    by_any (ClientAsks req ask) node = tt
 
     pub any_reply : (script : List Statement) (event : Event) (world : World) (made : EventOutcome)
         (kind : EventKind script event world made)

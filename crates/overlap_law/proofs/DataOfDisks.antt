@@ -16,9 +16,9 @@ use Rattle.vdi_directory.specs.States.{VdiState, Reserved, Working, Snapshot, ra
 use Rattle.vdi_directory.proofs.DecisionLaws.{states-forward}
 use Rattle.vdi_directory.proofs.StateLemmas.{log_effects-none, log_effects-push}
 use Rattle.vdi_directory.proofs.SoundEffects.{state_of-push}
-use Rattle.sheep_node.specs.declared.event.Event.{Event}
 use Rattle.sheep_node.specs.Changes.{attempt_in}
 use Rattle.sheep_world.specs.Began.{Began}
+use Rattle.sheep_world.specs.RunsWithAsks.{Move}
 use Rattle.overlap_law.specs.Attempts.{AttemptRecord, object_of}
 use Rattle.overlap_law.specs.Grants.{publishes}
 use Rattle.overlap_law.specs.MomentChanges.{MomentChange, MomentTrail, RunsAreInRange, KeptByChanges}
@@ -118,6 +118,6 @@ module _ (script : List Statement) (range : RunsAreInRange script) where
     keeps = data_after;
   }
 
-  pub data-on_the_way : (events : List Event) (start moment : MomentWithPast) → run_with_past script events ≡ Some start
+  pub data-on_the_way : (events : List Move) (start moment : MomentWithPast) → run_with_past script events ≡ Some start
       → MomentTrail script start moment → DataIsOfThePublished moment.world.log moment.past.attempts
   data-on_the_way events start moment is trail = on_the_way script IsDataPublished kept_data events start moment is trail

@@ -1,5 +1,6 @@
 -- What each entry did, with its epoch, for one entry more: so the epoch of a grant, and that no such epoch is beyond the log's.
-use Rattle.std.proofs.Common.{◌≡◌, ◌≤◌, ◌<◌, arith, ℕ, zero, suc, ◌+◌, Bool, true, false, cond, List, [], ◌∷◌, ◌++◌, length, map, fold, refl, sym, ap, subst, ◌∙◌, append_assoc}
+use Rattle.std.proofs.Common.{◌≡◌, ◌≤◌, ◌<◌, arith, ℕ, zero, suc, ◌+◌, Bool, true, false, cond, List, [], ◌∷◌, ◌++◌, length, map, fold}
+use Rattle.std.proofs.Common.{refl, sym, ap, subst, ◌∙◌, append_assoc}
 use Rattle.std.specs.List.{filter_map, range_with_len, zip}
 use Rattle.std.proofs.lemmas.List.{length-append, take-append-le, take_all}
 use Rattle.std.proofs.lemmas.List.Elements.{filter_map-append}
@@ -15,7 +16,8 @@ use Rattle.overlap_law.specs.Grants.{epochs_at_entries, dated_effects, later_if,
 
 -- ---- what holds of no entry, and of one more where it holds before
 
-pub by_entries : (P : List Entry → Type 0) → P [] → ((log : List Entry) (entry : Entry) → P log → P (log ++ entry ∷ [])) → (log : List Entry) → P log
+pub by_entries : (P : List Entry → Type 0) → P [] → ((log : List Entry) (entry : Entry) → P log → P (log ++ entry ∷ []))
+    → (log : List Entry) → P log
 by_entries P none more log = from [] log none
   where
     from : (before later : List Entry) → P before → P (before ++ later)
@@ -54,7 +56,8 @@ same_below f g a zero same = refl
 same_below f g a (suc n) same =
     (λ i. same a (omega arith) i ∷ same_below f g (a + 1) n (λ k below. same k (omega (arith, below))) i)
 
-dates-push : (log : List Entry) (entry : Entry) → epochs_at_entries (log ++ entry ∷ []) ≡ epochs_at_entries log ++ epoch_of (log ++ entry ∷ []) ∷ []
+dates-push : (log : List Entry) (entry : Entry)
+    → epochs_at_entries (log ++ entry ∷ []) ≡ epochs_at_entries log ++ epoch_of (log ++ entry ∷ []) ∷ []
 dates-push log entry =
     let all = log ++ entry ∷ [] in
     let longer : length all ≡ length log + 1 = length-append log (entry ∷ []) in
@@ -78,7 +81,8 @@ dated-push log entry =
 -- ---- the last epoch of a kind of effect, and the leaves of a node
 
 pub last_epoch-push : (passes : Effect → Bool) (log : List Entry) (entry : Entry)
-    → last_epoch passes (log ++ entry ∷ []) ≡ cond (passes (outcome (log_effects log) entry).effect) (epoch_of (log ++ entry ∷ [])) (last_epoch passes log)
+    → last_epoch passes (log ++ entry ∷ []) ≡ cond (passes (outcome (log_effects log) entry).effect) (epoch_of (log ++ entry ∷ []))
+    (last_epoch passes log)
 last_epoch-push passes log entry =
     ap (fold (later_if passes) 0) (dated-push log entry)
     ∙ fold-append (later_if passes) 0 (dated_effects log) ((epoch_of (log ++ entry ∷ []), (outcome (log_effects log) entry).effect) ∷ [])
@@ -94,7 +98,8 @@ none_yet passes = omega arith
 pub last_epoch-most : (passes : Effect → Bool) (log : List Entry) → last_epoch passes log ≤ epoch_of log
 last_epoch-most passes = by_entries (λ (log : List Entry). last_epoch passes log ≤ epoch_of log) (none_yet passes) more
   where
-    more : (log : List Entry) (entry : Entry) → last_epoch passes log ≤ epoch_of log → last_epoch passes (log ++ entry ∷ []) ≤ epoch_of (log ++ entry ∷ [])
+    more : (log : List Entry) (entry : Entry) → last_epoch passes log ≤ epoch_of log
+        → last_epoch passes (log ++ entry ∷ []) ≤ epoch_of (log ++ entry ∷ [])
     more log entry most = by_test (passes (outcome (log_effects log) entry).effect) (last_epoch-push passes log entry)
       where
         by_test : (b : Bool) → last_epoch passes (log ++ entry ∷ []) ≡ cond b (epoch_of (log ++ entry ∷ [])) (last_epoch passes log)
@@ -103,7 +108,8 @@ last_epoch-most passes = by_entries (λ (log : List Entry). last_epoch passes lo
         by_test false is = let rises = epoch_rises log entry in omega (arith, is, most, rises)
 
 -- it rises with the log
-pub last_epoch-rises : (passes : Effect → Bool) (log : List Entry) (entry : Entry) → last_epoch passes log ≤ last_epoch passes (log ++ entry ∷ [])
+pub last_epoch-rises : (passes : Effect → Bool) (log : List Entry) (entry : Entry)
+    → last_epoch passes log ≤ last_epoch passes (log ++ entry ∷ [])
 last_epoch-rises passes log entry = by_test (passes (outcome (log_effects log) entry).effect) (last_epoch-push passes log entry)
   where
     by_test : (b : Bool) → last_epoch passes (log ++ entry ∷ []) ≡ cond b (epoch_of (log ++ entry ∷ [])) (last_epoch passes log)

@@ -39,7 +39,7 @@ use Rattle.sheep_node.specs.CheckWrites.{check_write_on, write_of_value}
 use Rattle.sheep_node.specs.SessionQueues.{command_in, session_among}
 use Rattle.sheep_world.specs.World.{Host, World, is_host_up, node_at}
 use Rattle.sheep_world.specs.Asking.{session_asking}
-use Rattle.sheep_world.specs.Began.{Began}
+use Rattle.sheep_world.specs.Began.{Began, MakesMove}
 use Rattle.sheep_world.specs.Effects.{open_disk_at, request_started}
 use Rattle.sheep_world.specs.EventKinds.{EventKind, NodeStep, UntoldLoss, UnreadDelivery, NodeLoss, NodeLeave, NodeReweight, NodeJoin}
 use Rattle.sheep_world.specs.EventKinds.{NodeReturn, PhaseEnd}
@@ -47,9 +47,9 @@ use Rattle.sheep_world.specs.Granted.{granted_header, disk_cloned, disk_made, gr
 use Rattle.sheep_world.specs.HistoryAdditions.{begins_on, check_write_by, check_write_grown, is_lost_write, replies_grown, reply_grown}
 use Rattle.sheep_world.specs.HistoryAdditions.{request_grown}
 use Rattle.sheep_world.specs.NodeCauses.{NodeCause, GuestAsks, RequestComes, ReplyComes, LossIsTold, EntryIsRead, EntryIsPut, RecoveryTicks}
-use Rattle.sheep_world.specs.NodeCauses.{WorkIsRetried, IsCause, world_after_cause, history_of_cause}
-use Rattle.sheep_world.specs.Step.{EventOutcome, step}
-use Rattle.sheep_world.proofs.EventInversion.{happens}
+use Rattle.sheep_world.specs.NodeCauses.{WorkIsRetried, ClientAsks, IsCause, world_after_cause, history_of_cause}
+use Rattle.sheep_world.specs.Step.{EventOutcome}
+use Rattle.sheep_world.proofs.ClientReads.{goes_by_kind}
 use Rattle.overlap_law.specs.DiskEvents.{begins_by_others, is_asked_in, is_anothers}
 use Rattle.overlap_law.specs.MomentChanges.{RunsAreInRange}
 use Rattle.overlap_law.specs.Writers.{session_holder}
@@ -61,7 +61,7 @@ use Rattle.overlap_law.proofs.CoursesOfScript.{asked_by, BeganOn, requests_place
 use Rattle.overlap_law.proofs.HoldersInWorlds.{begins_alone, open_here, snapshot_unheld, working_held}
 use Rattle.overlap_law.proofs.ItemsAtBegin.{served_comes_to_none}
 use Rattle.overlap_law.proofs.UnheldIds.{PublishesId, published_unheld}
-use Rattle.overlap_law.proofs.SessionsOfRequests.{are_asked}
+use Rattle.overlap_law.proofs.SessionsOfRequests.{are_scripts}
 use Rattle.overlap_law.proofs.WholeInRuns.{sound_here}
 
 -- ---- lists of events that are made one by one
@@ -283,6 +283,7 @@ module _ (script : List Statement) (range : RunsAreInRange script) (world : Worl
     step_none (EntryIsPut entry) caused = entry_none script vid owns world.log holder held entry
     step_none RecoveryTicks caused = told_none world None RecoveryTicks
     step_none WorkIsRetried caused = told_none world None WorkIsRetried
+    step_none (ClientAsks req ask) caused = told_none world None (ClientAsks req ask)
 
   pub kind_none : (event : Event) (made : EventOutcome) → EventKind script event world made → HasNone anothers made.grown
   kind_none event made (NodeStep h) =
@@ -299,8 +300,8 @@ module _ (script : List Statement) (range : RunsAreInRange script) (world : Worl
   kind_none event made (PhaseEnd h) = subst (λ (m : EventOutcome). HasNone anothers m.grown) h.made_so refl
 
   -- of an event that is made
-  pub others_none : (event : Event) (made : EventOutcome) → step script event world ≡ Some made → HasNone anothers made.grown
-  others_none event made is = kind_none event made (happens script event world made is)
+  pub others_none : (event : Event) (made : EventOutcome) → MakesMove script event world made → HasNone anothers made.grown
+  others_none event made is = kind_none event made (goes_by_kind script event world made is)
 
 -- the requests are the holder's
 module _ (script : List Statement) (range : RunsAreInRange script) (world : World) (began : Began script world) (vid : ℕ) (holder : Holder)
@@ -310,7 +311,7 @@ module _ (script : List Statement) (range : RunsAreInRange script) (world : Worl
   asked_so req number asking same =
       ap (λ (o : Option ℕ). option_map_or (λ (k : ℕ). k == holder.session) o false) asking ∙ eq-eqb number holder.session same
 
-  pub event_none : (event : Event) (made : EventOutcome) → step script event world ≡ Some made
+  pub event_none : (event : Event) (made : EventOutcome) → MakesMove script event world made
       → list_any (is_anothers script vid holder.session) made.grown ≡ false
   event_none =
       others_none script range world began vid holder held (is_asked_in script holder.session)
@@ -318,5 +319,5 @@ module _ (script : List Statement) (range : RunsAreInRange script) (world : Worl
       asked_so req session.number (ap (option_and_then session_of) caused.stands ∙ caused.own) same)
       (λ n host there write comes same.
       asked_so write.req comes.session
-      (are_asked script world began n host there write.req (record { session = comes.session; course = Checking comes.check })
-      comes.there).asking same)
+      (are_scripts script range.is_script world began n host there write.req
+      (record { session = comes.session; course = Checking comes.check }) comes.there refl).asking same)

@@ -1,5 +1,6 @@
 -- Which disks are there by a history, and deleted; and which events leave that as it is.
-use Rattle.std.proofs.Common.{◌≡◌, ℕ, ◌==◌, Bool, true, false, not, cond, List, [], ◌∷◌, ◌++◌, fold, length, map, filter, Option, Some, None, option_map, refl, sym, ap, ◌∙◌}
+use Rattle.std.proofs.Common.{◌≡◌, ℕ, ◌==◌, Bool, true, false, not, cond, List, [], ◌∷◌, ◌++◌, fold, length, map, filter, Option, Some}
+use Rattle.std.proofs.Common.{None, option_map, refl, sym, ap, ◌∙◌}
 use Rattle.std.specs.Prelude.{◌/◌, ◌+◌, flat_map}
 use Rattle.std.specs.List.{list_all, range_with_len}
 use Rattle.std.specs.Option.{option_map_or}
@@ -13,16 +14,21 @@ use Rattle.cluster_script.specs.declared.statement.Statement.TheVariants as line
 use Rattle.cluster_script.specs.NumberedRequests.{request_at, payload_of}
 use Rattle.cluster_script.specs.Statements.{is_check}
 use Rattle.disk_history.specs.declared.event.HistEvent.{HistEvent}
-use Rattle.disk_history.specs.declared.event.HistEvent.TheVariants.{Create, Copy, Delete, WriteStart, WriteDone, WriteRefused, WriterLost, Read}
-use Rattle.disk_history.specs.Ledger.{Open, Acknowledged, Lost, Item, Disk, Ledger, empty_ledger, zeros_item, is_item_of, item_with_mark, changed_at, with_item, has_block, ledger_after}
+use Rattle.disk_history.specs.declared.event.HistEvent.TheVariants.{Create, Copy, Delete, WriteStart, WriteDone, WriteRefused, WriterLost}
+use Rattle.disk_history.specs.declared.event.HistEvent.TheVariants.{Read}
+use Rattle.disk_history.specs.Ledger.{Open, Acknowledged, Lost, Item, Disk, Ledger, empty_ledger, zeros_item, is_item_of, item_with_mark}
+use Rattle.disk_history.specs.Ledger.{changed_at, with_item, has_block, ledger_after}
 use Rattle.guest_driver.specs.declared.disk.Disk as opened
 use Rattle.peer_proto.specs.declared.guest.GuestRsp.{GuestRsp}
 use Rattle.peer_proto.specs.declared.guest.GuestRsp.TheVariants as answers
 use Rattle.sheep_node.specs.declared.check_write.CheckWrite.{CheckWrite}
 use Rattle.sheep_world.specs.World.{Host, World}
 use Rattle.sheep_world.specs.Effects.{open_disk_at}
-use Rattle.sheep_world.specs.HistoryAdditions.{block_in, each_block, begins_on, blocks_read, write_ended, reply_adds, added_by, has_begun_check_write, disk_of, block_checked, check_write_adds, check_write_grown, is_on_disk, is_lost_write, writers_lost}
-use Rattle.sheep_world.specs.NodeCauses.{NodeCause, GuestAsks, RequestComes, ReplyComes, LossIsTold, EntryIsRead, EntryIsPut, RecoveryTicks, WorkIsRetried}
+use Rattle.sheep_world.specs.HistoryAdditions.{block_in, each_block, begins_on, blocks_read, write_ended, reply_adds, added_by}
+use Rattle.sheep_world.specs.HistoryAdditions.{has_begun_check_write, disk_of, block_checked, check_write_adds, check_write_grown}
+use Rattle.sheep_world.specs.HistoryAdditions.{is_on_disk, is_lost_write, writers_lost}
+use Rattle.sheep_world.specs.NodeCauses.{NodeCause, GuestAsks, RequestComes, ReplyComes, LossIsTold, EntryIsRead, EntryIsPut, RecoveryTicks}
+use Rattle.sheep_world.specs.NodeCauses.{WorkIsRetried, ClientAsks}
 use Rattle.cluster_script.specs.NumberedRequests.{numbered_requests}
 use Rattle.overlap_law.specs.Headline.{ledger_of}
 use Rattle.overlap_law.specs.HistoryGrowth.{check_write_at, world_at_cause, added_at_cause, added_by_reply}
@@ -206,6 +212,7 @@ cause_plain script world (EntryIsRead entry) = refl
 cause_plain script world (EntryIsPut entry) = refl
 cause_plain script world RecoveryTicks = refl
 cause_plain script world WorkIsRetried = refl
+cause_plain script world (ClientAsks req ask) = refl
 
 read_plain : (disk offset : ℕ) (rsp : GuestRsp) → ArePlain (blocks_read disk offset rsp)
 read_plain disk offset answers.Done = refl

@@ -1,10 +1,12 @@
 -- In every run in range the disk that a request is on by its number is the one for which its node's work is.
-use Rattle.std.proofs.Common.{◌≡◌, inl, arith, ℕ, ◌<◌, ◌≤◌, ◌++◌, Bool, true, false, cond, List, [], ◌∷◌, All, length, Option, Some, None, option_map, refl, sym, ap, subst, ◌∙◌}
+use Rattle.std.proofs.Common.{◌≡◌, inl, arith, ℕ, ◌<◌, ◌≤◌, ◌++◌, Bool, true, false, cond, List, [], ◌∷◌, All, length, Option, Some, None}
+use Rattle.std.proofs.Common.{option_map, refl, sym, ap, subst, ◌∙◌}
 use Rattle.std.specs.FinMap as tree
 use Rattle.std.proofs.lemmas.List.Elements.{All-head}
 use Rattle.std.proofs.lemmas.Option.{same_Some}
 use Rattle.object_id.specs.declared.limits.TheConstants.{OBJECTS_MAX}
 use Rattle.object_id.specs.Oid.{vid_of}
+use Rattle.cluster_script.specs.NumberedRequests.{is_disk_request}
 use Rattle.cluster_script.specs.declared.statement.Statement.{Statement}
 use Rattle.peer_proto.specs.Work.{oid_of}
 use Rattle.gateway.specs.State.{Work}
@@ -20,6 +22,7 @@ use Rattle.sheep_node.specs.SessionQueues.{session_among}
 use Rattle.sheep_node.specs.State.{Node, session_at}
 use Rattle.sheep_world.specs.Asking.{session_asking}
 use Rattle.sheep_world.specs.Began.{Began}
+use Rattle.sheep_world.specs.BegunRequests.{IsOfScript}
 use Rattle.sheep_world.specs.Conditions.{is_disk_request_at}
 use Rattle.sheep_world.specs.HistoryAdditions.{disk_of}
 use Rattle.sheep_world.specs.World.{Host, World}
@@ -28,10 +31,12 @@ use Rattle.overlap_law.specs.MomentChanges.{RunsAreInRange}
 use Rattle.overlap_law.specs.NoObjects.{disk_for, disk_meant}
 use Rattle.overlap_law.specs.RequestsOfScript.{IsCourseOfAsk, indexes_left}
 use Rattle.overlap_law.proofs.CausedWorks.{HasWellWorks}
-use Rattle.overlap_law.proofs.CoursesOfAsks.{IsPlacedAt, IsPlacedIn}
-use Rattle.overlap_law.proofs.CoursesOfScript.{asked_by, BeganOn, requests_placed}
+use Rattle.overlap_law.proofs.CoursesOfAsks.{IsPlacedAs}
+use Rattle.overlap_law.proofs.CoursesOfScript.{asked_by, BeganOn}
 use Rattle.overlap_law.proofs.CreatesFirst.{inside}
 use Rattle.overlap_law.proofs.KnownDisks.{Few, IsKnownInode, IsKnownCourse, vid-of_object}
+use Rattle.overlap_law.proofs.PlacedOfScript.{placed_of_script}
+use Rattle.overlap_law.proofs.SessionsOfRequests.{of_asking, of_test}
 use Rattle.overlap_law.proofs.StartedOnce.{UnansweredAreOnce, disk_of_began}
 use Rattle.overlap_law.proofs.UnansweredRequests.{requests_tied}
 use Rattle.overlap_law.proofs.WaitedInRuns.{works_waited}
@@ -53,10 +58,24 @@ module _ (script : List Statement) (range : RunsAreInRange script) (world : Worl
   well : HasWellWorks node
   well = well_in_world script range world began n host at
 
-  placed : IsPlacedAt (asked_by script) (BeganOn script world.guests) req opened request.course
-  placed =
-      subst (IsPlacedIn (asked_by script) (BeganOn script world.guests) req node.sessions) there
-      (requests_placed script range world began n host at req)
+  -- it is of the script, of which alone a disk is meant
+  of_script : IsOfScript script req
+  of_script = by_test (is_disk_request_at script req) refl meant
+    where
+      by_session : (o : Option ℕ) → session_asking script req ≡ o → option_map (λ (session : ℕ). vid_of (oid_of work.work)) o ≡ Some vid
+          → IsOfScript script req
+      by_session None asks is = absurd (cc (is))
+      by_session (Some session) asks is = of_asking script req session asks
+
+      by_test : (b : Bool) → is_disk_request_at script req ≡ b
+          → cond b (disk_of script req world) (option_map (λ (session : ℕ). vid_of (oid_of work.work)) (session_asking script req))
+          ≡ Some vid
+          → IsOfScript script req
+      by_test true test is = of_test script is_disk_request req test
+      by_test false test is = by_session (session_asking script req) refl is
+
+  placed : IsPlacedAs (asked_by script) (BeganOn script world.guests) req opened request.course
+  placed = placed_of_script script range world began n host at req request there of_script
 
   waits : WaitsFor [] no_id [] opened request.course work.work
   waits =
@@ -64,7 +83,7 @@ module _ (script : List Statement) (range : RunsAreInRange script) (world : Worl
       ((works_waited script range world began n host at).1 req work.work (inl (work, got, refl)))).0
 
   kind : is_disk_course request.course ≡ is_disk_request_at script req
-  kind = (requests_tied script range world began n host at req request there).kind
+  kind = (requests_tied script range world began n host at req request there of_script).kind
 
   -- ---- what a request is on by its number
 

@@ -26,13 +26,15 @@ use Rattle.sheep_node.specs.SessionQueues.{command_in, session_among}
 use Rattle.sheep_world.specs.World.{Host, World}
 use Rattle.sheep_world.specs.Asking.{ask_of_statement}
 use Rattle.sheep_world.specs.Began.{Began}
+use Rattle.sheep_world.specs.BegunRequests.{IsOfScript}
 use Rattle.sheep_world.specs.HistoryAdditions.{is_write}
 use Rattle.overlap_law.specs.MomentChanges.{RunsAreInRange}
 use Rattle.overlap_law.specs.RequestsOfScript.{IsCourseOfAsk, IsOnDisk, IsStageOfAsk}
 use Rattle.overlap_law.specs.WriterClaims.{IsGivenNoMore}
-use Rattle.overlap_law.proofs.CoursesOfAsks.{IsPlacedIn}
-use Rattle.overlap_law.proofs.CoursesOfScript.{asked_by, BeganOn, requests_placed}
+use Rattle.overlap_law.proofs.CoursesOfScript.{asked_by, BeganOn}
 use Rattle.overlap_law.proofs.ItemsOfReplies.{is_write_at, is_check_at}
+use Rattle.overlap_law.proofs.PlacedOfScript.{placed_of_script}
+use Rattle.overlap_law.proofs.SessionsOfRequests.{of_test}
 use Rattle.overlap_law.proofs.WholeInRuns.{sound_world}
 
 -- no later entry gives the id again
@@ -43,10 +45,20 @@ no_more_then log later vid is = let on = states-forward log later vid in omega (
 abbrev pub IsWriterAt : List Statement → ℕ → Type 0
 IsWriterAt script req = (is_write_at script req ≡ true) ⊎ (is_check_at script req ≡ true)
 
+-- it is of the script
+pub of_writer : (script : List Statement) (req : ℕ) → IsWriterAt script req → IsOfScript script req
+of_writer script req (inl writes) = of_test script is_write req writes
+of_writer script req (inr checks) = of_test script is_check req checks
+
 -- it asks to write, or for a check
 abbrev pub AsksToWrite : Option Ask → Type 0
 AsksToWrite asked = ((offset : ℕ) × (payload : List ℕ) × (asked ≡ Some (asks.Disk (disk_asks.Write offset payload))))
     ⊎ (asked ≡ Some (asks.Vdi disk_commands.Check))
+
+-- either way it asks for something
+pub some_asked : (asked : Option Ask) → AsksToWrite asked → (ask : Ask) × (asked ≡ Some ask)
+some_asked asked (inl (offset, payload, is)) = (asks.Disk (disk_asks.Write offset payload), is)
+some_asked asked (inr is) = (asks.Vdi disk_commands.Check, is)
 
 write_asks : (o : Option Statement) → option_map_or is_write o false ≡ true → AsksToWrite (option_and_then ask_of_statement o)
 write_asks None is = absurd (cc (is))
@@ -106,8 +118,7 @@ module _ (script : List Statement) (range : RunsAreInRange script) (world : Worl
 
   pub on_open_disk : IsOnOpenDisk
   on_open_disk =
-      let (start, at, course) = subst (IsPlacedIn (asked_by script) (BeganOn script world.guests) req host.node.sessions) got
-      (requests_placed script range world began n host there req) in
+      let (start, at, course) = placed_of_script script range world began n host there req request got (of_writer script req writer) in
       let is = plain_course (asked_by script req) (asks_to_write writer) (session_among request.session host.node.sessions).disk start
       request.course course in
       record {

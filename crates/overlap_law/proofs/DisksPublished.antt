@@ -1,5 +1,6 @@
 -- The disks that the history has, deleted or not, were published: what makes one in the history publishes its id.
-use Rattle.std.proofs.Common.{◌≡◌, ◌⊎◌, inl, inr, ⊎_elim, ℕ, ◌==◌, ◌&&◌, ◌||◌, Bool, true, false, cond, List, [], ◌∷◌, ◌++◌, fold, Option, Some, None, option_map, refl, sym, ap, ◌∙◌}
+use Rattle.std.proofs.Common.{◌≡◌, ◌⊎◌, inl, inr, ⊎_elim, ℕ, ◌==◌, ◌&&◌, ◌||◌, Bool, true, false, cond, List, [], ◌∷◌, ◌++◌, fold, Option}
+use Rattle.std.proofs.Common.{Some, None, option_map, refl, sym, ap, ◌∙◌}
 use Rattle.std.specs.Option.{option_map_or}
 use Rattle.std.proofs.lemmas.Bool.{eqb-true, eq-eqb, or_left, or_right}
 use Rattle.std.proofs.lemmas.List.Sums.{fold-append}
@@ -26,11 +27,13 @@ use Rattle.vdi_directory.specs.Effects.{reservations_of, reservation_on, holder_
 use Rattle.vdi_directory.specs.Sources.{is_for, tag_for}
 use Rattle.overlap_law.specs.Grants.{publishes}
 use Rattle.overlap_law.specs.Headline.{ledger_of}
-use Rattle.overlap_law.specs.HistoryGrowth.{added_at_cause, added_by_reply, HistoryGrows, NothingIsAdded, WritesBegin, RequestIsReplied, EntryAdds, WritersAreLost}
+use Rattle.overlap_law.specs.HistoryGrowth.{added_at_cause, added_by_reply, HistoryGrows, NothingIsAdded, WritesBegin, RequestIsReplied}
+use Rattle.overlap_law.specs.HistoryGrowth.{EntryAdds, WritersAreLost}
 use Rattle.overlap_law.specs.MomentChanges.{RunsAreInRange, KeptByChanges}
 use Rattle.overlap_law.specs.Past.{MomentWithPast}
 use Rattle.overlap_law.specs.StayingBlocks.{DisksArePublished}
-use Rattle.overlap_law.proofs.DiskShapes.{Shapes, shape, shapes_after, shapes, shapes_so, among_shapes, behind_shapes, cause_plain, reply_plain, lost_plain}
+use Rattle.overlap_law.proofs.DiskShapes.{Shapes, shape, shapes_after, shapes, shapes_so, among_shapes, behind_shapes, cause_plain}
+use Rattle.overlap_law.proofs.DiskShapes.{reply_plain, lost_plain}
 use Rattle.overlap_law.proofs.DisksByTheLog.{log_before}
 use Rattle.overlap_law.proofs.HistoryInMoments.{history_grows}
 use Rattle.overlap_law.proofs.PublishedInodes.{was_published, published-push}

@@ -1,5 +1,6 @@
 -- The targets of an epoch are different nodes, so a target's index is that of its one place among them.
-use Rattle.std.proofs.Common.{◌≡◌, ◌≢◌, arith, ℕ, zero, suc, ◌+◌, ◌<◌, ◌≤◌, ◌==◌, nat_lt, Bool, not, cond, List, [], ◌∷◌, length, get_or, AllPairs, Some, None, slice_get, sym, ap, ◌∙◌}
+use Rattle.std.proofs.Common.{◌≡◌, ◌≢◌, arith, ℕ, zero, suc, ◌+◌, ◌<◌, ◌≤◌, ◌==◌, nat_lt, Bool, not, cond, List, [], ◌∷◌, length, get_or}
+use Rattle.std.proofs.Common.{AllPairs, Some, None, slice_get, sym, ap, ◌∙◌}
 use Rattle.std.specs.List.{position, position_or_len}
 use Rattle.std.specs.Option.{option_map}
 use Rattle.std.proofs.lemmas.Bool.{eq-eqb, ne_eqb, lt-ltb}

@@ -10,10 +10,10 @@ use Rattle.gateway.specs.Attempt as gateways
 use Rattle.gateway.specs.State.{Work}
 use Rattle.gateway.specs.Work.{is_making}
 use Rattle.gateway.specs.declared.message.Status.{Status}
-use Rattle.sheep_node.specs.declared.event.Event.{Event}
 use Rattle.sheep_node.specs.Changes.{LearnsStatus}
 use Rattle.sheep_node.specs.StepState.{StepState}
 use Rattle.sheep_world.specs.NodeCauses.{input_of_cause, host_with_node}
+use Rattle.sheep_world.specs.RunsWithAsks.{Move}
 use Rattle.overlap_law.specs.Attempts.{AttemptRecord, object_of}
 use Rattle.overlap_law.specs.MomentChanges.{MomentTrail, RunsAreInRange}
 use Rattle.overlap_law.specs.Past.{MomentWithPast, run_with_past}
@@ -29,7 +29,7 @@ use Rattle.overlap_law.proofs.RunsByChanges.{on_the_way}
 use Rattle.overlap_law.proofs.TiedInRuns.{kept_tied}
 use Rattle.overlap_law.proofs.WorkedInRuns.{holds_then}
 
-module _ (script : List Statement) (range : RunsAreInRange script) (events : List Event) (start : MomentWithPast)
+module _ (script : List Statement) (range : RunsAreInRange script) (events : List Move) (start : MomentWithPast)
     (ran : run_with_past script events ≡ Some start) (on : SteppingNode) (is : IsStepping script start.world on)
     (by : StepsByChanges on.cause) (so_far : StepState) (leads : LeadsInStep on (first_in_step on) so_far)
     (trail : MomentTrail script start (moment_in_step script on start so_far)) (req number : ℕ) (work : Work)

@@ -22,7 +22,7 @@ use Rattle.sheep_node.specs.StepState.{StepState}
 use Rattle.sheep_world.specs.Began.{Began}
 use Rattle.sheep_world.specs.EventKinds.{outcome_of_step}
 use Rattle.sheep_world.specs.NodeCauses.{NodeCause, GuestAsks, RequestComes, ReplyComes, LossIsTold, EntryIsRead, EntryIsPut, RecoveryTicks}
-use Rattle.sheep_world.specs.NodeCauses.{WorkIsRetried, input_of_cause, event_of_cause, host_with_node, world_after_cause}
+use Rattle.sheep_world.specs.NodeCauses.{WorkIsRetried, ClientAsks, input_of_cause, event_of_cause, host_with_node, world_after_cause}
 use Rattle.sheep_world.proofs.BegunWorlds.{goes_on}
 use Rattle.overlap_law.specs.Attempts.{AttemptRecord, MessageFate, Served, known_fate, attempts_begun_by}
 use Rattle.overlap_law.specs.MomentChanges.{RunsAreInRange}
@@ -117,6 +117,7 @@ module _ (script : List Statement) (range : RunsAreInRange script) (start : Mome
   told_served (EntryIsPut entry) same number status told success had = absurd told
   told_served RecoveryTicks same number status told success had = absurd told
   told_served WorkIsRetried same number status told success had = absurd told
+  told_served (ClientAsks req ask) same number status told success had = absurd told
 
   module _ (req number : ℕ) (work : Work) (current : gateways.Attempt) (status : Status)
       (learns : LearnsStatus (input_of_cause stepping.cause) stepping.host.node so_far req number work current status)

@@ -1,5 +1,6 @@
 -- A write that is done in a change is one to which a node's step replies there, and that it doesn't refuse.
-use Rattle.std.proofs.Common.{◌≡◌, ⊎_elim, ℕ, ◌+◌, ◌==◌, Bool, true, false, List, [], ◌∷◌, ◌++◌, filter, length, Contains, Option, Some, None, refl, sym, subst, ◌∙◌}
+use Rattle.std.proofs.Common.{◌≡◌, ⊎_elim, ℕ, ◌+◌, ◌==◌, Bool, true, false, List, [], ◌∷◌, ◌++◌, filter, length, Contains, Option, Some}
+use Rattle.std.proofs.Common.{None, refl, sym, subst, ◌∙◌}
 use Rattle.std.specs.Prelude.{◌/◌}
 use Rattle.std.specs.List.{list_any, range_with_len}
 use Rattle.std.proofs.lemmas.Bool.{both_ways, eq-eqb}
@@ -10,7 +11,8 @@ use Rattle.cluster_script.specs.declared.statement.Statement.{Statement}
 use Rattle.cluster_script.specs.declared.statement.Statement.TheVariants as lines
 use Rattle.cluster_script.specs.NumberedRequests.{numbered_requests, request_at}
 use Rattle.disk_history.specs.declared.event.HistEvent.{HistEvent}
-use Rattle.disk_history.specs.declared.event.HistEvent.TheVariants.{Create, Copy, Delete, WriteStart, WriteDone, WriteRefused, WriterLost, Read}
+use Rattle.disk_history.specs.declared.event.HistEvent.TheVariants.{Create, Copy, Delete, WriteStart, WriteDone, WriteRefused, WriterLost}
+use Rattle.disk_history.specs.declared.event.HistEvent.TheVariants.{Read}
 use Rattle.peer_proto.specs.declared.guest.GuestRsp.{GuestRsp}
 use Rattle.peer_proto.specs.declared.guest.GuestRsp.TheVariants as answers
 use Rattle.vdi_directory.specs.Decisions.{log_effects}
@@ -18,8 +20,10 @@ use Rattle.sheep_world.specs.World.{World}
 use Rattle.sheep_world.specs.Began.{Began}
 use Rattle.sheep_world.specs.Effects.{open_disk_at}
 use Rattle.sheep_world.specs.Granted.{entry_adds}
-use Rattle.sheep_world.specs.HistoryAdditions.{added_by, block_in, blocks_read, disk_of, has_begun_check_write, is_lost_write, reply_adds, write_ended, writers_lost}
-use Rattle.sheep_world.specs.NodeCauses.{NodeCause, GuestAsks, RequestComes, ReplyComes, LossIsTold, EntryIsRead, EntryIsPut, RecoveryTicks, WorkIsRetried}
+use Rattle.sheep_world.specs.HistoryAdditions.{added_by, block_in, blocks_read, disk_of, has_begun_check_write, is_lost_write, reply_adds}
+use Rattle.sheep_world.specs.HistoryAdditions.{write_ended, writers_lost}
+use Rattle.sheep_world.specs.NodeCauses.{NodeCause, GuestAsks, RequestComes, ReplyComes, LossIsTold, EntryIsRead, EntryIsPut, RecoveryTicks}
+use Rattle.sheep_world.specs.NodeCauses.{WorkIsRetried, ClientAsks}
 use Rattle.overlap_law.specs.DiskEvents.{ends_write_of}
 use Rattle.overlap_law.specs.Headline.{ledger_of}
 use Rattle.overlap_law.specs.HistoryGrowth.{check_write_at, world_at_cause, added_at_cause, added_by_reply}
@@ -65,6 +69,7 @@ module _ (req : ℕ) where
   cause_none script world (EntryIsPut entry) = refl
   cause_none script world RecoveryTicks = refl
   cause_none script world WorkIsRetried = refl
+  cause_none script world (ClientAsks req ask) = refl
 
   -- a reply by which it is done is to it, and no refusal
   abbrev IsDoneBy : ℕ → GuestRsp → Type 0

@@ -16,11 +16,11 @@ use Rattle.guest_driver.specs.Driver.{write_piece_on, work_step}
 use Rattle.guest_driver.specs.Pieces.{Piece, pieces}
 use Rattle.guest_driver.specs.PieceWorks.{Backing, Hole, Own, Inherited, backing_of, create_copy, write_entry, table_with_entry}
 use Rattle.sheep_node.specs.declared.course.Course.TheVariants.{Driving}
-use Rattle.sheep_node.specs.declared.event.Event.{Event}
 use Rattle.sheep_node.specs.Changes.{EndsWork}
 use Rattle.sheep_node.specs.SessionQueues.{session_among}
 use Rattle.sheep_node.specs.StepState.{StepState}
 use Rattle.sheep_world.specs.NodeCauses.{input_of_cause, host_with_node}
+use Rattle.sheep_world.specs.RunsWithAsks.{Move}
 use Rattle.overlap_law.specs.MomentChanges.{MomentTrail, RunsAreInRange}
 use Rattle.overlap_law.specs.Past.{MomentWithPast, run_with_past}
 use Rattle.overlap_law.specs.StepMoments.{SteppingNode, IsStepping, StepsByChanges, IsWithinStep, moment_in_step}
@@ -45,7 +45,8 @@ module _ (reply : GuestRsp) where
   works_on inode payload piece rest Own is = cc (is)
   works_on inode payload piece rest (Inherited vid) is = cc (is)
 
-  pub none_left : (inode : Content) (payload : List ℕ) (rest : List Piece) → (write_on inode payload rest).act ≡ acts.Reply reply → rest ≡ []
+  pub none_left : (inode : Content) (payload : List ℕ) (rest : List Piece) → (write_on inode payload rest).act ≡ acts.Reply reply
+      → rest ≡ []
   none_left inode payload [] is = refl
   none_left inode payload (piece ∷ rest) is = absurd (works_on inode payload piece rest (backing_of inode piece) is)
 
@@ -70,7 +71,7 @@ module _ (reply : GuestRsp) where
 
 -- ---- in the middle of a step
 
-module _ (script : List Statement) (range : RunsAreInRange script) (events : List Event) (start : MomentWithPast)
+module _ (script : List Statement) (range : RunsAreInRange script) (events : List Move) (start : MomentWithPast)
     (ran : run_with_past script events ≡ Some start) (on : SteppingNode) (is : IsStepping script start.world on)
     (by : StepsByChanges on.cause) (so_far next : StepState) (within : IsWithinStep on so_far next)
     (trail : MomentTrail script start (moment_in_step script on start so_far)) (session req number : ℕ) (work : Work)

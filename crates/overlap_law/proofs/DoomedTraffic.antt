@@ -1,6 +1,7 @@
 -- Each kind of traffic leaves a doomed attempt doomed: a message that was lost or refused stays so, and one that flies to a node which is
 -- beyond its epoch isn't served there.
-use Rattle.std.proofs.Common.{◌≡◌, ◌≢◌, ⊎_elim, arith, ℕ, zero, suc, ◌+◌, ◌-◌, ◌||◌, nat_le, Bool, true, false, cond, List, [], ◌∷◌, length, Option, Some, option_map, refl, sym, ap, subst, ◌∙◌, slice_get}
+use Rattle.std.proofs.Common.{◌≡◌, ◌≢◌, ⊎_elim, arith, ℕ, zero, suc, ◌+◌, ◌-◌, ◌||◌, nat_le, Bool, true, false, cond, List, [], ◌∷◌, length}
+use Rattle.std.proofs.Common.{Option, Some, option_map, refl, sym, ap, subst, ◌∙◌, slice_get}
 use Rattle.std.specs.Option.{option_map_or}
 use Rattle.std.proofs.lemmas.Bool.{or_cases, or_left, or_right, lt-leb}
 use Rattle.std.proofs.lemmas.Option.{same_Some, slice_get_within}
@@ -14,13 +15,15 @@ use Rattle.message_wire.specs.declared.name.MessageName.{MessageName}
 use Rattle.message_wire.specs.declared.packet.Packet.{Packet}
 use Rattle.message_wire.specs.declared.packet.Packet.TheVariants.{Request, Reply}
 use Rattle.sheep_world.specs.World.{Host}
-use Rattle.overlap_law.specs.Attempts.{AttemptRecord, MessageFate, Flying, Served, Doomed, has_message, known_fate, fates_with, attempts_with_fate, fate_of_say}
+use Rattle.overlap_law.specs.Attempts.{AttemptRecord, MessageFate, Flying, Served, Doomed, has_message, known_fate, fates_with}
+use Rattle.overlap_law.specs.Attempts.{attempts_with_fate, fate_of_say}
 use Rattle.overlap_law.specs.Words.{is_in_vain, is_one_in_vain, is_doomed}
 use Rattle.overlap_law.specs.Reached.{Hosts, has_come_in, is_beyond}
 use Rattle.overlap_law.specs.Packets.{Wire, message_name_at}
 use Rattle.overlap_law.specs.Fates.{FatesAreOfTheWire}
 use Rattle.overlap_law.specs.StepMoments.{attempts_with_loss}
-use Rattle.overlap_law.specs.Traffic.{Traffic, NothingMoves, MessageIsLost, ReplyIsReceived, RequestIsAnswered, RequestsAreSent, AttemptBegins, RepliesGo}
+use Rattle.overlap_law.specs.Traffic.{Traffic, NothingMoves, MessageIsLost, ReplyIsReceived, RequestIsAnswered, RequestsAreSent}
+use Rattle.overlap_law.specs.Traffic.{AttemptBegins, RepliesGo}
 use Rattle.overlap_law.proofs.AttemptLists.{got_still, got_marked, fates_told, told_own, told-length, has_own, own_place, other_place}
 use Rattle.overlap_law.proofs.FateLemmas.{in_vain-grows}
 use Rattle.overlap_law.proofs.ServedPlaces.{AreSoOnSuccess, IsServedNow, answered}
@@ -75,7 +78,8 @@ told_vain hosts hosts_after epoch target told Doomed now later vain = refl
 
 -- a target that was beyond its attempt's epoch is so later
 abbrev pub BeyondLater : Hosts → Hosts → List AttemptRecord → Type 0
-BeyondLater hosts hosts_after attempts = (j : ℕ) (attempt : AttemptRecord) → slice_get attempts j ≡ Some attempt → (place : ℕ) (target : NodeId)
+BeyondLater hosts hosts_after attempts =
+    (j : ℕ) (attempt : AttemptRecord) → slice_get attempts j ≡ Some attempt → (place : ℕ) (target : NodeId)
     → slice_get attempt.targets place ≡ Some target → is_beyond hosts attempt.epoch target ≡ true
     → is_beyond hosts_after attempt.epoch target ≡ true
 
@@ -133,7 +137,8 @@ module _ (hosts hosts_after : Hosts) (wire : Wire) (attempts : List AttemptRecor
           → slice_get (fates_told told name.sender name.number was) place ≡ Some now → is_in_vain hosts was.epoch target fate ≡ true
           → is_in_vain hosts_after was.epoch target now ≡ true
       own_vain place target fate now among own got again vain =
-          let fates_so : slice_get (fates_told told name.sender name.number was) place ≡ option_map (known_fate told) (slice_get was.fates place)
+          let fates_so : slice_get (fates_told told name.sender name.number was) place
+          ≡ option_map (known_fate told) (slice_get was.fates place)
           = ap (λ (b : Bool). slice_get (cond b (fates_with (name.number - was.first) told was.fates) was.fates) place)
           (has_own was name place (slice_get_within was.targets place target among) own)
           ∙ ap (λ (p : ℕ). slice_get (fates_with p told was.fates) place) (own_place was name place own)

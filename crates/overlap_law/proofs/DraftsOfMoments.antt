@@ -27,7 +27,6 @@ use Rattle.vdi_directory.specs.Sound.{IsLiveSnapshot}
 use Rattle.vdi_directory.specs.States.{state_of, is_live_state}
 use Rattle.vdi_directory.specs.States as states
 use Rattle.vdi_directory.proofs.DecisionLaws.{used-stays}
-use Rattle.sheep_node.specs.declared.event.Event.{Event}
 use Rattle.sheep_node.specs.declared.course.Request.{Request}
 use Rattle.sheep_node.specs.declared.session.Session.{Session}
 use Rattle.sheep_node.specs.Changes.{attempt_in}
@@ -36,6 +35,7 @@ use Rattle.sheep_node.specs.WantedWorks.{HasWork}
 use Rattle.sheep_world.specs.Began.{Began}
 use Rattle.sheep_world.specs.World.{Host}
 use Rattle.sheep_world.proofs.LogFrontLaws.{all_read}
+use Rattle.sheep_world.specs.RunsWithAsks.{Move}
 use Rattle.overlap_law.specs.Attempts.{AttemptRecord, object_of}
 use Rattle.overlap_law.specs.Drafts.{IsReservedEntry}
 use Rattle.overlap_law.specs.Each.{spec_in}
@@ -76,7 +76,7 @@ use Rattle.overlap_law.proofs.ToComeStays.{to_come_before}
 use Rattle.overlap_law.proofs.WorksInMoments.{well_after}
 use Rattle.overlap_law.proofs.WritersOfWorks.{asked_for, writes_working-after}
 
-module _ (script : List Statement) (range : RunsAreInRange script) (events : List Event) (start before after : MomentWithPast)
+module _ (script : List Statement) (range : RunsAreInRange script) (events : List Move) (start before after : MomentWithPast)
     (is : run_with_past script events ≡ Some start) (trail : MomentTrail script start before)
     (change : MomentChange script start before after) (good_id : ℕ → Bool) where
   began : Began script start.world

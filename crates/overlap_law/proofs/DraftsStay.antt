@@ -6,11 +6,11 @@ use Rattle.proof_tools.proofs.FiniteMaps.{get-insert_same, get-insert_other, get
 use Rattle.cluster_script.specs.declared.statement.Statement.{Statement}
 use Rattle.peer_proto.specs.declared.work.ObjWork.{ObjWork}
 use Rattle.vdi_directory.specs.Decisions.{log_effects}
-use Rattle.sheep_node.specs.declared.event.Event.{Event}
 use Rattle.sheep_node.specs.StepState.{StepState}
 use Rattle.sheep_node.specs.WantedWorks.{HasWork}
 use Rattle.sheep_world.specs.NodeCauses.{input_of_cause, host_with_node}
 use Rattle.sheep_world.specs.World.{Host}
+use Rattle.sheep_world.specs.RunsWithAsks.{Move}
 use Rattle.overlap_law.specs.MomentChanges.{MomentChange, MomentTrail, RunsAreInRange}
 use Rattle.overlap_law.specs.MomentChanges as moments
 use Rattle.overlap_law.specs.Past.{MomentWithPast, run_with_past}
@@ -25,7 +25,7 @@ use Rattle.overlap_law.proofs.DraftsOfMoments.{used_now, creates_stays, kept_wor
 
 -- ---- a node goes on in its step
 
-module _ (script : List Statement) (range : RunsAreInRange script) (events : List Event) (start : MomentWithPast)
+module _ (script : List Statement) (range : RunsAreInRange script) (events : List Move) (start : MomentWithPast)
     (is : run_with_past script events ≡ Some start) (good_id : ℕ → Bool) (on : SteppingNode) (so_far next : StepState)
     (steps : IsStepping script start.world on) (by : StepsByChanges on.cause) (within : IsWithinStep on so_far next)
     (trail : MomentTrail script start (moment_in_step script on start so_far))
@@ -78,7 +78,7 @@ module _ (script : List Statement) (range : RunsAreInRange script) (events : Lis
 
 -- ---- every change
 
-pub drafts_stay : (script : List Statement) → RunsAreInRange script → (events : List Event) (start before after : MomentWithPast)
+pub drafts_stay : (script : List Statement) → RunsAreInRange script → (events : List Move) (start before after : MomentWithPast)
     → run_with_past script events ≡ Some start → MomentTrail script start before → MomentChange script start before after
     → (good_id : ℕ → Bool) → NewInodesAreDrawn script good_id start before → ParentsAreGood (log_effects after.world.log) good_id
     → SnapshotsStayFrozen (log_effects before.world.log) good_id before.world.hosts before.past.attempts

@@ -11,7 +11,6 @@ use Rattle.vdi_directory.specs.declared.effect.Source.TheVariants as sources
 use Rattle.vdi_directory.specs.declared.header.Header.{Header}
 use Rattle.vdi_directory.specs.Decisions.{log_effects}
 use Rattle.vdi_directory.specs.References.{parent_of}
-use Rattle.sheep_node.specs.declared.event.Event.{Event}
 use Rattle.overlap_law.specs.Attempts.{AttemptRecord}
 use Rattle.overlap_law.specs.Drafts.{IsDrawnFrom, IsReservedEntry, ReservedInodesAreDrawn}
 use Rattle.overlap_law.specs.Each.{EachAttempt, spec_in}
@@ -35,8 +34,9 @@ use Rattle.overlap_law.proofs.PublishedInRuns.{published-on_the_way}
 use Rattle.overlap_law.proofs.RunsByChanges.{on_the_way}
 use Rattle.overlap_law.proofs.TiedInRuns.{kept_tied}
 use Rattle.overlap_law.proofs.WholeInRuns.{whole-on_the_way}
+use Rattle.sheep_world.specs.RunsWithAsks.{Move}
 
-module _ (script : List Statement) (range : RunsAreInRange script) (events : List Event) (moment : MomentWithPast)
+module _ (script : List Statement) (range : RunsAreInRange script) (events : List Move) (moment : MomentWithPast)
     (is : run_with_past script events ≡ Some moment) (good_id : ℕ → Bool) where
   whole : EachAttempt moment.past.attempts (λ j attempt. length attempt.fates ≡ length attempt.targets)
   whole = (on_the_way script IsTied (kept_tied script range) events moment moment is moments.Still).fates.whole

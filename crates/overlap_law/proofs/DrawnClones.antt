@@ -1,5 +1,6 @@
 -- An id that is reserved for a clone has a parent by its header, which is there or was deleted, whatever the log.
-use Rattle.std.proofs.Common.{◌≡◌, ℕ, ◌==◌, Bool, true, false, cond, List, [], ◌∷◌, ◌++◌, Option, Some, None, is_some, option_map, refl, ap, ◌∙◌}
+use Rattle.std.proofs.Common.{◌≡◌, ℕ, ◌==◌, Bool, true, false, cond, List, [], ◌∷◌, ◌++◌, Option, Some, None, is_some, option_map, refl, ap}
+use Rattle.std.proofs.Common.{◌∙◌}
 use Rattle.std.specs.Option.{option_and_then}
 use Rattle.object_id.specs.declared.entry.Entry.{Entry}
 use Rattle.object_id.specs.declared.oid.Vid.{Vid}
@@ -14,7 +15,8 @@ use Rattle.vdi_directory.specs.Effects.{grants, is_used, header_of, header_after
 use Rattle.vdi_directory.specs.Sound.{In, IsParent}
 use Rattle.vdi_directory.proofs.SoundEffects.{state_of-push}
 use Rattle.vdi_directory.proofs.StateLemmas.{log_effects-push, header_of-push}
-use Rattle.vdi_directory.specs.States.{VdiState, Unused, Reserved, Working, Snapshot, Deleted, Freed, state_of, is_live_state, freed_state, state_after, state_after_leave}
+use Rattle.vdi_directory.specs.States.{VdiState, Unused, Reserved, Working, Snapshot, Deleted, Freed, state_of, is_live_state, freed_state}
+use Rattle.vdi_directory.specs.States.{state_after, state_after_leave}
 use Rattle.overlap_law.proofs.GrantedEpochs.{not_again}
 use Rattle.overlap_law.proofs.MadeEffects as made_effects
 use Rattle.overlap_law.proofs.ReservedSources.{used_by, reservations_are}

@@ -35,7 +35,6 @@ use Rattle.vdi_ops.specs.Op.{Task, Opening, WritingBack, Tagging, Copying, Makin
 use Rattle.sheep_node.specs.declared.course.Course.{Course}
 use Rattle.sheep_node.specs.declared.course.Course.TheVariants.{Waiting, Driving, Commanding, Checking, DoingWork, AwaitingDecision}
 use Rattle.sheep_node.specs.declared.course.Request.{Request}
-use Rattle.sheep_node.specs.declared.event.Event.{Event}
 use Rattle.sheep_node.specs.declared.session.Session.{Session}
 use Rattle.sheep_node.specs.SoundWorks.{IsSoundInode, IsSoundCourse, IsSoundStage}
 use Rattle.sheep_node.specs.State.{new_session}
@@ -43,6 +42,7 @@ use Rattle.sheep_node.specs.WantedWorks.{HasWork}
 use Rattle.sheep_world.specs.Began.{Began}
 use Rattle.sheep_world.specs.World.{Host}
 use Rattle.sheep_world.proofs.LogFrontLaws.{all_read}
+use Rattle.sheep_world.specs.RunsWithAsks.{Move}
 use Rattle.overlap_law.specs.CommandDisks.{opened_in}
 use Rattle.overlap_law.specs.Courses.{IsCreatedNow, IsOfTask, IsOfStage, WaitsFor, IsWaitedFor, WorksAreWaitedFor}
 use Rattle.overlap_law.specs.Drafts.{IsDrawnFrom, IsReservedEntry}
@@ -95,7 +95,7 @@ in_place old base tag (given, is) = by_test (base.0 == old) refl is
     by_test true same is = eqb-true base.0 old same
     by_test false other is = absurd (cc (is))
 
-module _ (script : List Statement) (range : RunsAreInRange script) (events : List Event) (moment : MomentWithPast)
+module _ (script : List Statement) (range : RunsAreInRange script) (events : List Move) (moment : MomentWithPast)
     (is : run_with_past script events ≡ Some moment) where
   began : Began script moment.world
   began = began-with_past script events moment is

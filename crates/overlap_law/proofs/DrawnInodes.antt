@@ -22,7 +22,6 @@ use Rattle.vdi_ops.specs.InodeWorks.{create_inode}
 use Rattle.vdi_ops.specs.Op.{Working, Op, Tagging, OpStage, entry_wanted_at}
 use Rattle.vdi_ops.specs.Tables.{holes, inode_by}
 use Rattle.sheep_node.specs.declared.course.Course.TheVariants.{Commanding}
-use Rattle.sheep_node.specs.declared.event.Event.{Event}
 use Rattle.sheep_node.specs.declared.input.Input.{Input}
 use Rattle.sheep_node.specs.Changes.{ToWork, RequestSteps}
 use Rattle.sheep_node.specs.Changes.{EndsWork}
@@ -55,6 +54,7 @@ use Rattle.sheep_node.specs.AwaitedEntry.{waits_for_entry}
 use Rattle.sheep_node.specs.declared.input.Input.TheVariants as inputs
 use Rattle.sheep_node.specs.LogReading.{entry_read as log_entry_read}
 use Rattle.sheep_world.specs.World.{Host}
+use Rattle.sheep_world.specs.RunsWithAsks.{Move}
 use Rattle.overlap_law.specs.CommandDisks.{opened_in, IsOpenAtStage}
 use Rattle.overlap_law.specs.StayingDrafts.{StaysDrawnFrom, CreatesDrawn, NewInodesAreDrawn, NewClonesAreDrawn}
 use Rattle.overlap_law.specs.ToDo.{entry_made}
@@ -74,7 +74,7 @@ use Rattle.overlap_law.proofs.StepsToWorks.{comes_to_other}
 
 -- ---- in the middle of a step
 
-module _ (script : List Statement) (range : RunsAreInRange script) (events : List Event) (start : MomentWithPast)
+module _ (script : List Statement) (range : RunsAreInRange script) (events : List Move) (start : MomentWithPast)
     (ran : run_with_past script events ≡ Some start) (on : SteppingNode) (is : IsStepping script start.world on)
     (by : StepsByChanges on.cause) (so_far : StepState) (leads : LeadsInStep on (first_in_step on) so_far)
     (trail : MomentTrail script start (moment_in_step script on start so_far)) (good_id : ℕ → Bool)
@@ -219,7 +219,7 @@ module _ (script : List Statement) (range : RunsAreInRange script) (events : Lis
 
 -- ---- every moment in the middle of a step
 
-pub inodes_drawn : (script : List Statement) → RunsAreInRange script → (events : List Event) (start before : MomentWithPast)
+pub inodes_drawn : (script : List Statement) → RunsAreInRange script → (events : List Move) (start before : MomentWithPast)
     → run_with_past script events ≡ Some start → MomentTrail script start before → (good_id : ℕ → Bool)
     → NewClonesAreDrawn script good_id start before → NewInodesAreDrawn script good_id start before
 inodes_drawn script range events start before ran trail good_id copies =

@@ -9,13 +9,13 @@ use Rattle.peer_proto.specs.declared.work.ObjWork.{ObjWork}
 use Rattle.guest_driver.specs.declared.act.DriverAct.{DriverAct}
 use Rattle.guest_driver.specs.Driver.{Driver, Reads, Writes, Answered, InPlace, Fetching}
 use Rattle.guest_driver.specs.Driver.{Creating, Entering}
-use Rattle.sheep_node.specs.declared.event.Event.{Event}
 use Rattle.sheep_node.specs.declared.input.Input.{Input}
 use Rattle.sheep_node.specs.Changes.{ToWork, RequestSteps}
 use Rattle.sheep_node.specs.State.{Node}
 use Rattle.sheep_node.specs.StepState.{StepState}
 use Rattle.sheep_node.specs.WantedWorks.{IsWorkOfDriver}
 use Rattle.sheep_world.specs.NodeCauses.{input_of_cause}
+use Rattle.sheep_world.specs.RunsWithAsks.{Move}
 use Rattle.overlap_law.specs.MomentChanges.{MomentTrail, RunsAreInRange}
 use Rattle.overlap_law.specs.Past.{MomentWithPast, run_with_past}
 use Rattle.overlap_law.specs.StepMoments.{SteppingNode, IsStepping, StepsByChanges, LeadsInStep, first_in_step, moment_in_step}
@@ -51,7 +51,7 @@ driver_none inode (Writes payload Entering piece rest) work id few is creates vi
     let none = ap is_create_work is in absurd (cc (none, creates))
 driver_none inode Answered work id few is creates vid index has = absurd is
 
-module _ (script : List Statement) (range : RunsAreInRange script) (events : List Event) (start : MomentWithPast)
+module _ (script : List Statement) (range : RunsAreInRange script) (events : List Move) (start : MomentWithPast)
     (ran : run_with_past script events ≡ Some start) (on : SteppingNode) (is : IsStepping script start.world on)
     (by : StepsByChanges on.cause) (so_far : StepState) (leads : LeadsInStep on (first_in_step on) so_far)
     (trail : MomentTrail script start (moment_in_step script on start so_far)) (good_id : ℕ → Bool)

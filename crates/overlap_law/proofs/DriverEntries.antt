@@ -39,13 +39,13 @@ use Rattle.guest_driver.specs.PieceWorks.{Backing, Hole, Own, Inherited, backing
 use Rattle.guest_driver.specs.PieceWorks.{write_entry, table_with_entry}
 use Rattle.guest_driver.specs.Refusals.{refusal_on}
 use Rattle.sheep_node.specs.declared.course.Course.TheVariants.{Driving}
-use Rattle.sheep_node.specs.declared.event.Event.{Event}
 use Rattle.sheep_node.specs.Changes.{EndsWork}
 use Rattle.sheep_node.specs.StepState.{StepState}
 use Rattle.sheep_node.specs.WantedWorks.{IsWorkOfDriver}
 use Rattle.sheep_world.specs.World.{Host}
 use Rattle.sheep_world.specs.Began.{Began}
 use Rattle.sheep_world.specs.NodeCauses.{input_of_cause, host_with_node}
+use Rattle.sheep_world.specs.RunsWithAsks.{Move}
 use Rattle.overlap_law.specs.Attempts.{AttemptRecord}
 use Rattle.overlap_law.specs.Fates.{IsCreated}
 use Rattle.overlap_law.specs.Holders.{is_create_work}
@@ -231,7 +231,7 @@ module _ (effects : List Effect) (good_id : ℕ → Bool) (attempts : List Attem
 
 -- ---- in the middle of a step
 
-module _ (script : List Statement) (range : RunsAreInRange script) (events : List Event) (start : MomentWithPast)
+module _ (script : List Statement) (range : RunsAreInRange script) (events : List Move) (start : MomentWithPast)
     (ran : run_with_past script events ≡ Some start) (on : SteppingNode) (steps : IsStepping script start.world on)
     (by : StepsByChanges on.cause) (so_far : StepState) (leads : LeadsInStep on (first_in_step on) so_far)
     (trail : MomentTrail script start (moment_in_step script on start so_far)) where

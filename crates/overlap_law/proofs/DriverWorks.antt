@@ -7,7 +7,6 @@ use Rattle.peer_proto.specs.declared.work.ObjWork.{ObjWork}
 use Rattle.guest_driver.specs.declared.disk.Disk.{Disk}
 use Rattle.guest_driver.specs.Driver.{Driver, DriverStep}
 use Rattle.sheep_node.specs.declared.course.Course.TheVariants.{Driving}
-use Rattle.sheep_node.specs.declared.event.Event.{Event}
 use Rattle.sheep_node.specs.declared.input.Input.{Input}
 use Rattle.sheep_node.specs.Changes.{EndsWork, ToWork, RequestSteps}
 use Rattle.sheep_node.specs.Courses.{inode_open}
@@ -17,6 +16,7 @@ use Rattle.sheep_node.specs.StepState.{StepState}
 use Rattle.sheep_node.specs.WantedWorks.{IsWorkOfDriver, IsWorkWanted}
 use Rattle.sheep_node.proofs.WantedSteps.{driver_goes_on-wanted}
 use Rattle.sheep_world.specs.NodeCauses.{input_of_cause}
+use Rattle.sheep_world.specs.RunsWithAsks.{Move}
 use Rattle.overlap_law.specs.Fates.{IsCreated}
 use Rattle.overlap_law.specs.MomentChanges.{MomentTrail, RunsAreInRange}
 use Rattle.overlap_law.specs.NamedWorks.{NamesWhatIsMade, AskedWorksNameWhatIsMade, OtherWorksNameWhatIsMade}
@@ -30,7 +30,7 @@ use Rattle.overlap_law.proofs.CausedWorks.{no_object}
 use Rattle.overlap_law.proofs.StepsToWorks.{IsDriven, DriverBegins, DriverGoesOn, ComesToWork, OfDriver, OfOther, comes_to_work}
 pub use Rattle.overlap_law.proofs.StepsToWorks.{act_of}
 
-module _ (script : List Statement) (range : RunsAreInRange script) (events : List Event) (start : MomentWithPast)
+module _ (script : List Statement) (range : RunsAreInRange script) (events : List Move) (start : MomentWithPast)
     (ran : run_with_past script events ≡ Some start) (on : SteppingNode) (is : IsStepping script start.world on)
     (by : StepsByChanges on.cause) (so_far : StepState) (leads : LeadsInStep on (first_in_step on) so_far)
     (trail : MomentTrail script start (moment_in_step script on start so_far)) (good_id : ℕ → Bool)
@@ -90,7 +90,7 @@ module _ (script : List Statement) (range : RunsAreInRange script) (events : Lis
 
 -- ---- every moment in the middle of a step
 
-pub asked_name : (script : List Statement) → RunsAreInRange script → (events : List Event) (start before : MomentWithPast)
+pub asked_name : (script : List Statement) → RunsAreInRange script → (events : List Move) (start before : MomentWithPast)
     → run_with_past script events ≡ Some start → MomentTrail script start before → (good_id : ℕ → Bool)
     → OtherWorksNameWhatIsMade script good_id start before → AskedWorksNameWhatIsMade script good_id start before
 asked_name script range events start before ran trail good_id others = λ on so_far is by leads same session req work moved steps.

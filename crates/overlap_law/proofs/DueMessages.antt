@@ -1,6 +1,7 @@
--- A request without reply is touched by each message of an attempt that was served, or was lost, or of which the reply was; or nothing came of the
--- message yet, as far as its gateway knows. Each change of a moment keeps that.
-use Rattle.std.proofs.Common.{◌≡◌, ◌⊎◌, inl, inr, ⊎_elim, arith, ℕ, ◌+◌, ◌≤◌, ◌<◌, true, false, List, ◌++◌, Contains, Option, Some, None, is_some, slice_get, refl, sym, ap, subst, ◌∙◌, append-nil}
+-- A request without reply is touched by each message of an attempt that was served, or was lost, or of which the reply was; or nothing came
+-- of the message yet, as far as its gateway knows. Each change of a moment keeps that.
+use Rattle.std.proofs.Common.{◌≡◌, ◌⊎◌, inl, inr, ⊎_elim, arith, ℕ, ◌+◌, ◌≤◌, ◌<◌, true, false, List, ◌++◌, Contains, Option, Some, None}
+use Rattle.std.proofs.Common.{is_some, slice_get, refl, sym, ap, subst, ◌∙◌, append-nil}
 use Rattle.std.specs.FinMap as tree
 use Rattle.std.proofs.lemmas.Option.{same_Some}
 use Rattle.object_id.specs.declared.node.NodeId.{NodeId}
@@ -17,7 +18,8 @@ use Rattle.sheep_node.specs.declared.input.Input.TheVariants as inputs
 use Rattle.sheep_node.specs.Changes.{IsTold}
 use Rattle.sheep_world.specs.World.{Host}
 use Rattle.sheep_world.specs.Began.{Began}
-use Rattle.sheep_world.specs.NodeCauses.{NodeCause, GuestAsks, RequestComes, ReplyComes, LossIsTold, EntryIsRead, EntryIsPut, RecoveryTicks, WorkIsRetried, input_of_cause, event_of_cause, IsCause}
+use Rattle.sheep_world.specs.NodeCauses.{NodeCause, GuestAsks, RequestComes, ReplyComes, LossIsTold, EntryIsRead, EntryIsPut, RecoveryTicks}
+use Rattle.sheep_world.specs.NodeCauses.{WorkIsRetried, ClientAsks, input_of_cause, event_of_cause, IsCause}
 use Rattle.sheep_world.proofs.NodeConditions.{reply_numbered}
 use Rattle.sheep_world.proofs.SenderMatch.{packets_of}
 use Rattle.sheep_world.proofs.StepsByCause.{IsReady}
@@ -49,22 +51,28 @@ module _ (script : List Statement) (start : MomentWithPast) (tied : IsTied start
       (gateway : was.gateway.0 ≡ n) (place : ℕ) (target : NodeId) (among : slice_get was.targets place ≡ Some target) where
     -- a message that was served, or flew, or that was lost by then
     abbrev pub MayHaveTouched : Type 0
-    MayHaveTouched = ((fate : MessageFate) × (slice_get was.fates place ≡ Some fate) × ((fate ≡ Served) ⊎ (fate ≡ Flying))) ⊎ Contains later (message_name_at was place)
+    MayHaveTouched =
+        ((fate : MessageFate) × (slice_get was.fates place ≡ Some fate) × ((fate ≡ Served) ⊎ (fate ≡ Flying)))
+        ⊎ Contains later (message_name_at was place)
 
     -- as far as the step has come, the attempt was there at first, or has later numbers
     abbrev WasThereOrLater : NodeCause → Type 0
     WasThereOrLater cause = (slice_get (attempts_at_cause host.node cause start.past.attempts) j ≡ Some was) ⊎ (host.node.sends ≤ was.first)
 
-    reply_made : (name : MessageName) (from : NodeId) (rsp : PeerRsp) → IsCause script start.world n host (ReplyComes name from rsp) → (status : Status)
-        → IsTold (inputs.Reply rsp) (was.first + place) status → was.first + place < host.node.sends → WasThereOrLater (ReplyComes name from rsp)
+    reply_made : (name : MessageName) (from : NodeId) (rsp : PeerRsp) → IsCause script start.world n host (ReplyComes name from rsp)
+        → (status : Status)
+        → IsTold (inputs.Reply rsp) (was.first + place) status → was.first + place < host.node.sends
+        → WasThereOrLater (ReplyComes name from rsp)
         → later ≡ start.past.lost → MayHaveTouched → may_be_made status ≡ true
     reply_made name from rsp so status told below origin lost_so may = ⊎_elim
         (λ (at : slice_get start.past.attempts j ≡ Some was). ⊎_elim
-        (λ (of_fate : (fate : MessageFate) × (slice_get was.fates place ≡ Some fate) × ((fate ≡ Served) ⊎ (fate ≡ Flying))). by_fate at of_fate.0 of_fate.1 of_fate.2)
-        (λ (was_lost : Contains later (message_name_at was place)).
+        (λ (of_fate : (fate : MessageFate) × (slice_get was.fates place ≡ Some fate) × ((fate ≡ Served) ⊎ (fate ≡ Flying))). by_fate at
+        of_fate.0 of_fate.1 of_fate.2) (λ (was_lost : Contains later (message_name_at was place)).
         let gone : is_name_in_wire start.world.wire (message_name_at was place) ≡ false
-        = lost.gone (message_name_at was place) (subst (λ (all : List MessageName). Contains all (message_name_at was place)) lost_so was_lost) in
-        let there : is_name_in_wire start.world.wire (message_name_at was place) ≡ true = ap (λ (o : Option Packet). is_some o) answering.there in
+        = lost.gone (message_name_at was place) (subst (λ (all : List MessageName). Contains all (message_name_at was place)) lost_so
+        was_lost) in
+        let there : is_name_in_wire start.world.wire (message_name_at was place)
+        ≡ true = ap (λ (o : Option Packet). is_some o) answering.there in
         absurd (cc (gone, there)))
         may)
         (λ (high : host.node.sends ≤ was.first). absurd (omega (arith, high, below)))
@@ -84,7 +92,8 @@ module _ (script : List Statement) (start : MomentWithPast) (tied : IsTied start
         answering : IsAnswering start.world.wire (message_name_at was place) from rsp
         answering = record { bytes = so.bytes; there = ap (tree.get start.world.wire) named ∙ so.there; spelled = so.read }
 
-        by_fate : slice_get start.past.attempts j ≡ Some was → (fate : MessageFate) → slice_get was.fates place ≡ Some fate → (fate ≡ Served) ⊎ (fate ≡ Flying)
+        by_fate : slice_get start.past.attempts j ≡ Some was → (fate : MessageFate) → slice_get was.fates place ≡ Some fate
+            → (fate ≡ Served) ⊎ (fate ≡ Flying)
             → may_be_made status ≡ true
         by_fate at fate has either = ⊎_elim
             (λ (served : fate ≡ Served).
@@ -98,8 +107,10 @@ module _ (script : List Statement) (start : MomentWithPast) (tied : IsTied start
             absurd (cc (asked, answered)))
             either
 
-    pub told_made : (cause : NodeCause) → IsCause script start.world n host cause → (status : Status) → IsTold (input_of_cause cause) (was.first + place) status
-        → was.first + place < host.node.sends → WasThereOrLater cause → later ≡ start.past.lost ++ messages_lost_by (event_of_cause n cause) → MayHaveTouched
+    pub told_made : (cause : NodeCause) → IsCause script start.world n host cause → (status : Status)
+        → IsTold (input_of_cause cause) (was.first + place) status
+        → was.first + place < host.node.sends → WasThereOrLater cause → later ≡ start.past.lost ++ messages_lost_by (event_of_cause n cause)
+        → MayHaveTouched
         → may_be_made status ≡ true
     told_made (GuestAsks session req ask) so status told below origin lost_so may = absurd told
     told_made (RequestComes name to request) so status told below origin lost_so may = absurd told
@@ -110,6 +121,7 @@ module _ (script : List Statement) (start : MomentWithPast) (tied : IsTied start
     told_made (EntryIsPut entry) so status told below origin lost_so may = absurd told
     told_made RecoveryTicks so status told below origin lost_so may = absurd told
     told_made WorkIsRetried so status told below origin lost_so may = absurd told
+    told_made (ClientAsks req ask) so status told below origin lost_so may = absurd told
 
 -- ---- every change
 
@@ -123,11 +135,15 @@ abbrev pub TouchOrAreAwaited : MomentWithPast → Type 0
 TouchOrAreAwaited moment = MessagesTouchOrAreAwaited moment.world.hosts moment.past.lost moment.past.attempts
 
 module _ (script : List Statement) (range : RunsAreInRange script) (start before after : MomentWithPast) (began : Began script start.world)
-    (first : HoldsBefore script start) (change : MomentChange script start before after) (tied : IsTied before) (awaited : AreOfOpenWorks before)
+    (first : HoldsBefore script start) (change : MomentChange script start before after) (tied : IsTied before)
+    (awaited : AreOfOpenWorks before)
     (due : TouchOrAreAwaited before) where
-  module _ (n : ℕ) (host : Host) (there : tree.get after.world.hosts n ≡ Some host) (up : host.is_lost ≡ false) (j : ℕ) (attempt : AttemptRecord)
-      (got : slice_get after.past.attempts j ≡ Some attempt) (gateway : attempt.gateway.0 ≡ n) (asked : tree.contains_key host.node.requests attempt.req ≡ true)
-      (place : ℕ) (target : NodeId) (among : slice_get attempt.targets place ≡ Some target) (may : MayTouch after.past.lost attempt place) where
+  module _ (n : ℕ) (host : Host) (there : tree.get after.world.hosts n ≡ Some host) (up : host.is_lost ≡ false) (j : ℕ)
+      (attempt : AttemptRecord)
+      (got : slice_get after.past.attempts j ≡ Some attempt) (gateway : attempt.gateway.0 ≡ n)
+      (asked : tree.contains_key host.node.requests attempt.req ≡ true)
+      (place : ℕ) (target : NodeId) (among : slice_get attempt.targets place ≡ Some target)
+      (may : MayTouch after.past.lost attempt place) where
     abbrev Outcome : Type 0
     Outcome = (is_touched attempt.req host.node.gateway ≡ true) ⊎ IsAwaitedAt host.node attempt place
 
@@ -184,7 +200,8 @@ module _ (script : List Statement) (range : RunsAreInRange script) (start before
         due_then = due.each n v.old v.there v.up j w.was w.at own_gateway asked_then place target target_then
 
         in_wire : is_name_in_wire before.world.wire (message_name_at w.was place) ≡ true → Then
-        in_wire is = inr (awaited.each n v.old v.there v.up j w.was w.at own_gateway place target (record { among = target_then; there = is }))
+        in_wire is =
+            inr (awaited.each n v.old v.there v.up j w.was w.at own_gateway place target (record { among = target_then; there = is }))
 
         then_by_fate : FateThen → Then
         then_by_fate known =
@@ -192,7 +209,8 @@ module _ (script : List Statement) (range : RunsAreInRange script) (start before
             ⊎_elim
             (λ (served : fate ≡ Served). due_then (inl (has ∙ ap (λ (f : MessageFate). Some f) served)))
             (λ (flies : fate ≡ Flying).
-            let asking = subst (IsFateIn before.world.wire w.was place target) flies (tied.fates.each j w.was w.at place target fate target_then has) in
+            let asking = subst (IsFateIn before.world.wire w.was place target) flies
+            (tied.fates.each j w.was w.at place target fate target_then has) in
             in_wire (ap (λ (o : Option Packet). is_some o) asking.there))
             either
 
@@ -200,33 +218,40 @@ module _ (script : List Statement) (range : RunsAreInRange script) (start before
         then = ⊎_elim then_by_fate
             (λ (lost : Contains after.past.lost (message_name_at w.was place)). ⊎_elim
             (λ (old : Contains before.past.lost (message_name_at w.was place)). due_then (inr old))
-            (λ (new : (is_name_in_wire before.world.wire (message_name_at w.was place) ≡ true) × (is_name_in_wire after.world.wire (message_name_at w.was place) ≡ false)).
+            (λ (new : (is_name_in_wire before.world.wire (message_name_at w.was place) ≡ true)
+            × (is_name_in_wire after.world.wire (message_name_at w.was place) ≡ false)).
             in_wire new.0)
             (lost_from script range start began change (message_name_at w.was place) lost))
             may_then
 
         or_gone : (is_touched w.was.req host.node.gateway ≡ true) ⊎ (tree.contains_key host.node.requests w.was.req ≡ false) → Outcome
         or_gone = ⊎_elim
-            (λ (still : is_touched w.was.req host.node.gateway ≡ true). inl (ap (λ (req : ℕ). is_touched req host.node.gateway) (sym own_request) ∙ still))
+            (λ (still : is_touched w.was.req host.node.gateway ≡ true). inl
+            (ap (λ (req : ℕ). is_touched req host.node.gateway) (sym own_request) ∙ still))
             (λ (gone : tree.contains_key host.node.requests w.was.req ≡ false).
             let none = ap (tree.contains_key host.node.requests) (sym own_request) ∙ gone in absurd (cc (none, asked)))
 
-        has_heard : (a : IsAwaitedAt v.old.node w.was place) → HasHeard script start before after n host w.was.req a.work a.message.number → Outcome
+        has_heard : (a : IsAwaitedAt v.old.node w.was place) → HasHeard script start before after n host w.was.req a.work a.message.number
+            → Outcome
         has_heard a h =
             let known = known_step script range start.world began h.stepping h.is in
             let number : a.message.number ≡ w.was.first + place = a.opened.same.numbers place a.message a.at in
-            let told : IsTold (input_of_cause h.stepping.cause) (w.was.first + place) h.status = subst (λ (k : ℕ). IsTold (input_of_cause h.stepping.cause) k h.status) number h.told in
+            let told : IsTold (input_of_cause h.stepping.cause) (w.was.first + place) h.status = subst
+            (λ (k : ℕ). IsTold (input_of_cause h.stepping.cause) k h.status) number h.told in
             let made : may_be_made h.status ≡ true
-            = told_made script start first.tied first.lost h.stepping.n h.stepping.host known.ready after.past.lost j w.was (own_gateway ∙ sym h.here) place target target_then
-            h.stepping.cause h.is.caused h.status told (known.given (w.was.first + place) h.status told) (h.origin j w.was w.at) h.lost_so may_then in
+            = told_made script start first.tied first.lost h.stepping.n h.stepping.host known.ready after.past.lost j w.was
+            (own_gateway ∙ sym h.here) place target target_then h.stepping.cause h.is.caused h.status told
+            (known.given (w.was.first + place) h.status told) (h.origin j w.was w.at) h.lost_so may_then in
             or_gone (h.touches a.opened.making made)
 
         now_awaited : IsAwaitedAt v.old.node w.was place → Outcome
         now_awaited a = ⊎_elim
             (λ (s : StaysUnanswered host.node.gateway.works w.was.req a.work a.current place).
-            inr (subst (λ (one : AttemptRecord). IsAwaitedAt host.node one place) w.same (awaited_still v.old.node host.node w.was place w.fates v.me a s)))
+            inr (subst (λ (one : AttemptRecord). IsAwaitedAt host.node one place) w.same
+            (awaited_still v.old.node host.node w.was place w.fates v.me a s)))
             (λ (h : HasHeard script start before after n host w.was.req a.work a.message.number). has_heard a h)
-            (v.goes w.was.req a.work a.current place a.message (record { there = a.opened.there; stage = a.opened.stage; at = a.at; status = a.unanswered }))
+            (v.goes w.was.req a.work a.current place a.message
+            (record { there = a.opened.there; stage = a.opened.stage; at = a.at; status = a.unanswered }))
 
         now : Outcome
         now = ⊎_elim
@@ -253,10 +278,13 @@ module _ (script : List Statement) (range : RunsAreInRange script) (start before
 
     outcome : Outcome
     outcome = ⊎_elim was_there
-        (λ (b : HasBegun before.world.hosts after.world.hosts attempt). inr (begun_awaited before after n host there attempt gateway b place target among))
-        (came_from before.world.hosts after.world.hosts before.world.wire before.past.attempts (traffic script range start began change) j attempt got)
+        (λ (b : HasBegun before.world.hosts after.world.hosts attempt). inr
+        (begun_awaited before after n host there attempt gateway b place target among))
+        (came_from before.world.hosts after.world.hosts before.world.wire before.past.attempts (traffic script range start began change) j
+        attempt got)
 
   pub change_due : TouchOrAreAwaited after
   change_due = record {
-    each = λ n host there up j attempt got gateway asked place target among may. outcome n host there up j attempt got gateway asked place target among may;
+    each = λ n host there up j attempt got gateway asked place target among may. outcome n host there up j attempt got gateway asked place
+        target among may;
   }

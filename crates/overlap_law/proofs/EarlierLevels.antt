@@ -1,6 +1,7 @@
--- No step of a node makes a row of an object that covers a level below the node's epoch: a row begins with that epoch or a later one, and none
--- grows backwards. So who had no row of such a level has none later.
-use Rattle.std.proofs.Common.{◌≡◌, ⊎_elim, arith, ℕ, ◌+◌, ◌-◌, ◌<◌, ◌≤◌, nat_le, not, Bool, true, false, cond, List, [], ◌∷◌, ◌++◌, length, map, filter, Some, None, unwrap_or, refl, sym, ap, subst, ◌∙◌}
+-- No step of a node makes a row of an object that covers a level below the node's epoch: a row begins with that epoch or a later one, and
+-- none grows backwards. So who had no row of such a level has none later.
+use Rattle.std.proofs.Common.{◌≡◌, ⊎_elim, arith, ℕ, ◌+◌, ◌-◌, ◌<◌, ◌≤◌, nat_le, not, Bool, true, false, cond, List, [], ◌∷◌, ◌++◌, length}
+use Rattle.std.proofs.Common.{map, filter, Some, None, unwrap_or, refl, sym, ap, subst, ◌∙◌}
 use Rattle.std.specs.List.{list_any}
 use Rattle.std.specs.FinMap as tree
 use Rattle.std.proofs.lemmas.Bool.{and_left, lt-leb, or_cases, or_left, or_right}
@@ -17,13 +18,13 @@ use Rattle.peer_service.specs.Epochs.{stays_open, row_entering}
 use Rattle.peer_service.specs.LogReading.{without_objects, read_entry}
 use Rattle.recovery.specs.Shown.{NodeView, index_in}
 use Rattle.vnode_table.specs.Targets.{targets_in}
-use Rattle.sheep_node.specs.declared.event.Event.{Event}
 use Rattle.sheep_node.specs.declared.input.Input.{Input}
 use Rattle.sheep_node.specs.LogReading.{epochs_with_entry}
 use Rattle.sheep_node.specs.State.{Node}
 use Rattle.sheep_node.specs.Step.{node_step}
 use Rattle.sheep_world.specs.World.{Host}
 use Rattle.sheep_world.specs.Began.{Began}
+use Rattle.sheep_world.specs.RunsWithAsks.{Move}
 use Rattle.overlap_law.specs.Each.{row_covers, has_row_at}
 use Rattle.overlap_law.specs.Past.{MomentWithPast, run_with_past}
 use Rattle.overlap_law.specs.MomentChanges.{MomentChange, MomentTrail, RunsAreInRange}
@@ -57,7 +58,8 @@ closed_was level epoch next last row most covers = by_test (is_open row) refl co
         → row_covers epoch level row ≡ true
     by_test true still covered =
         let ends = end_open row.to still epoch in
-        covers_by level epoch row (covers_from level next (record row { to = Some (record { 0 = last }) }) covered) (omega (arith, most, ends))
+        covers_by level epoch row (covers_from level next (record row { to = Some (record { 0 = last }) }) covered)
+        (omega (arith, most, ends))
     by_test false shut covered = later_was level epoch next row most covered
 
 -- ---- some rows
@@ -102,7 +104,8 @@ created_was level epoch index size offset piece rows below covers =
     (mapped_any (row_covers epoch level) (row_covers epoch level) (closed (epoch - 1))
     (λ row here. closed_was level epoch epoch (epoch - 1) row (omega (arith, below)) here)
     (filter (λ (row : SeenRow). not (is_replaced epoch row)) rows)
-    (pushed_any (row_covers epoch level) (ended epoch rows) new (and_left (nat_le epoch level) (nat_le level epoch) (lt-leb epoch level below)) covers))
+    (pushed_any (row_covers epoch level) (ended epoch rows) new (and_left (nat_le epoch level) (nat_le level epoch)
+    (lt-leb epoch level below)) covers))
   where
     new : SeenRow
     new = record { index = index; from = record { 0 = epoch }; to = None; bytes = laid_over (zeros size) offset piece }
@@ -178,15 +181,18 @@ module _ (script : List Statement) (range : RunsAreInRange script) (start before
           subst (λ (peer : Peer). Covers level peer.epoch (rows_of peer.rows oid)) (sym same ∙ ap (λ (h : Host). h.node.peer) own) covers
       by_change (PeerSteps old old_there step) =
           let own : old ≡ was = same_Some old was (sym old_there ∙ there) in
-          let below_old : level < old.node.peer.epoch = (let same = ap (λ (h : Host). h.node.peer.epoch) own in omega (arith, same, below)) in
+          let below_old : level < old.node.peer.epoch = (let same = ap (λ (h : Host). h.node.peer.epoch) own in omega
+          (arith, same, below)) in
           subst (λ (h : Host). Covers level h.node.peer.epoch (rows_of h.node.peer.rows oid)) own
           (level-was old.node step.input level below_old oid
           (subst (λ (peer : Peer). Covers level peer.epoch (rows_of peer.rows oid)) (sym step.peer_so) covers))
       by_change (PeerIsNew tries none is) = none_there (tree.get before.world.hosts n) was none there
 
-module _ (script : List Statement) (range : RunsAreInRange script) (events : List Event) (start before after : MomentWithPast)
-    (is : run_with_past script events ≡ Some start) (trail : MomentTrail script start before) (change : MomentChange script start before after) where
-  pub no_earlier-on_the_way : (n : ℕ) (was host : Host) → tree.get before.world.hosts n ≡ Some was → tree.get after.world.hosts n ≡ Some host
+module _ (script : List Statement) (range : RunsAreInRange script) (events : List Move) (start before after : MomentWithPast)
+    (is : run_with_past script events ≡ Some start) (trail : MomentTrail script start before)
+    (change : MomentChange script start before after) where
+  pub no_earlier-on_the_way : (n : ℕ) (was host : Host) → tree.get before.world.hosts n ≡ Some was
+      → tree.get after.world.hosts n ≡ Some host
       → (oid level : ℕ) → level < was.node.peer.epoch → has_row_at host.node.peer.epoch host.node.peer.rows oid level ≡ true
       → has_row_at was.node.peer.epoch was.node.peer.rows oid level ≡ true
   no_earlier-on_the_way n was host there at oid level below covers =

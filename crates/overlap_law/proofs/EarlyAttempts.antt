@@ -1,13 +1,13 @@
--- Each attempt of an incarnation that left is of an epoch before that of its `Leave`: a `Leave` begins an epoch behind all that have begun, and
--- an attempt begins at a node that is up, of which the present incarnation hasn't left.
-use Rattle.std.proofs.Common.{◌≡◌, arith, ℕ, ◌+◌, ◌-◌, ◌≤◌, ◌<◌, Bool, true, false, cond, List, [], ◌∷◌, ◌++◌, length, Some, inl, inr, ◌⊎◌, refl, sym, ap, subst, ◌∙◌, ⊎_elim, slice_get}
+-- Each attempt of an incarnation that left is of an epoch before that of its `Leave`: a `Leave` begins an epoch behind all that have begun,
+-- and an attempt begins at a node that is up, of which the present incarnation hasn't left.
+use Rattle.std.proofs.Common.{◌≡◌, arith, ℕ, ◌+◌, ◌-◌, ◌≤◌, ◌<◌, Bool, true, false, cond, List, [], ◌∷◌, ◌++◌, length, Some, inl, inr, ◌⊎◌}
+use Rattle.std.proofs.Common.{refl, sym, ap, subst, ◌∙◌, ⊎_elim, slice_get}
 use Rattle.std.specs.Option.{option_to_list}
 use Rattle.object_id.specs.declared.entry.Entry.{Entry}
 use Rattle.epoch_log.specs.Epochs.{epoch_of, begins_epoch}
 use Rattle.epoch_log.proofs.EpochLemmas.{epoch_of-append}
 use Rattle.cluster_script.specs.declared.statement.Statement.{Statement}
 use Rattle.gateway.specs.State.{Work, Open}
-use Rattle.sheep_node.specs.declared.event.Event.{Event}
 use Rattle.sheep_node.specs.declared.input.Input.{Input}
 use Rattle.sheep_node.specs.State.{Node}
 use Rattle.sheep_node.specs.StepState.{StepState}
@@ -16,6 +16,7 @@ use Rattle.sheep_node.specs.Changes.{Change, attempt_in}
 use Rattle.sheep_world.specs.World.{Host}
 use Rattle.sheep_world.specs.NodeCauses.{host_with_node}
 use Rattle.sheep_world.specs.Began.{Began}
+use Rattle.sheep_world.specs.RunsWithAsks.{Move}
 use Rattle.overlap_law.specs.Attempts.{AttemptRecord, MessageFate, beginning_with}
 use Rattle.overlap_law.specs.Grants.{leave_of}
 use Rattle.overlap_law.specs.Past.{MomentWithPast, run_with_past}
@@ -37,7 +38,8 @@ use Rattle.overlap_law.proofs.RunsByChanges.{run-kept}
 abbrev IsEarly : List Entry → AttemptRecord → Type 0
 IsEarly log attempt = (left : ℕ) → leave_of log attempt.gateway.0 attempt.incarnation ≡ Some left → attempt.epoch < left
 
-early_told : (log : List Entry) (attempt : AttemptRecord) (fates : List MessageFate) → IsEarly log attempt → IsEarly log (record attempt { fates = fates })
+early_told : (log : List Entry) (attempt : AttemptRecord) (fates : List MessageFate) → IsEarly log attempt
+    → IsEarly log (record attempt { fates = fates })
 early_told log attempt fates is = is
 
 -- a leave was there, or it is of an epoch behind all that had begun
@@ -70,7 +72,8 @@ module _ (host : Host) (later : List Entry) (n most : ℕ)
       → AllAttempts (IsEarly later) (option_to_list
       (beginning_with (host_with_node host lined.node) lined.node.sends req asked.work (Open (attempt_in asked lined.node))))
   opened_early req asked lined below me j attempt got =
-      let (request, there, same) = begun-is (host_with_node host lined.node) lined.node.sends req asked.work (attempt_in asked lined.node) j attempt got in
+      let (request, there, same) = begun-is (host_with_node host lined.node) lined.node.sends req asked.work (attempt_in asked lined.node) j
+      attempt got in
       subst (IsEarly later) same (λ left is.
       let behind = fresh left (ap (λ (k : ℕ). leave_of later k host.incarnation) (sym me) ∙ is) in
       omega (arith, below, behind))
@@ -78,7 +81,8 @@ module _ (host : Host) (later : List Entry) (n most : ℕ)
   none_early : AllAttempts (IsEarly later) []
   none_early j attempt got = absurd (cc (got))
 
-  begun_early : {input : Input} {node : Node} (so_far next : StepState) (change : Change input node so_far next) → next.node.peer.epoch ≤ most
+  begun_early : {input : Input} {node : Node} (so_far next : StepState) (change : Change input node so_far next)
+      → next.node.peer.epoch ≤ most
       → next.node.me.0 ≡ n → AllAttempts (IsEarly later) (attempts_of_change host so_far next change)
   begun_early so_far next (changes.Marks req number work attempt status learns over) below me = none_early
   begun_early so_far next (changes.Fails session req number work attempt status course ends done why) below me = none_early
@@ -140,6 +144,6 @@ module _ (script : List Statement) (range : RunsAreInRange script) where
     };
   }
 
-  pub early_in_run : (events : List Event) (moment : MomentWithPast) → run_with_past script events ≡ Some moment
+  pub early_in_run : (events : List Move) (moment : MomentWithPast) → run_with_past script events ≡ Some moment
       → AllAttempts (IsEarly moment.world.log) moment.past.attempts
   early_in_run events moment is = (run-kept script AreEarly kept_early events moment is).early

@@ -1,6 +1,7 @@
--- What is good at the end of an event has, after each change on the way to it, as many targets in the newest epoch as a read needs: a node's
--- step leaves the log, and begins attempts behind the first create of an object. So it is carried on by each change.
-use Rattle.std.proofs.Common.{◌≡◌, ◌⊎◌, inl, inr, ⊎_elim, ℕ, Bool, true, List, [], ◌++◌, Option, Some, None, refl, sym, ap, subst, ◌∙◌, append-nil, append_assoc}
+-- What is good at the end of an event has, after each change on the way to it, as many targets in the newest epoch as a read needs: a
+-- node's step leaves the log, and begins attempts behind the first create of an object. So it is carried on by each change.
+use Rattle.std.proofs.Common.{◌≡◌, ◌⊎◌, inl, inr, ⊎_elim, ℕ, Bool, true, List, [], ◌++◌, Option, Some, None, refl, sym, ap, subst, ◌∙◌}
+use Rattle.std.proofs.Common.{append-nil, append_assoc}
 use Rattle.std.specs.Option.{option_map_or}
 use Rattle.object_id.specs.declared.node.NodeId.{NodeId}
 use Rattle.object_id.specs.declared.entry.Entry.{Entry}
@@ -9,8 +10,8 @@ use Rattle.epoch_log.specs.Epochs.{epoch_of, members_in}
 use Rattle.cluster_script.specs.declared.statement.Statement.{Statement}
 use Rattle.vdi_directory.specs.Decisions.{log_effects}
 use Rattle.peer_proto.specs.Work.{policy_of}
-use Rattle.sheep_node.specs.declared.event.Event.{Event}
 use Rattle.sheep_world.specs.Began.{Began}
+use Rattle.sheep_world.specs.RunsWithAsks.{Move}
 use Rattle.overlap_law.specs.Attempts.{AttemptRecord}
 use Rattle.overlap_law.specs.BornObjects.{IsBorn}
 use Rattle.overlap_law.specs.Fates.{AttemptsAreOrdered, CreatesComeFirst}
@@ -42,7 +43,8 @@ unfolding is_available
 available_fewer counts_in log attempts more oid is = by_first (first_create oid attempts) refl
   where
     by_first : (o : Option AttemptRecord) → first_create oid attempts ≡ o
-        → option_map_or (λ (create : AttemptRecord). is_available_since counts_in log oid (policy_of create.work) create.epoch) o true ≡ true
+        → option_map_or (λ (create : AttemptRecord). is_available_since counts_in log oid (policy_of create.work) create.epoch) o true
+        ≡ true
     by_first None none = refl
     by_first (Some create) found =
         let later = first_more oid attempts more create found in
@@ -68,7 +70,8 @@ goes_further moment next later one two = record {
   log_so = two.log_so ∙ one.log_so;
   more = one.more ++ two.more;
   attempts_so =
-      two.attempts_so ∙ ap (λ (all : List AttemptRecord). all ++ two.more) one.attempts_so ∙ append_assoc moment.past.attempts one.more two.more;
+      two.attempts_so ∙ ap (λ (all : List AttemptRecord). all ++ two.more) one.attempts_so
+      ∙ append_assoc moment.past.attempts one.more two.more;
 }
 
 -- nothing is good before the first event
@@ -78,7 +81,7 @@ kept_available script = record {
   keeps = λ start before after began change held. available_now script change;
 }
 
-module _ (script : List Statement) (range : RunsAreInRange script) (events : List Event) (event : Event) (start end : MomentWithPast) where
+module _ (script : List Statement) (range : RunsAreInRange script) (events : List Move) (event : Move) (start end : MomentWithPast) where
   -- a node's step goes on; any other change begins where the event does
   left_goes : Began script start.world → {moment last : MomentWithPast} → TrailLeft script start moment last
       → GoesOnTo moment last ⊎ GoesOnTo moment start
@@ -145,8 +148,8 @@ module _ (script : List Statement) (range : RunsAreInRange script) (events : Lis
     has_to_the_end = ⊎_elim
         (λ (goes : GoesOnTo after end).
         by_later end goes (event_kept script TermsHold (kept_terms script range) event start end began way.happens terms_at_start)
-        (λ oid good born. event_kept script IsAvailableNow (kept_available script) event start end began way.happens available_at_start oid good))
-        (λ (goes : GoesOnTo after start).
+        (λ oid good born. event_kept script IsAvailableNow (kept_available script) event start end began way.happens available_at_start oid
+        good)) (λ (goes : GoesOnTo after start).
         by_later start goes terms_at_start
         (λ oid good born. available_at_start oid (was_good script event start end way.happens oid good born)))
         (left_goes began way.left)

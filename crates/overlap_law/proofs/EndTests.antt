@@ -1,9 +1,9 @@
--- The tests for live and good objects and good ids that an event ends with serve at its beginning too: what they call so there was so by the
--- tests of the beginning, if the moment speaks of it at all. For what is dead or was once not available stays so, and what isn't born yet is
--- nowhere.
-use Rattle.std.proofs.Common.{◌≡◌, ⊎_elim, ℕ, ◌==◌, Bool, true, false, not, cond, All, IfSome, List, [], ◌∷◌, ◌++◌, Option, Some, None, refl, sym, ap, subst, ◌∙◌, append-nil, append_assoc}
+-- The tests for live and good objects and good ids that an event ends with serve at its beginning too: what they call so there was so by
+-- the tests of the beginning, if the moment speaks of it at all. For what is dead or was once not available stays so, and what isn't born
+-- yet is nowhere.
+use Rattle.std.proofs.Common.{◌≡◌, ⊎_elim, ℕ, ◌==◌, Bool, true, false, not, cond, All, IfSome, List, [], ◌∷◌, ◌++◌, Option, Some, None}
+use Rattle.std.proofs.Common.{refl, sym, ap, subst, ◌∙◌, append-nil, append_assoc}
 use Rattle.std.specs.List.{list_any}
-use Rattle.std.specs.Option.{option_map}
 use Rattle.std.proofs.lemmas.Bool.{eqb-true, and_parts, and_from, or_cases, or_left, or_right}
 use Rattle.std.proofs.lemmas.Option.{same_Some}
 use Rattle.std.proofs.lemmas.List.Elements.{All-head, All-tail}
@@ -12,12 +12,13 @@ use Rattle.object_id.specs.Oid.{vid_of}
 use Rattle.vdi_directory.specs.Chains.{is_above}
 use Rattle.vdi_directory.specs.Decisions.{log_effects}
 use Rattle.cluster_script.specs.declared.statement.Statement.{Statement}
-use Rattle.sheep_node.specs.declared.event.Event.{Event}
-use Rattle.sheep_world.specs.Step.{EventOutcome, step}
+use Rattle.sheep_world.specs.Step.{EventOutcome}
+use Rattle.sheep_world.specs.RunsWithAsks.{Move, event_of_move}
 use Rattle.recovery.specs.Shown.{is_pending_object}
 use Rattle.recovery.specs.State.{Search, still_on}
 use Rattle.overlap_law.specs.BornObjects.{IsBorn, ObjectsWereBorn, AttemptsAreOfTheBorn}
-use Rattle.overlap_law.specs.Holders.{is_object_among, born_objects, is_live_object, is_good, is_of_chain, is_available_disk, is_dead_by_log}
+use Rattle.overlap_law.specs.Holders.{is_object_among, born_objects, is_live_object, is_good, is_of_chain, is_available_disk}
+use Rattle.overlap_law.specs.Holders.{is_dead_by_log}
 use Rattle.overlap_law.specs.MomentChanges.{MomentTrail, Still, Then, RunsAreInRange}
 use Rattle.overlap_law.specs.Overlap.{Overlap, OverlapAt, CallsFewer}
 use Rattle.overlap_law.specs.Past.{MomentWithPast, past_after_event, next_moment, moment_after, run_with_past}
@@ -28,6 +29,7 @@ use Rattle.overlap_law.proofs.FewerObjects.{CallsFewerOf, SpeaksOf, overlap_of_f
 use Rattle.overlap_law.proofs.LogsInMoments.{log_grows}
 use Rattle.overlap_law.proofs.MomentTrails.{event_trail}
 use Rattle.overlap_law.proofs.StayingRows.{alive_before, not_dead}
+use Rattle.overlap_law.proofs.GoingOn.{has_gone}
 
 -- ---- lists
 
@@ -68,8 +70,10 @@ record GoesOn (before after : MomentWithPast) : Type 0 where
   pub lacking : List ℕ
   pub lacking_so : after.past.unavailable ≡ before.past.unavailable ++ lacking
 
-module _ (script : List Statement) (event : Event) (before after : MomentWithPast) (next : next_moment script event before ≡ Some after) where
-  log_on : {moment : MomentWithPast} → MomentTrail script before moment → (rest : List Entry) × (moment.world.log ≡ before.world.log ++ rest)
+module _ (script : List Statement) (event : Move) (before after : MomentWithPast)
+    (next : next_moment script event before ≡ Some after) where
+  log_on : {moment : MomentWithPast} → MomentTrail script before moment
+      → (rest : List Entry) × (moment.world.log ≡ before.world.log ++ rest)
   log_on Still = ([], sym (append-nil before.world.log))
   log_on (Then trail change) =
       let so_far = log_on trail in
@@ -78,18 +82,17 @@ module _ (script : List Statement) (event : Event) (before after : MomentWithPas
         grows.is ∙ ap (λ (log : List Entry). log ++ grows.rest) so_far.1 ∙ append_assoc before.world.log so_far.0 grows.rest,
       )
 
-  lacking_on : (o : Option EventOutcome) → option_map (moment_after script event before) o ≡ Some after
+  lacking_then : (made : EventOutcome) → moment_after script (event_of_move event) before made ≡ after
       → (rest : List ℕ) × (after.past.unavailable ≡ before.past.unavailable ++ rest)
   unfolding past_after_event
-  lacking_on None is = absurd (cc (is))
-  lacking_on (Some made) is =
-      let same : moment_after script event before made ≡ after = same_Some (moment_after script event before made) after is in
+  lacking_then made same =
       subst (λ (moment : MomentWithPast). (rest : List ℕ) × (moment.past.unavailable ≡ before.past.unavailable ++ rest)) same (_, refl)
 
   goes_on : GoesOn before after
   goes_on =
       let log = log_on (event_trail script event before after next) in
-      let lacking = lacking_on (step script event before.world) next in
+      let gone = has_gone script event before after next in
+      let lacking = lacking_then gone.made gone.after_so in
       record { entries = log.0; log_so = log.1; lacking = lacking.0; lacking_so = lacking.1 }
 
   -- ---- the tests
@@ -148,7 +151,7 @@ module _ (script : List Statement) (event : Event) (before after : MomentWithPas
 
 -- ---- the invariant
 
-module _ (script : List Statement) (range : RunsAreInRange script) (events : List Event) (event : Event) (before after : MomentWithPast)
+module _ (script : List Statement) (range : RunsAreInRange script) (events : List Move) (event : Move) (before after : MomentWithPast)
     (run : run_with_past script events ≡ Some before) (next : next_moment script event before ≡ Some after)
     (attempted : AttemptsAreOfTheBorn before.past.attempts) where
   born : ObjectsWereBorn before.world.hosts before.world.wire before.past.attempts

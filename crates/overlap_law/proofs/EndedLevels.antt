@@ -1,6 +1,7 @@
 -- What a step of a recovery makes of its search: it goes on at its level, or is a new one at the highest level; or the level above has
 -- ended with too few rows, of which each node that was asked has told. So it is with an object that is found missing.
-use Rattle.std.proofs.Common.{◌≡◌, ◌⊎◌, inl, inr, ⊎_elim, ℕ, ◌<◌, ◌-◌, ◌==◌, nat_lt, Bool, true, false, cond, List, [], filter_map, Contains, Option, Some, None, refl, sym, ap, subst, ◌∙◌}
+use Rattle.std.proofs.Common.{◌≡◌, ◌⊎◌, inl, inr, ⊎_elim, ℕ, ◌<◌, ◌-◌, ◌==◌, nat_lt, Bool, true, false, cond, List, [], filter_map}
+use Rattle.std.proofs.Common.{Contains, Option, Some, None, refl, sym, ap, subst, ◌∙◌}
 use Rattle.std.specs.Option.{option_map_or}
 use Rattle.std.specs.List.{list_any}
 use Rattle.std.proofs.lemmas.Bool.{eqb-true, ltb-true, or_cases}
@@ -11,7 +12,8 @@ use Rattle.object_id.specs.Oid.{kind_of}
 use Rattle.object_list.specs.Gathered.{has_node}
 use Rattle.peer_proto.specs.declared.say.PeerSay.{PeerSay}
 use Rattle.recovery.specs.declared.search.RowAnswer.{RowAnswer}
-use Rattle.recovery.specs.Level.{row_of_target, rows_found, are_enough, own_index, own_part, with_part_found, with_object_missing, to_ask, one_lower, level_without_part, level_over_by, level_over, is_of_search, searching}
+use Rattle.recovery.specs.Level.{row_of_target, rows_found, are_enough, own_index, own_part, with_part_found, with_object_missing, to_ask}
+use Rattle.recovery.specs.Level.{one_lower, level_without_part, level_over_by, level_over, is_of_search, searching}
 use Rattle.recovery.specs.Shown.{is_pending_object, live_policy, own_row, shown_with_pending}
 use Rattle.recovery.specs.State.{Message, Search, Recovery, RecoveryState, search_at, still_on, search_on, is_listed, is_missing}
 use Rattle.recovery.specs.Steps.{to_recover, at_start, recovery_from_epoch}

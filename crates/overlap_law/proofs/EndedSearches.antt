@@ -1,6 +1,7 @@
 -- What a tick, and the end of a message, make of a recovery's search: a level that ends with too few rows was told of by each node that was
 -- asked.
-use Rattle.std.proofs.Common.{◌≡◌, ◌⊎◌, inl, inr, ⊎_elim, ℕ, ◌≤◌, ◌-◌, ◌==◌, ◌&&◌, ◌||◌, Bool, true, false, cond, List, [], ◌∷◌, ◌++◌, Contains, Option, Some, None, refl, sym, ap, subst, ◌∙◌}
+use Rattle.std.proofs.Common.{◌≡◌, ◌⊎◌, inl, inr, ⊎_elim, ℕ, ◌≤◌, ◌-◌, ◌==◌, ◌&&◌, ◌||◌, Bool, true, false, cond, List, [], ◌∷◌, ◌++◌}
+use Rattle.std.proofs.Common.{Contains, Option, Some, None, refl, sym, ap, subst, ◌∙◌}
 use Rattle.std.specs.Option.{option_map_or}
 use Rattle.std.specs.List.{list_any}
 use Rattle.std.proofs.lemmas.Bool.{and_parts, eq-eqb, eqb-true, or_left, or_right}
@@ -22,8 +23,10 @@ use Rattle.peer_service.specs.Serve.{row_or_none}
 use Rattle.recovery.specs.declared.search.RowAnswer.{RowAnswer}
 use Rattle.recovery.specs.Level.{rows_found, are_enough, is_of_search, is_read_of, searching}
 use Rattle.recovery.specs.Shown.{first_in, live_policy, shown_with_pending}
-use Rattle.recovery.specs.State.{Message, Search, RecoveryState, search_at, still_on, search_on, is_listed, has_number, message_of, can_tick}
-use Rattle.recovery.specs.Steps.{to_recover, messages_without, without_unanswered, search_after_answer, after_list, after_read, after_ask, message_end}
+use Rattle.recovery.specs.State.{Message, Search, RecoveryState, search_at, still_on, search_on, is_listed, has_number, message_of}
+use Rattle.recovery.specs.State.{can_tick}
+use Rattle.recovery.specs.Steps.{to_recover, messages_without, without_unanswered, search_after_answer, after_list, after_read, after_ask}
+use Rattle.recovery.specs.Steps.{message_end}
 use Rattle.recovery.specs.Tick.{level_messages, lists_asked, or_next, next_search, tick_messages, with_messages, state_after_tick}
 use Rattle.recovery.proofs.FoundLemmas.{live_known}
 use Rattle.overlap_law.specs.Each.{Placing}

@@ -1,5 +1,6 @@
 -- The replies of a step end writes that had begun and hadn't ended, and writes begin that hadn't.
-use Rattle.std.proofs.Common.{◌≡◌, ◌⊎◌, inl, inr, ⊎_elim, ℕ, ◌+◌, ◌*◌, ◌<◌, ◌==◌, ◌&&◌, ◌||◌, Bool, true, false, List, [], ◌∷◌, ◌++◌, length, drop, Contains, Option, Some, None, is_some, option_map, refl, sym, ap, subst, arith, ◌∙◌}
+use Rattle.std.proofs.Common.{◌≡◌, ◌⊎◌, inl, inr, ⊎_elim, ℕ, ◌+◌, ◌*◌, ◌<◌, ◌==◌, ◌&&◌, ◌||◌, Bool, true, false, List, [], ◌∷◌, ◌++◌}
+use Rattle.std.proofs.Common.{length, drop, Contains, Option, Some, None, is_some, option_map, refl, sym, ap, subst, arith, ◌∙◌}
 use Rattle.std.specs.Prelude.{◌/◌, unwrap_or}
 use Rattle.std.specs.List.{list_any}
 use Rattle.std.specs.Option.{option_map_or, option_and_then}
@@ -17,7 +18,8 @@ use Rattle.object_id.specs.declared.limits.TheConstants.{BLOCK_BYTES}
 use Rattle.object_id.specs.declared.oid.Kind.TheVariants.{Block}
 use Rattle.gf256.specs.Part.{is_in_strips}
 use Rattle.disk_history.specs.declared.event.HistEvent.{HistEvent}
-use Rattle.disk_history.specs.declared.event.HistEvent.TheVariants.{Create, Copy, Delete, WriteStart, WriteDone, WriteRefused, WriterLost, Read}
+use Rattle.disk_history.specs.declared.event.HistEvent.TheVariants.{Create, Copy, Delete, WriteStart, WriteDone, WriteRefused, WriterLost}
+use Rattle.disk_history.specs.declared.event.HistEvent.TheVariants.{Read}
 use Rattle.disk_history.specs.Ledger.{empty_ledger}
 use Rattle.cluster_script.specs.declared.statement.Statement.{Statement}
 use Rattle.cluster_script.specs.declared.statement.Statement.TheVariants as lines
@@ -43,7 +45,8 @@ use Rattle.sheep_world.specs.World.{Host, World, is_host_up, no_progress, node_a
 use Rattle.sheep_world.specs.Asking.{session_asking}
 use Rattle.sheep_world.specs.Began.{Began}
 use Rattle.sheep_world.specs.Effects.{disk_open, open_disk_at, progress_with_started, request_started}
-use Rattle.sheep_world.specs.HistoryAdditions.{added_by, begins_on, block_in, disk_of, gateway_of, has_begun_check_write, is_write, is_write_of, request_grown}
+use Rattle.sheep_world.specs.HistoryAdditions.{added_by, begins_on, block_in, disk_of, gateway_of, has_begun_check_write, is_write}
+use Rattle.sheep_world.specs.HistoryAdditions.{is_write_of, request_grown}
 use Rattle.sheep_world.specs.NodeCauses.{GuestAsks, IsCause, world_after_cause}
 use Rattle.sheep_world.proofs.BegunRequestLaws.{new-begun, were_begun}
 use Rattle.overlap_law.specs.DiskBlocks.{DisksHaveTheirBlocks}
@@ -62,7 +65,7 @@ use Rattle.overlap_law.proofs.ItemsAtBegin.{request_begins}
 use Rattle.overlap_law.proofs.ItemsOfReplies.{is_write_at}
 use Rattle.overlap_law.proofs.ItemsOfRequests.{begins_write_of}
 use Rattle.overlap_law.proofs.RequestsTold.{ended_told, place_told}
-use Rattle.overlap_law.proofs.SessionsOfRequests.{are_asked}
+use Rattle.overlap_law.proofs.SessionsOfRequests.{are_asked_by_line, of_test}
 use Rattle.overlap_law.proofs.StandingWriters.{AreStanding, none_ended, still_begun, writes_begin}
 use Rattle.overlap_law.proofs.StartedOnce.{UnansweredAreOnce, disk_of_began}
 use Rattle.overlap_law.proofs.UnansweredRequests.{unanswered_in}
@@ -71,6 +74,7 @@ use Rattle.overlap_law.proofs.DiskShapes.{shapes}
 use Rattle.overlap_law.proofs.DrawnClones.{shown}
 use Rattle.vdi_directory.specs.Decisions.{log_effects}
 use Rattle.vdi_directory.specs.States.{state_of}
+use Rattle.sheep_world.specs.BegunRequests.{IsOfScript}
 
 -- ---- what a request that is refused as it comes is told
 
@@ -201,12 +205,12 @@ module _ (script : List Statement) (range : RunsAreInRange script) (world : Worl
 
   module _ (n : ℕ) (host : Host) (there : tree.get world.hosts n ≡ Some host) (up : host.is_lost ≡ false) where
     -- the check of a reply has begun a write, before or with the step
-    check_begun : (found : World) (write : Option CheckWrite) (starts : List HistEvent) (req : ℕ) (was : Request)
+    check_begun : (found : World) (write : Option CheckWrite) (starts : List HistEvent) (req : ℕ) (was : Request) → IsOfScript script req
         → tree.get host.node.requests req ≡ Some was → tree.get found.hosts n ≡ Some host
         → (option_map_or (is_write_of req) write false ≡ true → list_any (begins_write_of req) starts ≡ true)
         → has_begun_check_write script req found write ≡ true → list_any (begins_write_of req) (history ++ starts) ≡ true
-    check_begun found write starts req was got here begins written =
-        let asked = are_asked script world began n host there req was got in
+    check_begun found write starts req was of_script got here begins written =
+        let asked = are_asked_by_line script world began n host there req was got of_script in
         let gateway : gateway_of script req found ≡ Some host.node
         = gateway_is script req was.session n asked.of found host asked.asking asked.declared asked.of_node here in
         ⊎_elim
@@ -233,7 +237,8 @@ module _ (script : List Statement) (range : RunsAreInRange script) (world : Worl
         (λ (checks : (option_map_or is_check (request_at script reply.0) false ≡ true)
         × (has_begun_check_write script reply.0 found write ≡ true)). inr checks.0) kind in
         let opened = on_open_disk script range world began n host there reply.0 was got writer in
-        let asked = are_asked script world began n host there reply.0 was got in
+        let asked = are_asked_by_line script world began n host there reply.0 was got
+        (⊎_elim (of_test script is_write reply.0) (of_test script is_check reply.0) writer) in
         let session : opened.on.session ≡ was.session
         = same_Some opened.on.session was.session (sym opened.on.asking ∙ asked.asking) in
         let stands = standing opened.on.session opened.on.started opened.on.there asked.of
@@ -248,7 +253,7 @@ module _ (script : List Statement) (range : RunsAreInRange script) (world : Worl
         (stands.begun (ap (is_write_at script) opened.on.number ∙ writes) (ap is_some opened.on.on))))
         (λ (checks : (option_map_or is_check (request_at script reply.0) false ≡ true)
         × (has_begun_check_write script reply.0 found write ≡ true)).
-        check_begun found write starts reply.0 was got here begins checks.1) kind in
+        check_begun found write starts reply.0 was (of_test script is_check reply.0 checks.0) got here begins checks.1) kind in
         let unended : list_any (ends_write_of reply.0) history ≡ false
         = subst (λ (k : ℕ). list_any (ends_write_of k) history ≡ false) opened.on.number
         (stands.unended (ap (λ (h : Host). h.is_lost) same ∙ up)

@@ -1,6 +1,7 @@
 -- What a change adds to the history keeps what blocks may be read as, where writes are done alone and entries keep it: who is refused, or
 -- loses its reply, hadn't ended, and nothing comes of what was refused.
-use Rattle.std.proofs.Common.{◌≡◌, inr, arith, ℕ, ◌+◌, ◌==◌, ◌||◌, Bool, true, false, cond, List, [], ◌∷◌, ◌++◌, map, filter, length, Contains, Option, Some, None, is_some, refl, sym, ap, subst, ◌∙◌}
+use Rattle.std.proofs.Common.{◌≡◌, inr, arith, ℕ, ◌+◌, ◌==◌, ◌||◌, Bool, true, false, cond, List, [], ◌∷◌, ◌++◌, map, filter, length}
+use Rattle.std.proofs.Common.{Contains, Option, Some, None, is_some, refl, sym, ap, subst, ◌∙◌}
 use Rattle.std.specs.Prelude.{◌/◌}
 use Rattle.std.specs.List.{enumerate_from, range_with_len}
 use Rattle.std.specs.FinMap as tree
@@ -20,14 +21,16 @@ use Rattle.cluster_script.specs.NumberedRequests.{request_at, numbered_requests}
 use Rattle.cluster_script.specs.Statements.{requests_of}
 use Rattle.peer_proto.specs.declared.guest.GuestRsp.{GuestRsp}
 use Rattle.peer_proto.specs.declared.guest.GuestRsp.TheVariants as answers
-use Rattle.sheep_node.specs.declared.event.Event.{Event}
 use Rattle.sheep_node.specs.Changes as changes
 use Rattle.sheep_node.specs.StepState.{StepState}
 use Rattle.sheep_world.specs.World.{Host, is_host_up}
 use Rattle.sheep_world.specs.Asking.{session_asking}
 use Rattle.sheep_world.specs.Began.{Began}
+use Rattle.sheep_world.specs.BegunRequests.{IsOfScript}
 use Rattle.sheep_world.specs.Granted.{entry_adds}
-use Rattle.sheep_world.specs.HistoryAdditions.{added_by, block_in, blocks_read, disk_of, has_begun_check_write, is_lost_write, reply_adds, write_ended}
+use Rattle.sheep_world.specs.HistoryAdditions.{added_by, block_in, blocks_read, disk_of, has_begun_check_write, is_lost_write, reply_adds}
+use Rattle.sheep_world.specs.HistoryAdditions.{write_ended}
+use Rattle.sheep_world.specs.RunsWithAsks.{Move}
 use Rattle.overlap_law.specs.Attempts.{AttemptRecord}
 use Rattle.overlap_law.specs.DiskEvents.{ends_write_of}
 use Rattle.overlap_law.specs.Headline.{ledger_of}
@@ -61,7 +64,7 @@ use Rattle.overlap_law.proofs.UntouchedInRuns.{untouched-within}
 use Rattle.overlap_law.proofs.WritesThatBegin.{map_keep, cause_keeps, nothing_keeps, end_keeps}
 
 -- at each moment on the way of an event the attempts of what was refused come to nothing
-pub nothing-on_the_way : (script : List Statement) → RunsAreInRange script → (events : List Event) (start moment : MomentWithPast)
+pub nothing-on_the_way : (script : List Statement) → RunsAreInRange script → (events : List Move) (start moment : MomentWithPast)
     → run_with_past script events ≡ Some start → MomentTrail script start moment → (req : ℕ)
     → is_object_among req moment.past.refused ≡ true → ComesToNothing moment.world.hosts moment.past.attempts req
 nothing-on_the_way script range events start moment is trail req refused =
@@ -122,6 +125,11 @@ module _ (effects : List Effect) (good_id : ℕ → Bool) (hosts : Hosts) (attem
     reads_keep disk offset (answers.Granted vid) = tt
     reads_keep disk offset (answers.Checked found) = tt
 
+    -- a reply to whom the script doesn't have adds nothing
+    pub unasked_keep : (rsp : GuestRsp) (written : Bool) (disk : Option ℕ) → AllKeep ledger (added_by written req rsp disk None)
+    unasked_keep rsp written None = tt
+    unasked_keep rsp written (Some disk) = tt
+
     -- what a reply ends keeps it, where what is refused does, and what is done
     module _ (rsp : GuestRsp) (refused : is_refusal rsp ≡ true → KeepsBlocks effects good_id hosts attempts ledger (WriteRefused req)) where
       abbrev DoneKeeps : List HistEvent → Type 0
@@ -154,7 +162,7 @@ module _ (effects : List Effect) (good_id : ℕ → Bool) (hosts : Hosts) (attem
 
 -- ---- each change
 
-module _ (script : List Statement) (range : RunsAreInRange script) (events : List Event) (start : MomentWithPast)
+module _ (script : List Statement) (range : RunsAreInRange script) (events : List Move) (start : MomentWithPast)
     (is_run : run_with_past script events ≡ Some start) where
   pub began : Began script start.world
   began = began-with_past script events start is_run
@@ -179,7 +187,7 @@ module _ (script : List Statement) (range : RunsAreInRange script) (events : Lis
     after = moment_in_step script stepping start next
 
     module _ (reply : ℕ × GuestRsp) (told : IsTold script range start began stepping so_far next reply) where
-      -- to whom the change replies had no reply as the step began
+      -- to whom of the script the change replies had no reply as the step began
       replied_open : (session : ℕ) × (disk : Bool)
           × IsOpenAt script range reply.0 start.world began stepping.n stepping.host is.there stepping.cause reply.0 session disk
       replied_open =
@@ -187,11 +195,12 @@ module _ (script : List Statement) (range : RunsAreInRange script) (events : Lis
           (changes.Then within.leads within.change)).replied reply told.among
 
       -- and hadn't ended
-      replied_unended : has_ended reply.0 (moment_in_step script stepping start so_far).past.history ≡ false
+      replied_unended : IsOfScript script reply.0 → has_ended reply.0 (moment_in_step script stepping start so_far).past.history ≡ false
       unfolding past_after_event
-      replied_unended =
+      replied_unended of_script =
           let all = unended-in_run script range events start is_run in
-          let (session, disk, (unanswered, asked, here)) = replied_open in
+          let (session, disk, held) = replied_open in
+          let (unanswered, asked, here) = held of_script in
           let old = found_unended script range start.world began start.past.refused all.0 start.past.history all.1 stepping.n stepping.host
           is.there stepping.cause is.caused stepping.n stepping.host.incarnation reply.0 session unanswered.started asked unanswered.there
           unanswered.number
@@ -199,28 +208,55 @@ module _ (script : List Statement) (range : RunsAreInRange script) (events : Lis
           let new = step_ends_none reply.0 script start.world (world_in_step script stepping start.world so_far) told.free stepping.cause in
           list_any-append (ends_write_of reply.0) start.past.history _ ∙ (λ i. old i || new i)
 
-      pub replied_ended : ((ledger_of before.past.history).requests reply.0).ended ≡ false
-      replied_ended = ended_told reply.0 before.past.history ∙ replied_unended
+      pub replied_ended : IsOfScript script reply.0 → ((ledger_of before.past.history).requests reply.0).ended ≡ false
+      replied_ended of_script = ended_told reply.0 before.past.history ∙ replied_unended of_script
 
       -- what it refuses is refused
-      pub refused_then : is_refusal reply.1 ≡ true → is_object_among reply.0 after.past.refused ≡ true
-      refused_then refuses =
-          let (session, disk, (unanswered, asked, here)) = replied_open in
-          let of_script : is_some (session_asking script reply.0) ≡ true = ap is_some asked.asking in
+      pub refused_then : IsOfScript script reply.0 → is_refusal reply.1 ≡ true → is_object_among reply.0 after.past.refused ≡ true
+      refused_then of_script refuses =
+          let (session, disk, held) = replied_open in
+          let (unanswered, asked, here) = held of_script in
+          let asks : is_some (session_asking script reply.0) ≡ true = ap is_some asked.asking in
           ap (is_object_among reply.0) (refused_in_step script stepping start next)
           ∙ among_of reply.0 start.past.refused (refused_in script next.outputs.replies)
           (inr (refused_of script next.outputs.replies reply told.among
-          (and_from (is_refusal reply.1) (is_some (session_asking script reply.0)) refuses of_script)))
+          (and_from (is_refusal reply.1) (is_some (session_asking script reply.0)) refuses asks)))
 
       module _ (good_id : ℕ → Bool) (trail : MomentTrail script start before) (alone : WhatIsDoneIsAlone good_id before after) where
-        refused_keeps : is_refusal reply.1 ≡ true
+        refused_keeps : IsOfScript script reply.0 → is_refusal reply.1 ≡ true
             → KeepsBlocks (log_effects after.world.log) good_id after.world.hosts after.past.attempts (ledger_of before.past.history)
             (WriteRefused reply.0)
-        refused_keeps refuses = (
-          replied_ended,
+        refused_keeps of_script refuses = (
+          replied_ended of_script,
           nothing-on_the_way script range events start after is_run (Then trail (StepGoesOn stepping so_far next is by within)) reply.0
-              (refused_then refuses),
+              (refused_then of_script refuses),
         )
+
+        abbrev begun_write : Bool
+        begun_write =
+            has_begun_check_write script reply.0 (world_at_cause start.world stepping.cause) (check_write_at start.world stepping.cause)
+
+        abbrev on_disk : Option ℕ
+        on_disk = disk_of script reply.0 (world_at_cause start.world stepping.cause)
+
+        added_keeps : (o : Option Statement) → request_at script reply.0 ≡ o
+            → AllKeepBlocks (log_effects after.world.log) good_id after.world.hosts after.past.attempts (ledger_of before.past.history)
+            (added_by begun_write reply.0 reply.1 on_disk (request_at script reply.0))
+        added_keeps None none =
+            subst (λ (s : Option Statement).
+            AllKeepBlocks (log_effects after.world.log) good_id after.world.hosts after.past.attempts (ledger_of before.past.history)
+            (added_by begun_write reply.0 reply.1 on_disk s)) (sym none)
+            (unasked_keep (log_effects after.world.log) good_id after.world.hosts after.past.attempts (ledger_of before.past.history)
+            reply.0 reply.1 begun_write on_disk)
+        added_keeps (Some line) stands =
+            let of_script : IsOfScript script reply.0 = ap (λ (o : Option Statement). is_some o) stands in
+            added_keep (log_effects after.world.log) good_id after.world.hosts after.past.attempts (ledger_of before.past.history)
+            reply.0 reply.1 (refused_keeps of_script) begun_write on_disk (request_at script reply.0)
+            (λ done. alone.each reply.0
+            (subst (λ (history : List HistEvent). Contains history (WriteDone reply.0)) (sym told.now)
+            (Contains-append_left (told.front ++ added_by_reply script start.world stepping.cause reply) told.back (WriteDone reply.0)
+            (Contains-append_right told.front (added_by_reply script start.world stepping.cause reply) (WriteDone reply.0) done)))
+            (replied_ended of_script))
 
         reply_keeps : GrowsKeeping (log_effects after.world.log) good_id after.world.hosts after.past.attempts before.past.history
             after.past.history
@@ -230,15 +266,7 @@ module _ (script : List Statement) (range : RunsAreInRange script) (events : Lis
           back = told.back;
           were = told.were;
           now = told.now;
-          keep = added_keep (log_effects after.world.log) good_id after.world.hosts after.past.attempts (ledger_of before.past.history)
-              reply.0 reply.1 refused_keeps
-              (has_begun_check_write script reply.0 (world_at_cause start.world stepping.cause) (check_write_at start.world stepping.cause))
-              (disk_of script reply.0 (world_at_cause start.world stepping.cause)) (request_at script reply.0)
-              (λ done. alone.each reply.0
-              (subst (λ (history : List HistEvent). Contains history (WriteDone reply.0)) (sym told.now)
-              (Contains-append_left (told.front ++ added_by_reply script start.world stepping.cause reply) told.back (WriteDone reply.0)
-              (Contains-append_right told.front (added_by_reply script start.world stepping.cause reply) (WriteDone reply.0) done)))
-              replied_ended);
+          keep = added_keeps (request_at script reply.0) refl;
           apart = told.apart;
         }
 

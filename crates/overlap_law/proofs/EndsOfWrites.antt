@@ -1,4 +1,6 @@
 -- No event ends the writes of a request that still has no reply behind it: a step replies to others, and a lost node's writers are its own.
+use Rattle.std.proofs.Common.{flat_map}
+use Rattle.std.proofs.Common.{subst}
 use Rattle.std.proofs.Common.{◌≡◌, ◌≢◌, ℕ, suc, ◌+◌, ◌==◌, Bool, true, false, ◌&&◌, List, [], ◌∷◌, map, filter, Contains, Option, Some}
 use Rattle.std.proofs.Common.{None, is_some, refl, sym, ap, ◌∙◌, arith, ⊎_elim}
 use Rattle.std.specs.Prelude.{flat_map, slice_get}
@@ -16,17 +18,19 @@ use Rattle.cluster_script.specs.Statements.{requests_of}
 use Rattle.guest_driver.specs.declared.disk.Disk.{Disk}
 use Rattle.peer_proto.specs.declared.guest.GuestRsp.{GuestRsp}
 use Rattle.sheep_node.specs.declared.check_write.CheckWrite.{CheckWrite}
+use Rattle.sheep_world.specs.HistoryAdditions.{has_begun_check_write}
 use Rattle.sheep_world.specs.World.{Host, World}
 use Rattle.sheep_world.specs.Effects.{open_disk_at, request_started}
 use Rattle.sheep_world.specs.Granted.{entry_adds}
 use Rattle.sheep_world.specs.HistoryAdditions.{added_by, begins_on, blocks_read, check_write_by, check_write_grown, disk_of, is_lost_write}
 use Rattle.sheep_world.specs.HistoryAdditions.{is_of_incarnation, is_writing_request, replies_grown, reply_grown, request_grown}
 use Rattle.sheep_world.specs.NodeCauses.{NodeCause, GuestAsks, RequestComes, ReplyComes, LossIsTold, EntryIsRead, EntryIsPut, RecoveryTicks}
-use Rattle.sheep_world.specs.NodeCauses.{WorkIsRetried, history_of_cause}
+use Rattle.sheep_world.specs.NodeCauses.{WorkIsRetried, ClientAsks, history_of_cause}
 use Rattle.overlap_law.specs.DiskEvents.{ends_write_of}
 use Rattle.overlap_law.proofs.ClosedAdditions.{none_of, reads_add, reply_add, end_so, asks_add, entry_add, checks_add, replies_add}
 use Rattle.overlap_law.proofs.DiskEventsOfHolders.{HasNone, append_none, map_none_in}
 use Rattle.overlap_law.proofs.SessionsOfRequests.{IsAskedIn}
+use Rattle.std.proofs.lemmas.Bool.{cases_eq}
 
 -- ---- what ends nothing
 
@@ -95,6 +99,55 @@ module _ (req : ℕ) where
       step_ends_none (EntryIsPut entry) = entry_none world.log entry
       step_ends_none RecoveryTicks = told_none world None
       step_ends_none WorkIsRetried = told_none world None
+      step_ends_none (ClientAsks req ask) = told_none world None
+
+    -- ---- nor one of a request that the script doesn't have
+
+    module _ (world after : World) (none : request_at script req ≡ None) where
+      pub untold_none : (before : World) (write : Option CheckWrite) (reply : ℕ × GuestRsp)
+          → HasNone test (reply_grown script before write reply)
+      untold_none before write reply = ⊎_elim
+          (λ (own : reply.0 ≡ req).
+          subst (λ (s : Option Statement). HasNone test (added_by written reply.0 reply.1 (disk_of script reply.0 before) s))
+          (sym (ap (request_at script) own ∙ none)) (nothing (disk_of script reply.0 before)))
+          (λ (other : reply.0 ≢ req).
+          added_none written reply.0 reply.1 (disk_of script reply.0 before) (request_at script reply.0) (ne_eqb reply.0 req other))
+          (cases_eq reply.0 req)
+        where
+          written : Bool
+          written = has_begun_check_write script reply.0 before write
+
+          nothing : (disk : Option ℕ) → HasNone test (added_by written reply.0 reply.1 disk None)
+          nothing None = refl
+          nothing (Some disk) = refl
+
+      all_untold : (before : World) (write : Option CheckWrite) (replies : List (ℕ × GuestRsp))
+          → HasNone test (flat_map (reply_grown script before write) replies)
+      all_untold before write [] = refl
+      all_untold before write (reply ∷ later) =
+          append_none test (reply_grown script before write reply) (flat_map (reply_grown script before write) later)
+          (untold_none before write reply) (all_untold before write later)
+
+      pub unasked_ends_none : (cause : NodeCause) → HasNone test (history_of_cause script cause world after)
+      unasked_ends_none (GuestAsks session other ask) =
+          append_none test (request_grown script world session (Some other))
+          (replies_grown script (request_started session (Some other) world) None after)
+          (asks_none other (open_disk_at session world) (request_at script other))
+          (all_untold (request_started session (Some other) world) None after.outputs.replies)
+      unasked_ends_none (RequestComes name to request) =
+          append_none test (option_map_or (check_write_grown script) (check_write_by name world after) [])
+          (replies_grown script world (check_write_by name world after) after)
+          (checks_none (check_write_by name world after)) (all_untold world (check_write_by name world after) after.outputs.replies)
+      unasked_ends_none (ReplyComes name from rsp) =
+          append_none test (option_map_or (check_write_grown script) (check_write_by name world after) [])
+          (replies_grown script world (check_write_by name world after) after)
+          (checks_none (check_write_by name world after)) (all_untold world (check_write_by name world after) after.outputs.replies)
+      unasked_ends_none (LossIsTold name packet) = all_untold world None after.outputs.replies
+      unasked_ends_none (EntryIsRead entry) = all_untold world None after.outputs.replies
+      unasked_ends_none (EntryIsPut entry) = entry_none world.log entry
+      unasked_ends_none RecoveryTicks = all_untold world None after.outputs.replies
+      unasked_ends_none WorkIsRetried = all_untold world None after.outputs.replies
+      unasked_ends_none (ClientAsks begins ask) = all_untold world None after.outputs.replies
 
     -- ---- nor does a lost node end one of another, or of another incarnation
 

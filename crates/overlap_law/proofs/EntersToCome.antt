@@ -1,6 +1,7 @@
 -- An attempt that begins on the inode of a disk that is there enters the disk's own id, or what the inode might come to have, if what
 -- commands write does: a write enters the own id, and the inode of an id is created before its disk is there.
-use Rattle.std.proofs.Common.{◌≡◌, inl, ⊎_elim, arith, ℕ, ◌≤◌, Bool, true, false, All, List, [], length, slice_get, Option, Some, refl, sym, ap, subst, ◌∙◌}
+use Rattle.std.proofs.Common.{◌≡◌, inl, ⊎_elim, arith, ℕ, ◌≤◌, Bool, true, false, All, List, [], length, slice_get, Option, Some, refl, sym}
+use Rattle.std.proofs.Common.{ap, subst, ◌∙◌}
 use Rattle.std.specs.FinMap as tree
 use Rattle.std.proofs.lemmas.List.Elements.{All-head}
 use Rattle.std.proofs.lemmas.Option.{same_Some, slice_get_within}
@@ -31,11 +32,11 @@ use Rattle.disk_check.specs.Check.{Check, CheckStage, Comparing}
 use Rattle.disk_check.specs.Check as checks
 use Rattle.sheep_node.specs.declared.course.Course.{Course}
 use Rattle.sheep_node.specs.declared.course.Course.TheVariants.{Waiting, Driving, Commanding, Checking, DoingWork, AwaitingDecision}
-use Rattle.sheep_node.specs.declared.event.Event.{Event}
 use Rattle.sheep_node.specs.Changes.{attempt_in}
 use Rattle.sheep_node.specs.SessionQueues.{session_among}
 use Rattle.sheep_world.specs.World.{Host}
 use Rattle.sheep_world.specs.Began.{Began}
+use Rattle.sheep_world.specs.RunsWithAsks.{Move}
 use Rattle.overlap_law.specs.Attempts.{AttemptRecord, object_of}
 use Rattle.overlap_law.specs.CommandDisks.{opened_in}
 use Rattle.overlap_law.specs.Courses.{IsOfTask, IsOfStage, IsOfCheckStage}
@@ -43,7 +44,6 @@ use Rattle.overlap_law.specs.KeptHistory.{CommandsWriteWhatMayCome, EntersAs}
 use Rattle.overlap_law.specs.MomentChanges.{MomentChange, MomentTrail, Then, RunsAreInRange}
 use Rattle.overlap_law.specs.NamedWorks.{HasEntry}
 use Rattle.overlap_law.specs.Past.{MomentWithPast, run_with_past}
-use Rattle.overlap_law.specs.RequestsOfScript.{IsCourseOfAsk}
 use Rattle.overlap_law.specs.StayingBlocks.{HasEntryOf, EntersWhatMayCome}
 use Rattle.overlap_law.specs.Tables.{entry_unit}
 use Rattle.overlap_law.specs.ToDo.{entry_made}
@@ -51,7 +51,6 @@ use Rattle.overlap_law.specs.Units.{covers_unit}
 use Rattle.overlap_law.specs.WriterClaims.{HasReservation, IsMakingKept, IsStageKept}
 use Rattle.overlap_law.proofs.AttemptLists.{got_last}
 use Rattle.overlap_law.proofs.ClaimsInRuns.{claims-in_run}
-use Rattle.overlap_law.proofs.CoursesOfScript.{asked_by}
 use Rattle.overlap_law.proofs.CreatesFirst.{inside}
 use Rattle.overlap_law.proofs.DataOfDisks.{reserved_unpublished}
 use Rattle.overlap_law.proofs.DriverEntries.{entry_at, no_inode}
@@ -71,6 +70,8 @@ use Rattle.overlap_law.proofs.WorksInMoments.{well_after}
 use Rattle.overlap_law.proofs.WorksOnTheWay.{IsOpenFor, works_after}
 use Rattle.overlap_law.proofs.WriteObjects.{known_open, own_there}
 use Rattle.overlap_law.proofs.MakingEntries.{making_reserved}
+use Rattle.overlap_law.proofs.AllowedCourses.{opened_by, IsAllowed}
+use Rattle.sheep_node.proofs.SessionViews.{IsSeen}
 
 -- what a read or write enters is the disk's own id
 driver_enters : (inode : Content) (driver : Driver) (work : ObjWork) → IsVid inode.vid → All FewAt (pieces_left driver)
@@ -104,7 +105,7 @@ check_none disk check (checks.WritingBack later) work is same id count vid at ha
     no_inode check.vid is.index vid (subst IsVid (sym same) id) (omega (arith, within, count)) (sym (ap oid_of is.work_of) ∙ has.object)
 check_none disk check checks.Answered work is same id count vid at has = is
 
-module _ (script : List Statement) (range : RunsAreInRange script) (events : List Event) (start before after : MomentWithPast)
+module _ (script : List Statement) (range : RunsAreInRange script) (events : List Move) (start before after : MomentWithPast)
     (is_run : run_with_past script events ≡ Some start) (trail : MomentTrail script start before)
     (change : MomentChange script start before after) (good_id : ℕ → Bool) (commands : CommandsWriteWhatMayCome good_id before after) where
   began : Began script start.world
@@ -169,27 +170,30 @@ module _ (script : List Statement) (range : RunsAreInRange script) (events : Lis
     command_enters op course (ops.Answered change) at is = absurd is
 
     work_enters : Enters vid index work.work
-    work_enters = by_course so.request.course refl so.waits so.course
+    work_enters = by_course so.request.course refl so.waits
       where
         by_course : (course : Course) → so.request.course ≡ course
             → Waits (session_among so.request.session host.node.sessions).disk course work.work
-            → IsCourseOfAsk (asked_by script req) (session_among so.request.session host.node.sessions).disk so.began course
             → Enters vid index work.work
-        by_course (Waiting ask) same waits placed = absurd waits.0
-        by_course (Driving driver) same (is, own) placed =
+        by_course (Waiting ask) same waits = absurd waits.0
+        by_course (Driving driver) same (is, own) =
             let well = well_after script range start began change n host there in
             let knows = known_open well.known host.node well.on_known so.request.session is.disk is.there in
             let few = subst (IsKnownCourse well.known) same (well.on_known.courses req so.request so.there) in
             inl (driver_enters is.disk.inode driver work.work knows.disk.id few is.awaited vid index has)
-        by_course (Commanding op) same waits placed = command_enters op same op.stage refl waits.0
-        by_course (Checking check) same (is, (disk, opened, own)) placed =
+        by_course (Commanding op) same waits = command_enters op same op.stage refl waits.0
+        by_course (Checking check) same (is, (disk, opened, own)) =
             let well = well_after script range start began change n host there in
             let knows = known_open well.known host.node well.on_known so.request.session is.disk is.there in
             let here : is.disk ≡ disk = same_Some is.disk disk (sym is.there ∙ opened) in
             absurd (check_none is.disk check check.stage work.work is.is (own ∙ ap (λ (d : Disk). d.inode.vid) (sym here)) knows.disk.id
             knows.count vid index has)
-        by_course (DoingWork asked) same waits placed = absurd placed
-        by_course (AwaitingDecision entry) same waits placed = absurd waits.0
+        by_course (DoingWork asked) same waits =
+            let allowed : IsAllowed (opened_by (session_among so.request.session host.node.sessions)) so.request.course
+            = subst (IsSeen opened_by IsAllowed host.node.sessions) so.there
+            ((well_after script range start began change n host there).allowed req) in
+            reads_none asked waits.0 (subst (IsAllowed (opened_by (session_among so.request.session host.node.sessions))) same allowed)
+        by_course (AwaitingDecision entry) same waits = absurd waits.0
 
   -- an attempt that begins is one of these works
   pub enters_to_come : EntersWhatMayCome good_id before after

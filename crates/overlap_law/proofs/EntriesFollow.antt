@@ -11,11 +11,13 @@ use Rattle.sheep_world.specs.Opening.{initial_world}
 use Rattle.vdi_directory.specs.Decisions.{log_effects}
 use Rattle.vdi_directory.specs.States.{state_of}
 use Rattle.overlap_law.specs.Headline.{ledger_of}
-use Rattle.overlap_law.specs.HistoryGrowth.{added_at_cause, added_by_reply, HistoryGrows, NothingIsAdded, WritesBegin, RequestIsReplied, EntryAdds, WritersAreLost}
+use Rattle.overlap_law.specs.HistoryGrowth.{added_at_cause, added_by_reply, HistoryGrows, NothingIsAdded, WritesBegin, RequestIsReplied}
+use Rattle.overlap_law.specs.HistoryGrowth.{EntryAdds, WritersAreLost}
 use Rattle.overlap_law.specs.MomentChanges.{KeptByChanges, RunsAreInRange}
 use Rattle.overlap_law.specs.Past.{MomentWithPast, first_moment}
 use Rattle.overlap_law.specs.ToldReads.{AllElseMayFollow}
-use Rattle.overlap_law.proofs.DiskShapes.{Shapes, shapes_after, shapes, shapes_so, behind_shapes, among_shapes, cause_plain, reply_plain, lost_plain}
+use Rattle.overlap_law.proofs.DiskShapes.{Shapes, shapes_after, shapes, shapes_so, behind_shapes, among_shapes, cause_plain, reply_plain}
+use Rattle.overlap_law.proofs.DiskShapes.{lost_plain}
 use Rattle.overlap_law.proofs.DisksByTheLog.{log_before}
 use Rattle.overlap_law.proofs.DrawnClones.{shown}
 use Rattle.overlap_law.proofs.HistoryInMoments.{history_grows}

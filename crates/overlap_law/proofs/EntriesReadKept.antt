@@ -14,9 +14,9 @@ use Rattle.vdi_directory.specs.Dead.{is_dead}
 use Rattle.vdi_directory.specs.Decisions.{log_effects}
 use Rattle.vdi_ops.specs.Tables.{kept_entry}
 use Rattle.sheep_node.specs.declared.course.Course.TheVariants.{Commanding}
-use Rattle.sheep_node.specs.declared.event.Event.{Event}
 use Rattle.sheep_world.specs.NodeCauses.{host_with_node}
 use Rattle.sheep_world.specs.World.{Host}
+use Rattle.sheep_world.specs.RunsWithAsks.{Move}
 use Rattle.overlap_law.specs.Holders.{is_dead_by_log}
 use Rattle.overlap_law.specs.MomentChanges.{MomentTrail, RunsAreInRange}
 use Rattle.overlap_law.specs.OpenTables.{CallsLive}
@@ -39,7 +39,7 @@ none_kept ids = by_test (list_any (λ id. id == 0) ids)
     by_test true = refl
     by_test false = refl
 
-pub entries_kept : (script : List Statement) → RunsAreInRange script → (events : List Event) (start before : MomentWithPast)
+pub entries_kept : (script : List Statement) → RunsAreInRange script → (events : List Move) (start before : MomentWithPast)
     → run_with_past script events ≡ Some start → MomentTrail script start before → (live good_id : ℕ → Bool)
     → CallsLive live before.world.log before.past.attempts
     → EntriesAreMade (log_effects before.world.log) live good_id before.past.attempts → EntriesReadAreKept script good_id start before

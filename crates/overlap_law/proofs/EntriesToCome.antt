@@ -1,6 +1,6 @@
 -- In each run in range, where an inode has been read in the middle of a step, each entry that was read is one that the inode may come to
 -- have, if the inode was good as the event began, and was created.
-use Rattle.std.proofs.Common.{◌≡◌, arith, ℕ, ◌+◌, ◌*◌, ◌-◌, ◌≤◌, ◌<◌, Bool, true, List, Some, sym, ap, subst, ◌∙◌}
+use Rattle.std.proofs.Common.{◌≡◌, arith, ℕ, ◌+◌, ◌*◌, ◌-◌, ◌≤◌, ◌<◌, Bool, true, List, Some, sym, ap, subst, ◌∙◌, false}
 use Rattle.object_id.specs.declared.entry.VdiSpec.{VdiSpec}
 use Rattle.object_id.specs.declared.oid.Kind.{Kind}
 use Rattle.object_id.specs.declared.oid.Kind.TheVariants.{Inode}
@@ -16,10 +16,10 @@ use Rattle.gateway.specs.Attempt as gateways
 use Rattle.gateway.specs.State.{Work}
 use Rattle.vdi_ops.specs.InodeWorks.{read_inode, written_bytes}
 use Rattle.sheep_node.specs.declared.course.Course.{Course}
-use Rattle.sheep_node.specs.declared.event.Event.{Event}
 use Rattle.sheep_node.specs.Changes.{EndsWork}
 use Rattle.sheep_node.specs.StepState.{StepState}
 use Rattle.sheep_world.specs.NodeCauses.{input_of_cause}
+use Rattle.sheep_world.specs.RunsWithAsks.{Move}
 use Rattle.overlap_law.specs.Fates.{IsCreated}
 use Rattle.overlap_law.specs.InodesRead.{IsOfOneToCome}
 use Rattle.overlap_law.specs.MomentChanges.{MomentTrail, RunsAreInRange}
@@ -32,15 +32,17 @@ use Rattle.overlap_law.proofs.DoneReads.{inode_whole, number_in_piece}
 use Rattle.overlap_law.proofs.EntryWrites.{entry_start, entry_size}
 use Rattle.overlap_law.proofs.KnownDisks.{kind-of_inode}
 use Rattle.overlap_law.proofs.ReadUnits.{read_unit}
+use Rattle.overlap_law.specs.RequestsOfScript.{is_of_client}
 
-module _ (script : List Statement) (range : RunsAreInRange script) (events : List Event) (start : MomentWithPast)
+module _ (script : List Statement) (range : RunsAreInRange script) (events : List Move) (start : MomentWithPast)
     (ran : run_with_past script events ≡ Some start) (stepping : SteppingNode) (is : IsStepping script start.world stepping)
     (by : StepsByChanges stepping.cause) (so_far : StepState) (leads : LeadsInStep stepping (first_in_step stepping) so_far)
     (trail : MomentTrail script start (moment_in_step script stepping start so_far)) (good : ℕ → Bool)
     (told : ToldPiecesAreSince (log_effects start.world.log) good start.world.hosts start.world.wire start.past.attempts)
     (session req number : ℕ) (work : Work) (attempt : gateways.Attempt) (status : Status) (course : Course) (bytes : List ℕ)
     (ends : EndsWork (input_of_cause stepping.cause) stepping.host.node so_far session req number work attempt status course bytes)
-    (vid : ℕ) (spec : VdiSpec) (is_read : work.work ≡ read_inode vid spec) (is_vid : IsVid vid) where
+    (vid : ℕ) (spec : VdiSpec) (is_read : work.work ≡ read_inode vid spec) (is_vid : IsVid vid)
+    (own : is_of_client course ≡ false) where
   abbrev here : MomentWithPast
   here = moment_in_step script stepping start so_far
 
@@ -57,7 +59,7 @@ module _ (script : List Statement) (range : RunsAreInRange script) (events : Lis
       let end : unit_end Inode (entry_unit index) ≤ 0 + written_bytes spec = omega (arith, starts, size, within) in
       let found = read_unit script range events start ran stepping is by so_far leads trail good told session req number work attempt
       status course bytes ends (inode_number vid) spec.policy 0 (written_bytes spec) is_read
-      (inode_whole spec.policy (kind_of (inode_number vid)) kind_so) is_good epoch (entry_unit index) created (omega arith)
+      (inode_whole spec.policy (kind_of (inode_number vid)) kind_so) own is_good epoch (entry_unit index) created (omega arith)
       (subst (λ (k : Kind). unit_end k (entry_unit index) ≤ 0 + written_bytes spec) (sym kind_so) end) (omega arith) in
       let from : unit_start Inode (entry_unit index) - 0 ≡ INODE_HEADER_BYTES + 4 * index = omega (arith, starts) in
       record {

@@ -240,7 +240,7 @@ module _ (log : List Entry) (node : Node)
   by_course (Commanding op) at wanted waits allowed owns known = absurd (staged op at op.stage refl wanted owns)
   by_course (Checking check) at wanted waits allowed owns known =
       absurd (checked check check.stage waits.disk waits.there waits.is known.disk.id)
-  by_course (DoingWork asked) at wanted waits allowed owns known = absurd allowed
+  by_course (DoingWork asked) at wanted waits allowed owns known = reads asked wanted allowed
   by_course (AwaitingDecision entry) at wanted waits allowed owns known = absurd waits
 
   pub entering : IsEntering disk request.course work.work index

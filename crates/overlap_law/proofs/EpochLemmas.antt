@@ -1,5 +1,6 @@
 -- A peer's request of another epoch changes nothing, in every run: it is refused, and no `Recovered` is due that the step might put.
-use Rattle.std.proofs.Common.{◌≡◌, ◌≢◌, ⊎_elim, arith, ℕ, ◌<◌, ◌≤◌, nat_lt, Bool, true, false, cond, List, flat_map, Option, Some, None, Result, Ok, refl, sym, ap, ◌∙◌, subst, [], ◌++◌}
+use Rattle.std.proofs.Common.{◌≡◌, ◌≢◌, ⊎_elim, arith, ℕ, ◌<◌, ◌≤◌, nat_lt, Bool, true, false, cond, List, flat_map, Option, Some, None}
+use Rattle.std.proofs.Common.{Result, Ok, refl, sym, ap, ◌∙◌, subst, [], ◌++◌}
 use Rattle.std.specs.Option.{option_map, option_map_or, option_and_then}
 use Rattle.std.specs.Ordering.{is_eq}
 use Rattle.std.specs.Cmp.{nat_cmp_total, tied_itself}
@@ -18,7 +19,6 @@ use Rattle.peer_proto.specs.Ask.{ask_in}
 use Rattle.peer_service.specs.Fence.{epoch_refusal}
 use Rattle.sheep_node.specs.declared.input.Input.{Input}
 use Rattle.sheep_node.specs.declared.input.Input.TheVariants as inputs
-use Rattle.sheep_node.specs.declared.event.Event.{Event}
 use Rattle.sheep_node.specs.State.{Node}
 use Rattle.sheep_node.specs.StepState.{StepState}
 use Rattle.sheep_node.specs.StepFacts.{only_reply}
@@ -33,6 +33,7 @@ use Rattle.sheep_world.specs.Conditions.{may_deliver}
 use Rattle.sheep_world.specs.Messages.{request_got, request_delivered, delivered_as, message_delivered}
 use Rattle.sheep_world.specs.HistoryAdditions.{reply_grown, check_write_grown, check_write_by}
 use Rattle.sheep_world.specs.Step.{EventOutcome, step, delivery_made}
+use Rattle.sheep_world.specs.RunsWithAsks.{Move}
 use Rattle.overlap_law.specs.Words.{Hosts}
 use Rattle.overlap_law.specs.Past.{MomentWithPast, run_with_past}
 use Rattle.overlap_law.specs.Headline.{IsOfAnotherEpoch, ChangesNothing, OtherEpochsChangeNothing}
@@ -62,7 +63,8 @@ world_after_step-as_before script n input host rsp world =
 
 host-as_before : (script : List Statement) (n : ℕ) (input : Input) (o : Option Host) (node : Node) (rsp : PeerRsp) (world : World)
     → option_map (λ (s : Host). s.node) o ≡ Some node → node_step input node ≡ saying node rsp
-    → IsAsBefore input n node rsp (option_map_or (λ (host : Host). world_after_step script n input host (node_step input host.node) world) o world)
+    → IsAsBefore input n node rsp (option_map_or (λ (host : Host). world_after_step script n input host (node_step input host.node) world) o
+    world)
 host-as_before script n input None node rsp world found says_so = absurd (cc (found))
 host-as_before script n input (Some host) node rsp world found says_so =
     let same : host.node ≡ node = same_Some host.node node found in
@@ -79,20 +81,24 @@ unfolding node_stepped
 node-as_before script n input node rsp world found says_so =
     host-as_before script n input (tree.get world.hosts n) node rsp world found says_so
 
-got-as_before : (script : List Statement) (name : MessageName) (to : NodeId) (request : PeerReq) (node : Node) (rsp : PeerRsp) (world : World)
+got-as_before : (script : List Statement) (name : MessageName) (to : NodeId) (request : PeerReq) (node : Node) (rsp : PeerRsp)
+    (world : World)
     → node_at to.0 world ≡ Some node → node_step (inputs.Request request) node ≡ saying node rsp
     → IsAsBefore (inputs.Request request) to.0 node rsp (request_got script name to (Ok request) world)
 got-as_before script name to request node rsp world found says_so =
     let before = node-as_before script to.0 (inputs.Request request) node rsp world found says_so in
     record { stepped = before.stepped; said = before.said; same = before.same }
 
-message_delivered-as_before : (script : List Statement) (name : MessageName) (to : NodeId) (bytes : List ℕ) (request : PeerReq) (node : Node) (rsp : PeerRsp)
+message_delivered-as_before : (script : List Statement) (name : MessageName) (to : NodeId) (bytes : List ℕ) (request : PeerReq)
+    (node : Node) (rsp : PeerRsp)
     (world : World) → message_at name world ≡ Some (Request to bytes) → ask_in bytes ≡ Ok request → node_at to.0 world ≡ Some node
-    → node_step (inputs.Request request) node ≡ saying node rsp → IsAsBefore (inputs.Request request) to.0 node rsp (message_delivered script name world)
+    → node_step (inputs.Request request) node ≡ saying node rsp
+    → IsAsBefore (inputs.Request request) to.0 node rsp (message_delivered script name world)
 unfolding request_delivered
 message_delivered-as_before script name to bytes request node rsp world packet decoded found says_so =
     subst (λ (l : Option Packet). IsAsBefore (inputs.Request request) to.0 node rsp (delivered_as script name l world)) (sym packet)
-    (subst (λ (r : Result PeerReq PeerFault). IsAsBefore (inputs.Request request) to.0 node rsp (request_got script name to r (at_rest world))) (sym decoded)
+    (subst (λ (r : Result PeerReq PeerFault). IsAsBefore (inputs.Request request) to.0 node rsp
+    (request_got script name to r (at_rest world))) (sym decoded)
     (got-as_before script name to request node rsp (at_rest world) found says_so))
 
 made-same : (b : Bool) (one made : EventOutcome) → cond b (Some one) None ≡ Some made → one ≡ made
@@ -108,14 +114,16 @@ no_check_writes : (name : MessageName) (request : PeerReq) (before after : World
     → check_write_by name before after ≡ None
 unfolding check_write_on
 no_check_writes name request before after is =
-    ap (λ (input : Option Input). option_and_then (λ (input : Input). option_and_then (check_write_on input) (node_at name.sender.0 before)) input) is
+    ap (λ (input : Option Input). option_and_then (λ (input : Input). option_and_then (check_write_on input) (node_at name.sender.0 before))
+    input) is
     ∙ by_node (node_at name.sender.0 before)
   where
     by_node : (node : Option Node) → option_and_then (check_write_on (inputs.Request request)) node ≡ None
     by_node None = refl
     by_node (Some node) = refl
 
-refused-changes_nothing : (script : List Statement) (world : World) (name : MessageName) (to : NodeId) (node : Node) (request : PeerReq) (made : EventOutcome)
+refused-changes_nothing : (script : List Statement) (world : World) (name : MessageName) (to : NodeId) (node : Node) (request : PeerReq)
+    (made : EventOutcome)
     (refusal : Refusal) → IsOfAnotherEpoch script world name to node request made
     → epoch_refusal node.peer.epoch request.epoch.0 ≡ Some refusal
     → node_step (inputs.Request request) node ≡ saying node (refusing node request refusal)
@@ -123,7 +131,8 @@ refused-changes_nothing : (script : List Statement) (world : World) (name : Mess
 unfolding step
 refused-changes_nothing script world name to node request made refusal is why says_so =
     let before : IsAsBefore (inputs.Request request) to.0 node (refusing node request refusal) (message_delivered script name world)
-    = message_delivered-as_before script name to is.bytes request node (refusing node request refusal) world is.packet is.decoded is.asked says_so in
+    = message_delivered-as_before script name to is.bytes request node (refusing node request refusal) world is.packet is.decoded is.asked
+    says_so in
     let so : delivery_made script name world (message_delivered script name world) ≡ made
     = made-same (may_deliver name world) (delivery_made script name world (message_delivered script name world)) made is.delivered in
     subst (λ (m : EventOutcome). ChangesNothing to node request m) so
@@ -141,13 +150,15 @@ refused-changes_nothing script world name to node request made refusal is why sa
 
 pub older : (own requested : ℕ) → requested < own → epoch_refusal own requested ≡ Some (OldEpoch (record { 0 = own }))
 older own requested below =
-    ap (λ (b : Bool). cond b (Some (OldEpoch (record { 0 = own }))) (cond (nat_lt own requested) (Some (NewEpoch (record { 0 = own }))) None))
+    ap (λ (b : Bool). cond b (Some (OldEpoch (record { 0 = own })))
+    (cond (nat_lt own requested) (Some (NewEpoch (record { 0 = own }))) None))
     (lt-ltb requested own below)
 
 pub newer : (own requested : ℕ) → own < requested → epoch_refusal own requested ≡ Some (NewEpoch (record { 0 = own }))
 newer own requested above =
     let below : own ≤ requested = omega arith in
-    ap (λ (b : Bool). cond b (Some (OldEpoch (record { 0 = own }))) (cond (nat_lt own requested) (Some (NewEpoch (record { 0 = own }))) None))
+    ap (λ (b : Bool). cond b (Some (OldEpoch (record { 0 = own })))
+    (cond (nat_lt own requested) (Some (NewEpoch (record { 0 = own }))) None))
     (le-ltb requested own below)
     ∙ ap (λ (b : Bool). cond b (Some (NewEpoch (record { 0 = own }))) None) (lt-ltb own requested above)
 
@@ -173,6 +184,6 @@ other_epoch-changes_nothing script world rested name to node request made is =
     (newer_step request node (above-others node.peer.epoch request.epoch.0 is.another most) due))
     (cases_lt request.epoch.0 node.peer.epoch)
 
-pub run-changes_nothing : (script : List Statement) (all : List Event) (moment : MomentWithPast) → run_with_past script all ≡ Some moment
+pub run-changes_nothing : (script : List Statement) (all : List Move) (moment : MomentWithPast) → run_with_past script all ≡ Some moment
     → OtherEpochsChangeNothing script moment.world
 run-changes_nothing script all moment e = other_epoch-changes_nothing script moment.world (run-rested script all moment e)

@@ -1,5 +1,6 @@
 -- In every run in range the up are members, and what a node knows of epochs is by the entries of the log that it has read.
-use Rattle.std.proofs.Common.{◌≡◌, arith, ℕ, zero, suc, ◌≤◌, ◌==◌, Bool, true, false, ◌||◌, cond, List, [], ◌∷◌, ◌++◌, length, take, Some, refl, sym, ap, ◌∙◌}
+use Rattle.std.proofs.Common.{◌≡◌, arith, ℕ, zero, suc, ◌≤◌, ◌==◌, Bool, true, false, ◌||◌, cond, List, [], ◌∷◌, ◌++◌, length, take, Some}
+use Rattle.std.proofs.Common.{refl, sym, ap, ◌∙◌}
 use Rattle.std.proofs.Math.Seq.{take-append_seam}
 use Rattle.std.proofs.lemmas.Bool.{eqb-true}
 use Rattle.object_id.specs.declared.entry.Entry.{Entry}
@@ -7,7 +8,6 @@ use Rattle.epoch_log.specs.Epochs.{epoch_of, members_in, settled_of}
 use Rattle.epoch_log.proofs.EpochLemmas.{members_in-append, settled_of-begun, settled_of-append}
 use Rattle.vnode_table.specs.Epochs.{EpochMembers, is_entered, members_at}
 use Rattle.cluster_script.specs.declared.statement.Statement.{Statement}
-use Rattle.sheep_node.specs.declared.event.Event.{Event}
 use Rattle.sheep_node.specs.State.{Node}
 use Rattle.sheep_node.specs.LogReading.{epochs_up_to}
 use Rattle.sheep_node.specs.StepFacts.{epochs_of, IsByTheLog}
@@ -17,6 +17,7 @@ use Rattle.sheep_world.specs.LogFronts.{IsFront}
 use Rattle.sheep_world.proofs.LogAtOpening.{log-holds}
 use Rattle.sheep_world.proofs.LogFrontLaws.{all_read}
 use Rattle.sheep_world.proofs.NodesByTheLog.{by_the_log}
+use Rattle.sheep_world.specs.RunsWithAsks.{Move}
 use Rattle.overlap_law.specs.Past.{MomentWithPast, run_with_past}
 use Rattle.overlap_law.specs.MomentChanges.{RunsAreInRange}
 use Rattle.overlap_law.specs.NodeEpochs.{TheUpAreMembers, HasRead, NodesHaveRead, SettledIsRead}
@@ -34,7 +35,8 @@ members_there entries (suc most) epoch is = by_tie (suc most == epoch) refl is (
     by_tie : (b : Bool) → (suc most == epoch) ≡ b → (b || is_entered (epochs_up_to entries most) epoch) ≡ true
         → (is_entered (epochs_up_to entries most) epoch ≡ true
         → (epoch ≤ most) × (members_at (epochs_up_to entries most) epoch ≡ members_in entries epoch))
-        → (epoch ≤ suc most) × (cond b (members_in entries (suc most)) (members_at (epochs_up_to entries most) epoch) ≡ members_in entries epoch)
+        → (epoch ≤ suc most) × (cond b (members_in entries (suc most)) (members_at (epochs_up_to entries most) epoch)
+        ≡ members_in entries epoch)
     by_tie true tie is earlier = let same = eqb-true (suc most) epoch tie in (omega (arith, same), ap (members_in entries) same)
     by_tie false tie is earlier = let (below, so) = earlier is in (omega (arith, below), so)
 
@@ -61,7 +63,8 @@ has_read log node front follows = record {
   settled = follows.settled_so;
   members = λ epoch is.
       ap (λ (epochs : List EpochMembers). members_at epochs epoch) follows.epochs_so
-      ∙ members_read node.peer.entries front.rest epoch (ap (λ (epochs : List EpochMembers). is_entered epochs epoch) (sym follows.epochs_so) ∙ is)
+      ∙ members_read node.peer.entries front.rest epoch (ap (λ (epochs : List EpochMembers). is_entered epochs epoch)
+      (sym follows.epochs_so) ∙ is)
       ∙ ap (λ (all : List Entry). members_in all epoch) (sym front.is);
 }
 
@@ -69,12 +72,14 @@ has_read log node front follows = record {
 
 module _ (script : List Statement) (range : RunsAreInRange script) (world : World) (began : Began script world) where
   pub up_are_members : TheUpAreMembers world.log world.hosts
-  up_are_members = record { each = λ n host there up. ((log-holds script range.is_script range.room world began).well n host there).stands up }
+  up_are_members =
+      record { each = λ n host there up. ((log-holds script range.is_script range.room world began).well n host there).stands up }
 
   have_read : NodesHaveRead world.log world.hosts
   have_read = record {
     each = λ n host there.
-        has_read world.log host.node (all_read script world began n host there) (by_the_log script range.is_script range.room world began n host there);
+        has_read world.log host.node (all_read script world began n host there)
+        (by_the_log script range.is_script range.room world began n host there);
   }
 
   settled_is_read : SettledIsRead world.log world.hosts
@@ -83,7 +88,8 @@ module _ (script : List Statement) (range : RunsAreInRange script) (world : Worl
         let front = all_read script world began n host there in
         let own : host.node.peer.settled ≡ settled_of host.node.peer.entries
         = (by_the_log script range.is_script range.room world began n host there).settled_so in
-        let less : settled_of host.node.peer.entries ≤ settled_of (host.node.peer.entries ++ front.rest) = settled_less host.node.peer.entries front.rest in
+        let less : settled_of host.node.peer.entries ≤ settled_of (host.node.peer.entries ++ front.rest) = settled_less
+        host.node.peer.entries front.rest in
         let all : settled_of world.log ≡ settled_of (host.node.peer.entries ++ front.rest) = ap settled_of front.is in
         omega (arith, own, less, all);
     own = λ n host there.
@@ -94,7 +100,7 @@ module _ (script : List Statement) (range : RunsAreInRange script) (world : Worl
         omega (arith, settled, epoch, less);
   }
 
-module _ (script : List Statement) (range : RunsAreInRange script) (events : List Event) (moment : MomentWithPast)
+module _ (script : List Statement) (range : RunsAreInRange script) (events : List Move) (moment : MomentWithPast)
     (is : run_with_past script events ≡ Some moment) where
   pub members-in_run : TheUpAreMembers moment.world.log moment.world.hosts
   members-in_run = up_are_members script range moment.world (began-with_past script events moment is)

@@ -9,7 +9,6 @@ use Rattle.epoch_log.proofs.EpochLemmas.{epoch_of-append}
 use Rattle.cluster_script.specs.declared.statement.Statement.{Statement}
 use Rattle.peer_service.specs.State.{Peer}
 use Rattle.gateway.specs.State.{Work, Open}
-use Rattle.sheep_node.specs.declared.event.Event.{Event}
 use Rattle.sheep_node.specs.declared.input.Input.{Input}
 use Rattle.sheep_node.specs.State.{Node}
 use Rattle.sheep_node.specs.StepState.{StepState}
@@ -23,6 +22,7 @@ use Rattle.sheep_world.specs.Began.{Began}
 use Rattle.sheep_world.proofs.BegunWorlds.{goes_on}
 use Rattle.sheep_world.proofs.LogFrontLaws.{all_read}
 use Rattle.sheep_world.proofs.NodesByTheLog.{by_the_log}
+use Rattle.sheep_world.specs.RunsWithAsks.{Move}
 use Rattle.overlap_law.specs.Attempts.{AttemptRecord, MessageFate, beginning_with}
 use Rattle.overlap_law.specs.Past.{MomentWithPast, run_with_past}
 use Rattle.overlap_law.specs.StepMoments.{SteppingNode, IsStepping, StepsByChanges, last_in_step, IsWithinStep, attempts_of_change}
@@ -38,7 +38,8 @@ use Rattle.overlap_law.proofs.RunsByChanges.{run-kept}
 abbrev IsUpTo : ℕ → AttemptRecord → Type 0
 IsUpTo most attempt = attempt.epoch ≤ most
 
-up_told : (most : ℕ) (attempt : AttemptRecord) (fates : List MessageFate) → IsUpTo most attempt → IsUpTo most (record attempt { fates = fates })
+up_told : (most : ℕ) (attempt : AttemptRecord) (fates : List MessageFate) → IsUpTo most attempt
+    → IsUpTo most (record attempt { fates = fates })
 up_told most attempt fates is = is
 
 -- the log doesn't fall behind
@@ -54,7 +55,8 @@ module _ (host : Host) (most : ℕ) where
       → AllAttempts (IsUpTo most) (option_to_list
       (beginning_with (host_with_node host lined.node) lined.node.sends req asked.work (Open (attempt_in asked lined.node))))
   opened_up req asked lined below j attempt got =
-      let (request, there, same) = begun-is (host_with_node host lined.node) lined.node.sends req asked.work (attempt_in asked lined.node) j attempt got in
+      let (request, there, same) = begun-is (host_with_node host lined.node) lined.node.sends req asked.work (attempt_in asked lined.node) j
+      attempt got in
       subst (IsUpTo most) same below
 
   none_up : AllAttempts (IsUpTo most) []
@@ -80,7 +82,8 @@ module _ (host : Host) (most : ℕ) where
 
 module _ (script : List Statement) (range : RunsAreInRange script) where
   -- a node is in no later epoch than the log
-  node_behind : (world : World) → Began script world → (n : ℕ) (host : Host) → tree.get world.hosts n ≡ Some host → host.node.peer.epoch ≤ epoch_of world.log
+  node_behind : (world : World) → Began script world → (n : ℕ) (host : Host) → tree.get world.hosts n ≡ Some host
+      → host.node.peer.epoch ≤ epoch_of world.log
   node_behind world began n host there =
       let front = all_read script world began n host there in
       let own = (by_the_log script range.is_script range.room world began n host there).epoch_so in
@@ -89,7 +92,8 @@ module _ (script : List Statement) (range : RunsAreInRange script) where
 
   module _ (start : MomentWithPast) (began : Began script start.world) where
     -- nor in the middle of its step
-    pub behind_so_far : (stepping : SteppingNode) (so_far next : StepState) → IsStepping script start.world stepping → StepsByChanges stepping.cause
+    pub behind_so_far : (stepping : SteppingNode) (so_far next : StepState) → IsStepping script start.world stepping
+        → StepsByChanges stepping.cause
         → IsWithinStep stepping so_far next → next.node.peer.epoch ≤ epoch_of (log_after_cause stepping.cause start.world.log)
     behind_so_far stepping so_far next is by within =
         let made = world_after_cause script stepping.n stepping.host stepping.cause start.world in
@@ -97,13 +101,15 @@ module _ (script : List Statement) (range : RunsAreInRange script) where
         let then = goes_on script (event_of_cause stepping.n stepping.cause) start.world
         (outcome_of_step script stepping.n stepping.host stepping.cause start.world) began is.made in
         let end : last.node.peer.epoch ≤ epoch_of (log_after_cause stepping.cause start.world.log)
-        = node_behind made then stepping.n (host_with_node stepping.host last.node) (get-insert_same start.world.hosts stepping.n (host_with_node stepping.host last.node)) in
+        = node_behind made then stepping.n (host_with_node stepping.host last.node)
+        (get-insert_same start.world.hosts stepping.n (host_with_node stepping.host last.node)) in
         let same : next.node.peer ≡ last.node.peer
         = same_so_far script range start began stepping next (changes.Then within.leads within.change)
         ∙ sym (step_peer (input_of_cause stepping.cause) stepping.host.node) in
         subst (λ (peer : Peer). peer.epoch ≤ epoch_of (log_after_cause stepping.cause start.world.log)) (sym same) end
 
-    pub change_begun : {before after : MomentWithPast} → MomentChange script start before after → AttemptsHaveBegun before.world.log before.past.attempts
+    pub change_begun : {before after : MomentWithPast} → MomentChange script start before after
+        → AttemptsHaveBegun before.world.log before.past.attempts
         → AttemptsHaveBegun after.world.log after.past.attempts
     change_begun {before} {after} change begun =
         let most = epoch_of after.world.log in
@@ -125,6 +131,6 @@ module _ (script : List Statement) (range : RunsAreInRange script) where
     keeps = λ start before after began change begun. change_begun start began change begun;
   }
 
-  pub begun_in_run : (events : List Event) (moment : MomentWithPast) → run_with_past script events ≡ Some moment
+  pub begun_in_run : (events : List Move) (moment : MomentWithPast) → run_with_past script events ≡ Some moment
       → AttemptsHaveBegun moment.world.log moment.past.attempts
   begun_in_run events moment is = run-kept script HaveBegun kept_begun events moment is

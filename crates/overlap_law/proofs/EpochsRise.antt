@@ -1,5 +1,6 @@
 -- A node's epoch never falls over a change of a moment: what the node has read only grows, and its epoch is that of what it has read.
-use Rattle.std.proofs.Common.{◌≡◌, ◌≢◌, ⊎_elim, arith, ℕ, ◌+◌, ◌≤◌, false, List, [], ◌∷◌, ◌++◌, filter, length, Some, is_some, sym, ap, subst, refl, ◌∙◌, append_assoc, append-nil}
+use Rattle.std.proofs.Common.{◌≡◌, ◌≢◌, ⊎_elim, arith, ℕ, ◌+◌, ◌≤◌, false, List, [], ◌∷◌, ◌++◌, filter, length, Some, is_some, sym, ap}
+use Rattle.std.proofs.Common.{subst, refl, ◌∙◌, append_assoc, append-nil}
 use Rattle.std.specs.FinMap as tree
 use Rattle.std.proofs.lemmas.Bool.{cases_eq}
 use Rattle.std.proofs.lemmas.Option.{same_Some}
@@ -21,7 +22,8 @@ use Rattle.sheep_node.specs.Changes as changes
 use Rattle.sheep_world.specs.World.{Host, World, host_at}
 use Rattle.sheep_world.specs.Step.{EventOutcome}
 use Rattle.sheep_world.specs.MembershipChanges.{lost_host, join_of, last_weight}
-use Rattle.sheep_world.specs.NodeCauses.{NodeCause, GuestAsks, RequestComes, ReplyComes, LossIsTold, EntryIsRead, EntryIsPut, RecoveryTicks, WorkIsRetried, input_of_cause, event_of_cause, host_with_node, world_after_cause}
+use Rattle.sheep_world.specs.NodeCauses.{NodeCause, GuestAsks, RequestComes, ReplyComes, LossIsTold, EntryIsRead, EntryIsPut, RecoveryTicks}
+use Rattle.sheep_world.specs.NodeCauses.{WorkIsRetried, ClientAsks, input_of_cause, event_of_cause, host_with_node, world_after_cause}
 use Rattle.sheep_world.specs.EventKinds.{log_after_return, outcome_of_step}
 use Rattle.sheep_world.specs.HostChanges.{host_after_return, joined_host}
 use Rattle.sheep_world.specs.Began.{Began}
@@ -84,6 +86,7 @@ read_more (EntryIsRead entry) = entry ∷ []
 read_more (EntryIsPut entry) = []
 read_more RecoveryTicks = []
 read_more WorkIsRetried = []
+read_more (ClientAsks req ask) = []
 
 pub read_with_more : (cause : NodeCause) (read : List Entry) → read_after (input_of_cause cause) read ≡ read ++ read_more cause
 read_with_more (GuestAsks session req ask) read = sym (append-nil read)
@@ -94,6 +97,7 @@ read_with_more (EntryIsRead entry) read = refl
 read_with_more (EntryIsPut entry) read = sym (append-nil read)
 read_with_more RecoveryTicks read = sym (append-nil read)
 read_with_more WorkIsRetried read = sym (append-nil read)
+read_with_more (ClientAsks req ask) read = sym (append-nil read)
 
 -- a node that has read more is in no earlier epoch
 rises_by_reading : (old new : Node) (more : List Entry) → IsByTheLog old → IsByTheLog new → new.peer.entries ≡ old.peer.entries ++ more
@@ -105,15 +109,16 @@ rises_by_reading old new more by_old by_new reads =
     omega (arith, was, now)
 
 -- over a whole step
-pub stepped_rises : (script : List Statement) (range : RunsAreInRange script) (world : World) (began : Began script world) (n : ℕ) (host : Host)
+pub stepped_rises : (script : List Statement) (range : RunsAreInRange script) (world : World) (began : Began script world) (n : ℕ)
+    (host : Host)
     (cause : NodeCause) → host_at n world ≡ Some host → Began script (world_after_cause script n host cause world)
     → host.node.peer.epoch ≤ (node_step (input_of_cause cause) host.node).node.peer.epoch
 stepped_rises script range world began n host cause there next =
     let after = host_with_node host (node_step (input_of_cause cause) host.node).node in
     rises_by_reading host.node after.node (read_more cause)
     (by_the_log script range.is_script range.room world began n host there)
-    (by_the_log script range.is_script range.room (world_after_cause script n host cause world) next n after (get-insert_same world.hosts n after))
-    (step_reads (input_of_cause cause) host.node ∙ read_with_more cause host.node.peer.entries)
+    (by_the_log script range.is_script range.room (world_after_cause script n host cause world) next n after
+    (get-insert_same world.hosts n after)) (step_reads (input_of_cause cause) host.node ∙ read_with_more cause host.node.peer.entries)
 
 module _ (script : List Statement) (range : RunsAreInRange script) (start : MomentWithPast) (began : Began script start.world) where
   pub step_rises : (stepping : SteppingNode) → IsStepping script start.world stepping
@@ -127,7 +132,8 @@ module _ (script : List Statement) (range : RunsAreInRange script) (start : Mome
   pub first_rises : (stepping : SteppingNode) → IsStepping script start.world stepping
       → stepping.host.node.peer.epoch ≤ (first_in_step stepping).node.peer.epoch
   first_rises stepping is =
-      subst (λ (peer : Peer). stepping.host.node.peer.epoch ≤ peer.epoch) (step_peer (input_of_cause stepping.cause) stepping.host.node) (step_rises stepping is)
+      subst (λ (peer : Peer). stepping.host.node.peer.epoch ≤ peer.epoch) (step_peer (input_of_cause stepping.cause) stepping.host.node)
+      (step_rises stepping is)
 
   pub same_so_far : (stepping : SteppingNode) (so_far : StepState) → LeadsInStep stepping (first_in_step stepping) so_far
       → so_far.node.peer ≡ (first_in_step stepping).node.peer
@@ -144,7 +150,8 @@ module _ (script : List Statement) (range : RunsAreInRange script) (start : Mome
       (sym (insert-insert start.world.hosts stepping.n was now)) (get-insert_same start.world.hosts stepping.n was)
       (subst (λ (peer : Peer). so_far.node.peer.epoch ≤ peer.epoch) same (no_earlier so_far.node.peer.epoch))
 
-  pub epochs_rise : {before after : MomentWithPast} → MomentChange script start before after → EpochsRise before.world.hosts after.world.hosts
+  pub epochs_rise : {before after : MomentWithPast} → MomentChange script start before after
+      → EpochsRise before.world.hosts after.world.hosts
   epochs_rise (moments.StepBegins stepping is by) =
       one_rises start.world.hosts (hosts_in_step stepping start.world (first_in_step stepping)) stepping.n stepping.host
       (host_with_node stepping.host (first_in_step stepping).node) refl is.there (first_rises stepping is)
@@ -157,7 +164,8 @@ module _ (script : List Statement) (range : RunsAreInRange script) (start : Mome
   epochs_rise {before} {after} (moments.DeliveryIsUnread event made happened h) =
       same_rise before.world.hosts after.world.hosts (ap (λ (m : EventOutcome). m.world.hosts) (sym h.made_so))
   epochs_rise {before} {after} (moments.NodeIsLost event made happened h) =
-      one_rises before.world.hosts after.world.hosts h.n h.host (lost_host h.host) (ap (λ (m : EventOutcome). m.world.hosts) (sym h.made_so)) h.there
+      one_rises before.world.hosts after.world.hosts h.n h.host (lost_host h.host)
+      (ap (λ (m : EventOutcome). m.world.hosts) (sym h.made_so)) h.there
       (no_earlier h.host.node.peer.epoch)
   epochs_rise {before} {after} (moments.NodeLeaves event made happened h) =
       same_rise before.world.hosts after.world.hosts (ap (λ (m : EventOutcome). m.world.hosts) (sym h.made_so))

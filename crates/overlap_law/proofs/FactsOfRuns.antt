@@ -4,7 +4,6 @@ use Rattle.std.proofs.lemmas.Bool.{and_parts}
 use Rattle.object_id.specs.declared.entry.Entry.{Entry}
 use Rattle.cluster_script.specs.declared.statement.Statement.{Statement}
 use Rattle.epoch_log.specs.Epochs.{settled_of}
-use Rattle.sheep_node.specs.declared.event.Event.{Event}
 use Rattle.overlap_law.specs.Contents.{RowContents, AttemptsStand}
 use Rattle.overlap_law.specs.Facts.{EachGood, HoldersOfTheBase, CompleteLists, LostGatewaysAreFenced, MeetsFacts}
 use Rattle.overlap_law.specs.FirstCreates.{CreatesAlwaysComeFirst}
@@ -28,12 +27,13 @@ use Rattle.overlap_law.proofs.NoRecoveredDue.{began-with_past}
 use Rattle.overlap_law.proofs.OverlapLemmas.{complete_lists, gives-complete}
 use Rattle.overlap_law.proofs.TablesOfRuns.{copies-in_run}
 use Rattle.overlap_law.proofs.StandingAttempts.{stand, gives-stand}
+use Rattle.sheep_world.specs.RunsWithAsks.{Move}
 
 -- what is live was born
 live-born : (log : List Entry) (attempts : List AttemptRecord) (oid : ℕ) → is_live_object log attempts oid ≡ true → IsBorn attempts oid
 live-born log attempts oid is = (and_parts (is_object_among oid (born_objects attempts)) (not (is_dead_by_log log oid)) is).0
 
-module _ (script : List Statement) (range : RunsAreInRange script) (events : List Event) (moment : MomentWithPast)
+module _ (script : List Statement) (range : RunsAreInRange script) (events : List Move) (moment : MomentWithPast)
     (is : run_with_past script events ≡ Some moment) where
   so_far : IsKeptSoFar script moment
   so_far = kept_so_far script range events moment is

@@ -1,6 +1,7 @@
 -- Where a node's step ends a level with too few rows, there are rows of fewer indexes than a read needs, if what the search was told of
 -- rows is so: it was told by each node that the level was asked of.
-use Rattle.std.proofs.Common.{◌≡◌, inl, inr, ⊎_elim, arith, ℕ, ◌≤◌, ◌<◌, ◌&&◌, not, Bool, true, false, List, length, filter_map, Contains, Option, Some, None, option_map, refl, sym, ap, subst, ◌∙◌}
+use Rattle.std.proofs.Common.{◌≡◌, inl, inr, ⊎_elim, arith, ℕ, ◌≤◌, ◌<◌, ◌&&◌, not, Bool, true, false, List, length, filter_map, Contains}
+use Rattle.std.proofs.Common.{Option, Some, None, option_map, refl, sym, ap, subst, ◌∙◌}
 use Rattle.std.specs.FinMap as tree
 use Rattle.std.proofs.lemmas.Option.{same_Some}
 use Rattle.object_id.specs.declared.entry.Entry.{Entry}
@@ -26,15 +27,16 @@ use Rattle.recovery.specs.Shown.{own_row}
 use Rattle.recovery.specs.State.{Message, Search, RecoveryState, search_on}
 use Rattle.recovery.proofs.FoundLemmas.{live_known}
 use Rattle.message_wire.specs.Message.{message_name}
-use Rattle.sheep_node.specs.declared.event.Event.{Event}
 use Rattle.sheep_node.specs.declared.input.Input.{Input}
 use Rattle.sheep_node.specs.declared.input.Input.TheVariants as inputs
 use Rattle.sheep_node.specs.RecoveryView.{shown_node, recovery_state_of}
 use Rattle.sheep_node.specs.StepState.{at_first}
 use Rattle.sheep_node.specs.Changes.{input_received}
 use Rattle.sheep_world.specs.Began.{Began}
-use Rattle.sheep_world.specs.NodeCauses.{NodeCause, GuestAsks, RequestComes, ReplyComes, LossIsTold, EntryIsRead, EntryIsPut, RecoveryTicks, WorkIsRetried, input_of_cause, IsCause}
+use Rattle.sheep_world.specs.NodeCauses.{NodeCause, GuestAsks, RequestComes, ReplyComes, LossIsTold, EntryIsRead, EntryIsPut, RecoveryTicks}
+use Rattle.sheep_world.specs.NodeCauses.{WorkIsRetried, ClientAsks, input_of_cause, IsCause}
 use Rattle.sheep_world.specs.World.{Host, World, is_host_up}
+use Rattle.sheep_world.specs.RunsWithAsks.{Move}
 use Rattle.overlap_law.specs.Each.{has_reached, policy_in, spec_in}
 use Rattle.overlap_law.specs.Holders.{targets_by}
 use Rattle.overlap_law.specs.MomentChanges.{MomentTrail, RunsAreInRange}
@@ -53,7 +55,8 @@ use Rattle.overlap_law.proofs.FirstSearchesInRuns.{in_order-in_world}
 use Rattle.overlap_law.proofs.GrantedEpochs.{spec_stays}
 use Rattle.overlap_law.proofs.HeardReplies.{IsHeardReply, heard_reply, at_level, heard_among, heard_from, heard_epoch}
 use Rattle.overlap_law.proofs.HeldLevels.{members_came}
-use Rattle.overlap_law.proofs.LevelsAskedInRuns.{AskedHold, asked_hold, own_recovery, on_levels, next_levels, places_of, targets_of_level, may_ask}
+use Rattle.overlap_law.proofs.LevelsAskedInRuns.{AskedHold, asked_hold, own_recovery, on_levels, next_levels, places_of, targets_of_level}
+use Rattle.overlap_law.proofs.LevelsAskedInRuns.{may_ask}
 use Rattle.overlap_law.proofs.NumberedMessages.{node_knows}
 use Rattle.overlap_law.proofs.LackedOnTheWay.{of_each_run}
 use Rattle.overlap_law.proofs.NoRowsStand.{NoRowsHold, kept_no_rows, no_rows_true-on_the_way}
@@ -81,8 +84,9 @@ reply_in (EntryIsRead entry) say is = absurd (cc (is))
 reply_in (EntryIsPut entry) say is = absurd (cc (is))
 reply_in RecoveryTicks say is = absurd (cc (is))
 reply_in WorkIsRetried say is = absurd (cc (is))
+reply_in (ClientAsks req ask) say is = absurd (cc (is))
 
-module _ (script : List Statement) (range : RunsAreInRange script) (events : List Event) (start before : MomentWithPast)
+module _ (script : List Statement) (range : RunsAreInRange script) (events : List Move) (start before : MomentWithPast)
     (is : run_with_past script events ≡ Some start) (trail : MomentTrail script start before) where
   asks_hold : AskedHold before
   asks_hold = asked_hold script range events start before is trail

@@ -1,5 +1,6 @@
 -- Every attempt of a run has a fate for each of its targets: the begun ones have, and what is told of a message keeps it so.
-use Rattle.std.proofs.Common.{◌≡◌, ℕ, zero, suc, ◌-◌, ◌&&◌, Bool, true, false, cond, List, [], ◌∷◌, ◌++◌, length, map, Option, Some, None, refl, sym, ap, ◌∙◌, subst}
+use Rattle.std.proofs.Common.{◌≡◌, ℕ, zero, suc, ◌-◌, ◌&&◌, Bool, true, false, cond, List, [], ◌∷◌, ◌++◌, length, map, Option, Some, None}
+use Rattle.std.proofs.Common.{refl, sym, ap, ◌∙◌, subst}
 use Rattle.std.specs.List.{filter_map, cons_option, AllByRecursion}
 use Rattle.std.specs.Option.{option_map, option_and_then, option_map_or}
 use Rattle.std.specs.FinMap as tree
@@ -20,8 +21,11 @@ use Rattle.message_wire.specs.declared.name.MessageName.{MessageName}
 use Rattle.message_wire.specs.declared.packet.Packet.TheVariants as packets
 use Rattle.message_wire.specs.declared.packet.Packet.{Packet}
 use Rattle.sheep_world.specs.World.{Host, World, host_at, message_at}
-use Rattle.sheep_world.specs.Step.{EventOutcome, step}
-use Rattle.overlap_law.specs.Attempts.{MessageFate, Flying, Doomed, AttemptRecord, has_message, fates_with, attempt_with_fate, attempts_with_fate, fate_of_say, beginning, is_first, beginning_with, attempt_begun_with, numbers_given, attempts_begun_by}
+use Rattle.sheep_world.specs.Step.{EventOutcome}
+use Rattle.sheep_world.specs.RunsWithAsks.{Move, made_by, event_of_move}
+use Rattle.overlap_law.specs.Attempts.{MessageFate, Flying, Doomed, AttemptRecord, has_message, fates_with, attempt_with_fate}
+use Rattle.overlap_law.specs.Attempts.{attempts_with_fate, fate_of_say, beginning, is_first, beginning_with, attempt_begun_with}
+use Rattle.overlap_law.specs.Attempts.{numbers_given, attempts_begun_by}
 use Rattle.overlap_law.specs.BegunAttempts.{attempts_begun_in, attempts_begun, attempts_after_delivery, attempts_after}
 use Rattle.overlap_law.specs.Past.{MomentWithPast, past_after_event, moment_after, run_on, first_moment, run_with_past}
 
@@ -83,7 +87,8 @@ found-has : (host : Host) (number : ℕ) (found : Option (ℕ × Work))
 found-has host number None = tt
 found-has host number (Some entry) = begins-has host number entry.0 entry.1.work entry.1.stage
 
-added_have : (o : Option AttemptRecord) (attempts : List AttemptRecord) → MayHave o → HaveFates attempts → HaveFates (cons_option o attempts)
+added_have : (o : Option AttemptRecord) (attempts : List AttemptRecord) → MayHave o → HaveFates attempts
+    → HaveFates (cons_option o attempts)
 added_have None attempts has have = have
 added_have (Some attempt) attempts has have = (has, have)
 
@@ -102,15 +107,18 @@ in-have (Some old) (Some new) = numbers-have new (numbers_given old.node new.nod
 attempts_begun-have : (node : ℕ) (old new : World) → HaveFates (attempts_begun node old new)
 attempts_begun-have node old new = in-have (host_at node old) (host_at node new)
 
-for-have : (session : Option ScriptSession) (old new : World) → HaveFates (option_map_or (λ (asking : ScriptSession). attempts_begun asking.node old new) session [])
+for-have : (session : Option ScriptSession) (old new : World)
+    → HaveFates (option_map_or (λ (asking : ScriptSession). attempts_begun asking.node old new) session [])
 for-have None old new = tt
 for-have (Some session) old new = attempts_begun-have session.node old new
 
-attempts_after_delivery-have : (packet : Option Packet) (name : MessageName) (old new : World) (attempts : List AttemptRecord) → HaveFates attempts
+attempts_after_delivery-have : (packet : Option Packet) (name : MessageName) (old new : World) (attempts : List AttemptRecord)
+    → HaveFates attempts
     → HaveFates (attempts_after_delivery packet name old new attempts)
 attempts_after_delivery-have None name old new attempts have = have
 attempts_after_delivery-have (Some (packets.Request to bytes)) name old new attempts have =
-    attempts_with_fate-have (option_map_or (λ (rsp : PeerRsp). fate_of_say rsp.say) new.outputs.say Flying) name.sender name.number attempts have
+    attempts_with_fate-have (option_map_or (λ (rsp : PeerRsp). fate_of_say rsp.say) new.outputs.say Flying) name.sender name.number attempts
+    have
 attempts_after_delivery-have (Some (packets.Reply from bytes)) name old new attempts have =
     both-have attempts (attempts_begun name.sender.0 old new) have (attempts_begun-have name.sender.0 old new)
 
@@ -118,12 +126,14 @@ event-has : (script : List Statement) (event : Event) (old new : World) (attempt
     → HaveFates (attempts_after script event old new attempts)
 unfolding attempts_after
 event-has script (Guest session) old new attempts have =
-    both-have attempts (option_map_or (λ (asking : ScriptSession). attempts_begun asking.node old new) (session_numbered script session) []) have
-    (for-have (session_numbered script session) old new)
+    both-have attempts (option_map_or (λ (asking : ScriptSession). attempts_begun asking.node old new) (session_numbered script session) [])
+    have (for-have (session_numbered script session) old new)
 event-has script (Deliver node number) old new attempts have =
-    attempts_after_delivery-have (message_at (record { sender = node; number = number }) old) (record { sender = node; number = number }) old new attempts have
+    attempts_after_delivery-have (message_at (record { sender = node; number = number }) old) (record { sender = node; number = number })
+    old new attempts have
 event-has script (LoseRequest node number) old new attempts have =
-    both-have (attempts_with_fate Doomed node number attempts) (attempts_begun node.0 old new) (attempts_with_fate-have Doomed node number attempts have) (attempts_begun-have node.0 old new)
+    both-have (attempts_with_fate Doomed node number attempts) (attempts_begun node.0 old new)
+    (attempts_with_fate-have Doomed node number attempts have) (attempts_begun-have node.0 old new)
 event-has script (LoseReply node number) old new attempts have =
     both-have attempts (attempts_begun node.0 old new) have (attempts_begun-have node.0 old new)
 event-has script (LogNext node) old new attempts have =
@@ -137,28 +147,29 @@ pub moment-has : (script : List Statement) (event : Event) (moment : MomentWithP
 unfolding past_after_event
 moment-has script event moment made have = event-has script event moment.world made.world moment.past.attempts have
 
-along-has : (script : List Statement) (event : Event) (events : List Event) (first last : MomentWithPast) → HaveFates first.past.attempts
+along-has : (script : List Statement) (event : Move) (events : List Move) (first last : MomentWithPast) → HaveFates first.past.attempts
     → ((next : MomentWithPast) → HaveFates next.past.attempts → run_on script next events ≡ Some last → HaveFates last.past.attempts)
     → (o : Option EventOutcome)
-    → option_and_then (λ (next : MomentWithPast). run_on script next events) (option_map (moment_after script event first) o) ≡ Some last
+    → option_and_then (λ (next : MomentWithPast). run_on script next events)
+    (option_map (moment_after script (event_of_move event) first) o) ≡ Some last
     → HaveFates last.past.attempts
 along-has script event events first last have later None e = absurd (cc)
 along-has script event events first last have later (Some made) e =
-    later (moment_after script event first made) (moment-has script event first made have) e
+    later (moment_after script (event_of_move event) first made) (moment-has script (event_of_move event) first made have) e
 
 same-some : (one two : MomentWithPast) → Some one ≡ Some two → one ≡ two
 same-some one two e = cc
 
-run_on-has : (script : List Statement) (events : List Event) (first last : MomentWithPast) → HaveFates first.past.attempts
+run_on-has : (script : List Statement) (events : List Move) (first last : MomentWithPast) → HaveFates first.past.attempts
     → run_on script first events ≡ Some last → HaveFates last.past.attempts
 unfolding run_on
 run_on-has script [] first last have e = subst (λ (m : MomentWithPast). HaveFates m.past.attempts) (same-some first last e) have
 run_on-has script (event ∷ events) first last have e = along-has
     script event events first last have
-    (λ (next : MomentWithPast) (has : HaveFates next.past.attempts) (h : run_on script next events ≡ Some last). run_on-has script events next last has h)
-    (step script event first.world) e
+    (λ (next : MomentWithPast) (has : HaveFates next.past.attempts) (h : run_on script next events ≡ Some last). run_on-has script events
+    next last has h) (made_by script event first.world) e
 
-pub run-has_fates : (script : List Statement) (events : List Event) (moment : MomentWithPast) → run_with_past script events ≡ Some moment
+pub run-has_fates : (script : List Statement) (events : List Move) (moment : MomentWithPast) → run_with_past script events ≡ Some moment
     → HaveFates moment.past.attempts
 unfolding run_with_past
 run-has_fates script events moment e = run_on-has script events (first_moment script) moment tt e

@@ -1,6 +1,7 @@
 -- Few losses leave enough live holders: targets are different members, so no more of them than of the members don't count, and as many as a
 -- read needs are left.
-use Rattle.std.proofs.Common.{◌≡◌, ◌≢◌, arith, ℕ, zero, suc, ◌+◌, ◌-◌, ◌≤◌, ◌<◌, max, not, Bool, true, false, cond, List, [], ◌∷◌, length, map, filter, Contains, inl, inr, Option, Some, None, refl, sym, ap, subst, ◌∙◌}
+use Rattle.std.proofs.Common.{◌≡◌, ◌≢◌, arith, ℕ, zero, suc, ◌+◌, ◌-◌, ◌≤◌, ◌<◌, max, not, Bool, true, false, cond, List, [], ◌∷◌, length}
+use Rattle.std.proofs.Common.{map, filter, Contains, inl, inr, Option, Some, None, refl, sym, ap, subst, ◌∙◌}
 use Rattle.std.specs.Prelude.{nat_eq}
 use Rattle.std.specs.List.{list_all, range_with_len, AllByRecursion, IsDistinct}
 use Rattle.std.specs.Option.{option_map_or}
@@ -9,7 +10,8 @@ use Rattle.std.proofs.lemmas.Bool.{eqb-true, eq-eqb, ne_eqb, and_from, le-leb}
 use Rattle.std.proofs.lemmas.List.{length-map}
 use Rattle.std.proofs.lemmas.List.Filters.{length-filter_both}
 use Rattle.std.proofs.lemmas.Map.Made.{length-le_from_is_member, is_member-Decides}
-use Rattle.proof_tools.proofs.Lists.{Contains-nil, Contains-head, Contains-cons, Contains-cons_cases, Contains-map, Contains-filter, filter-contains}
+use Rattle.proof_tools.proofs.Lists.{Contains-nil, Contains-head, Contains-cons, Contains-cons_cases, Contains-map, Contains-filter}
+use Rattle.proof_tools.proofs.Lists.{filter-contains}
 use Rattle.object_id.specs.declared.node.NodeId.{NodeId}
 use Rattle.object_id.specs.declared.entry.Entry.{Entry}
 use Rattle.object_id.specs.declared.entry.Member.{Member}
@@ -36,7 +38,8 @@ number node = node.0
 others : (p : NodeId → Bool) (first : NodeId) (nodes : List NodeId) → ((node : NodeId) → Contains nodes node → first ≢ node)
     → AllByRecursion (λ y. nat_eq first.0 y ≡ false) (map number (filter p nodes))
 others p first [] apart = tt
-others p first (node ∷ nodes) apart = by_test (p node) (others p first nodes (λ other there. apart other (Contains-cons node nodes other there)))
+others p first (node ∷ nodes) apart =
+    by_test (p node) (others p first nodes (λ other there. apart other (Contains-cons node nodes other there)))
   where
     by_test : (b : Bool) → AllByRecursion (λ y. nat_eq first.0 y ≡ false) (map number (filter p nodes))
         → AllByRecursion (λ y. nat_eq first.0 y ≡ false) (map number (cond b (node ∷ filter p nodes) (filter p nodes)))

@@ -14,10 +14,11 @@ use Rattle.disk_history.specs.declared.event.HistEvent.{HistEvent}
 use Rattle.disk_history.specs.Legal.{IsLegal}
 use Rattle.sheep_node.specs.declared.event.Event.{Event}
 use Rattle.sheep_world.specs.Began.{Began}
-use Rattle.sheep_world.specs.Step.{EventOutcome, step}
+use Rattle.sheep_world.specs.RunsWithAsks.{Move, made_by, event_of_move}
+use Rattle.sheep_world.specs.Step.{EventOutcome}
 use Rattle.sheep_world.specs.Incarnations.{incarnations_after}
 use Rattle.sheep_world.specs.World.{World}
-use Rattle.sheep_world.proofs.BegunWorlds.{goes_on}
+use Rattle.sheep_world.proofs.BegunWorlds.{moves_on}
 use Rattle.sheep_world.proofs.LogAtOpening.{log-holds}
 use Rattle.overlap_law.specs.Attempts.{AttemptRecord}
 use Rattle.overlap_law.specs.BegunAttempts.{attempts_after}
@@ -73,7 +74,7 @@ module _ (by : NodeId → ℕ → Bool) (log : List Entry) (attempts : List Atte
   unfolding unavailable_in
   none_unavailable = none_left (lacks_holders by log attempts) (born_objects attempts) none_lacks
 
--- ---- one event
+-- ---- one move
 
 module _ (script : List Statement) (range : RunsAreInRange script) where
   one_more : (event : Event) (first : MomentWithPast) (made : EventOutcome) → Began script made.world → first.past.unavailable ≡ []
@@ -90,59 +91,63 @@ module _ (script : List Statement) (range : RunsAreInRange script) where
 
   -- ---- so in a run
 
-  abbrev AreFewOn : MomentWithPast → List Event → Type 0
-  AreFewOn first events = (earlier later : List Event) (moment : MomentWithPast) → events ≡ earlier ++ later
+  abbrev AreFewOn : MomentWithPast → List Move → Type 0
+  AreFewOn first moves = (earlier later : List Move) (moment : MomentWithPast) → moves ≡ earlier ++ later
       → run_on script first earlier ≡ Some moment → LossesAreFewAt moment
 
-  module _ (event : Event) (events : List Event) (first last : MomentWithPast) (began : Began script first.world)
-      (none : first.past.unavailable ≡ []) (few : AreFewOn first (event ∷ events))
-      (later : (next : MomentWithPast) → Began script next.world → next.past.unavailable ≡ [] → AreFewOn next events
-      → run_on script next events ≡ Some last → last.past.unavailable ≡ []) where
-    goes : (made : EventOutcome) → step script event first.world ≡ Some made → (earlier : List Event) (moment : MomentWithPast)
-        → run_on script (moment_after script event first made) earlier ≡ Some moment → run_on script first (event ∷ earlier) ≡ Some moment
+  -- the moment after a move that makes this
+  abbrev moment_moved : Move → MomentWithPast → EventOutcome → MomentWithPast
+  moment_moved move first made = moment_after script (event_of_move move) first made
+
+  module _ (move : Move) (moves : List Move) (first last : MomentWithPast) (began : Began script first.world)
+      (none : first.past.unavailable ≡ []) (few : AreFewOn first (move ∷ moves))
+      (later : (next : MomentWithPast) → Began script next.world → next.past.unavailable ≡ [] → AreFewOn next moves
+      → run_on script next moves ≡ Some last → last.past.unavailable ≡ []) where
+    goes : (made : EventOutcome) → made_by script move first.world ≡ Some made → (earlier : List Move) (moment : MomentWithPast)
+        → run_on script (moment_moved move first made) earlier ≡ Some moment → run_on script first (move ∷ earlier) ≡ Some moment
     unfolding run_on
     goes made is earlier moment there =
         ap (λ (o : Option EventOutcome).
-        option_and_then (λ (next : MomentWithPast). run_on script next earlier) (option_map (moment_after script event first) o)) is
+        option_and_then (λ (next : MomentWithPast). run_on script next earlier) (option_map (moment_moved move first) o)) is
         ∙ there
 
-    stays : (made : EventOutcome) → run_on script (moment_after script event first made) [] ≡ Some (moment_after script event first made)
+    stays : (made : EventOutcome) → run_on script (moment_moved move first made) [] ≡ Some (moment_moved move first made)
     unfolding run_on
     stays made = refl
 
-    by_outcome : (o : Option EventOutcome) → step script event first.world ≡ o
-        → option_and_then (λ (next : MomentWithPast). run_on script next events) (option_map (moment_after script event first) o) ≡ Some last
+    by_outcome : (o : Option EventOutcome) → made_by script move first.world ≡ o
+        → option_and_then (λ (next : MomentWithPast). run_on script next moves) (option_map (moment_moved move first) o) ≡ Some last
         → last.past.unavailable ≡ []
     by_outcome None is so = absurd (cc (so))
     by_outcome (Some made) is so =
-        let next : MomentWithPast = moment_after script event first made in
-        let began_next = goes_on script event first.world made began is in
+        let next : MomentWithPast = moment_moved move first made in
+        let began_next = moves_on script move first.world made began is in
         later next began_next
-        (one_more event first made began_next none (few (event ∷ []) events next refl (goes made is [] next (stays made))))
+        (one_more (event_of_move move) first made began_next none (few (move ∷ []) moves next refl (goes made is [] next (stays made))))
         (λ earlier rest moment parts there.
-        few (event ∷ earlier) rest moment (ap (λ (list : List Event). event ∷ list) parts) (goes made is earlier moment there)) so
+        few (move ∷ earlier) rest moment (ap (λ (list : List Move). move ∷ list) parts) (goes made is earlier moment there)) so
 
-  none_on : (events : List Event) (first last : MomentWithPast) → Began script first.world → first.past.unavailable ≡ []
-      → AreFewOn first events → run_on script first events ≡ Some last → last.past.unavailable ≡ []
+  none_on : (moves : List Move) (first last : MomentWithPast) → Began script first.world → first.past.unavailable ≡ []
+      → AreFewOn first moves → run_on script first moves ≡ Some last → last.past.unavailable ≡ []
   unfolding run_on
   none_on [] first last began none few is = ap (λ (m : MomentWithPast). m.past.unavailable) (sym (same_Some first last is)) ∙ none
-  none_on (event ∷ events) first last began none few is =
-      by_outcome event events first last began none few
-      (λ next began_next none_next few_next so. none_on events next last began_next none_next few_next so)
-      (step script event first.world) refl is
+  none_on (move ∷ moves) first last began none few is =
+      by_outcome move moves first last began none few
+      (λ next began_next none_next few_next so. none_on moves next last began_next none_next few_next so)
+      (made_by script move first.world) refl is
 
   first_began : Began script (first_moment script).world
   unfolding run_with_past run_on
   first_began = began-with_past script [] (first_moment script) refl
 
-  pub all_available : (events : List Event) (moment : MomentWithPast) → run_with_past script events ≡ Some moment
-      → LossesAreFewInRun script events → moment.past.unavailable ≡ []
+  pub all_available : (moves : List Move) (moment : MomentWithPast) → run_with_past script moves ≡ Some moment
+      → LossesAreFewInRun script moves → moment.past.unavailable ≡ []
   unfolding run_with_past
-  all_available events moment run few = none_on events (first_moment script) moment first_began refl few.at run
+  all_available moves moment run few = none_on moves (first_moment script) moment first_began refl few.at run
 
-  pub whole_legal : (events : List Event) (moment : MomentWithPast) → run_with_past script events ≡ Some moment
-      → LossesAreFewInRun script events → IsLegal moment.past.history
-  whole_legal events moment run few =
+  pub whole_legal : (moves : List Move) (moment : MomentWithPast) → run_with_past script moves ≡ Some moment
+      → LossesAreFewInRun script moves → IsLegal moment.past.history
+  whole_legal moves moment run few =
       subst (λ (history : List HistEvent). IsLegal history)
-      (nothing-left_out script events moment run (all_available events moment run few))
-      (headline_holds script range range.is_script events moment run).legal
+      (nothing-left_out script moves moment run (all_available moves moment run few))
+      (headline_holds script range range.is_script moves moment run).legal

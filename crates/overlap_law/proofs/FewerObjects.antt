@@ -51,7 +51,8 @@ made_of : (K : ℕ → Type 0) {hosts : Hosts} {wire : Wire} {attempts : List At
     → (oid epoch : ℕ) → IsMadeBy attempts oid epoch → K oid
 made_of K speaks oid epoch made = subst K made.object (speaks.attempted made.place made.attempt made.there)
 
-module _ (K : ℕ → Type 0) {live good few_live few_good : ℕ → Bool} (lives : CallsFewerOf K few_live live) (goods : CallsFewerOf K few_good good)
+module _ (K : ℕ → Type 0) {live good few_live few_good : ℕ → Bool} (lives : CallsFewerOf K few_live live)
+    (goods : CallsFewerOf K few_good good)
     {T : Placing} {log : List Entry} {effects : List Effect} {hosts : Hosts} {wire : Wire} {attempts : List AttemptRecord}
     (speaks : SpeaksOf K hosts wire attempts) where
   pub rows_of_fewer : RowsAreKept T log effects live good hosts attempts → RowsAreKept T log effects few_live few_good hosts attempts
@@ -61,7 +62,10 @@ module _ (K : ℕ → Type 0) {live good few_live few_good : ℕ → Bool} (live
     apart = rows.apart;
     row_shape = rows.row_shape;
     placed = rows.placed;
-    begun = record { each = λ n host at oid i row there is. rows.begun.each n host at oid i row there (lives oid is (speaks.rows n host at oid i row there)) };
+    begun = record {
+      each = λ n host at oid i row there is. rows.begun.each n host at oid i row there
+          (lives oid is (speaks.rows n host at oid i row there));
+    };
     stays = record {
       each = λ j attempt there n host at is.
           rows.stays.each j attempt there n host at (lives (object_of attempt) is (speaks.attempted j attempt there));
@@ -93,7 +97,8 @@ module _ (K : ℕ → Type 0) {live good few_live few_good : ℕ → Bool} (live
     told_beyond = all.told_beyond;
     list_told = record {
       each = λ n host at up q teller there oids told oid is i row standing.
-          all.list_told.each n host at up q teller there oids told oid (lives oid is (speaks.rows q teller there oid i row standing)) i row standing;
+          all.list_told.each n host at up q teller there oids told oid (lives oid is (speaks.rows q teller there oid i row standing)) i row
+          standing;
     };
     complete = record {
       each = λ n host at oid before listed is earlier made.
@@ -104,11 +109,13 @@ module _ (K : ℕ → Type 0) {live good few_live few_good : ℕ → Bool} (live
           all.pending.target n host at up oid policy pending (lives oid is (speaks.pending n host at up oid pending));
       lacked = λ n host at up oid pending is.
           all.pending.lacked n host at up oid pending (lives oid is (speaks.pending n host at up oid pending));
-      known = λ n host at up oid pending is. all.pending.known n host at up oid pending (lives oid is (speaks.pending n host at up oid pending));
+      known = λ n host at up oid pending is. all.pending.known n host at up oid pending
+          (lives oid is (speaks.pending n host at up oid pending));
     };
     has = record {
       each = λ n host at up oid index policy listed is known own made.
-          all.has.each n host at up oid index policy listed (goods oid is (made_of K speaks oid host.node.recovery.epoch made)) known own made;
+          all.has.each n host at up oid index policy listed (goods oid is (made_of K speaks oid host.node.recovery.epoch made)) known own
+          made;
     };
     search_first = all.search_first;
     asked = record {
@@ -132,7 +139,8 @@ module _ (K : ℕ → Type 0) {live good few_live few_good : ℕ → Bool} (live
     };
     norow_told = record {
       each = λ n host at up from epoch oid level told is.
-          all.norow_told.each n host at up from epoch oid level told (goods oid is (speaks.told n host at up from epoch oid level None told));
+          all.norow_told.each n host at up from epoch oid level told (goods oid is
+          (speaks.told n host at up from epoch oid level None told));
     };
     passed = record {
       each = λ n host at up search policy level on is.
@@ -226,8 +234,8 @@ module _ {good_id few_ids : ℕ → Bool} (ids : CallsFewer few_ids good_id) whe
     read = record {
       long = all.read.long;
       bytes = λ n host at up req offset size place unit request opened disk told piece rest before one on driving parted there inside is.
-          all.read.bytes n host at up req offset size place unit request opened disk told piece rest before one on driving parted there inside
-          (block_by_more is);
+          all.read.bytes n host at up req offset size place unit request opened disk told piece rest before one on driving parted there
+          inside (block_by_more is);
     };
     checks = record {
       writing = all.checks.writing;
@@ -292,9 +300,11 @@ module _ {good_id few_ids : ℕ → Bool} (ids : CallsFewer few_ids good_id) whe
         → CoursesAreKept log effects few_ids hosts attempts
     courses_of_fewer all = record {
       waited_for = record {
-        opened = λ n host at up req work there. waited_for_of_fewer host.node req work.work (all.waited_for.opened n host at up req work there);
+        opened = λ n host at up req work there. waited_for_of_fewer host.node req work.work
+            (all.waited_for.opened n host at up req work there);
         lined = λ n host at up number place session waiting of there.
-            waited_for_of_fewer host.node waiting.req waiting.work (all.waited_for.lined n host at up number place session waiting of there);
+            waited_for_of_fewer host.node waiting.req waiting.work (all.waited_for.lined n host at up number place session waiting of
+            there);
       };
       granted = all.granted;
       drawn = record {

@@ -1,6 +1,7 @@
--- What each change of a moment makes of who has finished a recovery: it had, or puts its own `Recovered` just now; and recoveries go on, or are
--- of later epochs.
-use Rattle.std.proofs.Common.{◌≡◌, ◌≢◌, ◌⊎◌, inl, inr, ⊎_elim, arith, ℕ, ◌+◌, ◌<◌, ◌||◌, Bool, true, false, cond, List, [], ◌∷◌, ◌++◌, Some, is_some, refl, sym, ap, subst, ◌∙◌}
+-- What each change of a moment makes of who has finished a recovery: it had, or puts its own `Recovered` just now; and recoveries go on, or
+-- are of later epochs.
+use Rattle.std.proofs.Common.{◌≡◌, ◌≢◌, ◌⊎◌, inl, inr, ⊎_elim, arith, ℕ, ◌+◌, ◌<◌, ◌||◌, Bool, true, false, cond, List, [], ◌∷◌, ◌++◌, Some}
+use Rattle.std.proofs.Common.{is_some, refl, sym, ap, subst, ◌∙◌}
 use Rattle.std.specs.List.{list_any}
 use Rattle.std.specs.FinMap as tree
 use Rattle.std.proofs.lemmas.Bool.{cases_eq, and_parts, or_cases}
@@ -19,18 +20,21 @@ use Rattle.sheep_node.specs.declared.input.Input.TheVariants as inputs
 use Rattle.sheep_node.specs.State.{Node}
 use Rattle.sheep_node.specs.RecoveryView.{recovery_state_of}
 use Rattle.sheep_node.specs.StepState.{StepState, at_first}
-use Rattle.sheep_node.specs.LogReading.{epoch_members, is_epoch_member, epochs_with_entry, peer_with_entry, node_with_entry, recovery_in_epoch, begins_recovery, entry_read}
+use Rattle.sheep_node.specs.LogReading.{epoch_members, is_epoch_member, epochs_with_entry, peer_with_entry, node_with_entry}
+use Rattle.sheep_node.specs.LogReading.{recovery_in_epoch, begins_recovery, entry_read}
 use Rattle.sheep_node.specs.StepFacts.{may_begin_recovery}
 use Rattle.sheep_node.specs.Changes as changes
 use Rattle.sheep_node.specs.Changes.{input_received}
 use Rattle.sheep_node.proofs.StepChain.{step_chain}
 use Rattle.sheep_world.specs.World.{Host}
-use Rattle.sheep_world.specs.NodeCauses.{NodeCause, GuestAsks, RequestComes, ReplyComes, LossIsTold, EntryIsRead, EntryIsPut, RecoveryTicks, WorkIsRetried, input_of_cause, IsCause, host_with_node, log_after_cause}
+use Rattle.sheep_world.specs.NodeCauses.{NodeCause, GuestAsks, RequestComes, ReplyComes, LossIsTold, EntryIsRead, EntryIsPut, RecoveryTicks}
+use Rattle.sheep_world.specs.NodeCauses.{WorkIsRetried, ClientAsks, input_of_cause, IsCause, host_with_node, log_after_cause}
 use Rattle.sheep_world.specs.Began.{Began}
 use Rattle.sheep_world.proofs.NodesByTheLog.{knows_its_number}
 use Rattle.overlap_law.specs.Reached.{Hosts, has_finished}
 use Rattle.overlap_law.specs.Past.{MomentWithPast}
-use Rattle.overlap_law.specs.StepMoments.{SteppingNode, IsStepping, StepsByChanges, first_in_step, last_in_step, LeadsInStep, IsWithinStep, moment_in_step}
+use Rattle.overlap_law.specs.StepMoments.{SteppingNode, IsStepping, StepsByChanges, first_in_step, last_in_step, LeadsInStep, IsWithinStep}
+use Rattle.overlap_law.specs.StepMoments.{moment_in_step}
 use Rattle.overlap_law.specs.MomentChanges.{RunsAreInRange}
 use Rattle.overlap_law.proofs.AnswersInMoments.{not_lost}
 use Rattle.overlap_law.proofs.KnownSteps.{known_step}
@@ -39,7 +43,8 @@ use Rattle.overlap_law.proofs.ListMessages.{AsksListsIn}
 use Rattle.overlap_law.proofs.LogsInMoments.{log_by_changes}
 use Rattle.overlap_law.proofs.OutboxEnds.{outbox_received}
 use Rattle.overlap_law.proofs.RecoveredEntries.{IsOwnEnd, PutsOnlyItsEnd, puts_at_first, change_puts, puts_so_far}
-use Rattle.overlap_law.proofs.RecoveredInMoments.{node_of, IsToPut, finished_cases, finished_by_log, finished_by_outbox, plain_entry, EndsNow, FinishedBefore, RecoveryGoes, GoesFrom, RecoveriesGo}
+use Rattle.overlap_law.proofs.RecoveredInMoments.{node_of, IsToPut, finished_cases, finished_by_log, finished_by_outbox, plain_entry}
+use Rattle.overlap_law.proofs.RecoveredInMoments.{EndsNow, FinishedBefore, RecoveryGoes, GoesFrom, RecoveriesGo}
 use Rattle.overlap_law.proofs.RecoveryMembers.{RecoveryParts, nodes_of_members, begun_epoch, parts_received, recovered_received}
 use Rattle.overlap_law.proofs.SoundNodes.{IsSoundNode, sound_in_worlds, sound_so_far, asks_no_recovered}
 
@@ -60,7 +65,8 @@ plain_log before after entry is plain n epoch stands =
     finished_by_log before.world.hosts before.world.log n epoch
     (plain_entry before.world.log entry n epoch (plain n epoch) (ap (λ (log : List Entry). has_recovered log epoch n) (sym is) ∙ stands))
 
-pub same_finished : (before after : MomentWithPast) → after.world.hosts ≡ before.world.hosts → LogsOnlyPut before after → FinishedBefore before after
+pub same_finished : (before after : MomentWithPast) → after.world.hosts ≡ before.world.hosts → LogsOnlyPut before after
+    → FinishedBefore before after
 same_finished before after same logs n epoch finished = ⊎_elim
     (λ (stands : has_recovered after.world.log epoch n ≡ true). inl (logs n epoch stands))
     (λ (to_put : IsToPut after.world.hosts n epoch). inl (finished_by_outbox before.world.hosts before.world.log n epoch (record {
@@ -71,7 +77,8 @@ same_finished before after same logs n epoch finished = ⊎_elim
     })))
     (finished_cases after.world.hosts after.world.log n epoch finished)
 
-pub one_finished : (before after : MomentWithPast) (k : ℕ) (new : Host) → after.world.hosts ≡ tree.insert before.world.hosts k new → LogsOnlyPut before after
+pub one_finished : (before after : MomentWithPast) (k : ℕ) (new : Host) → after.world.hosts ≡ tree.insert before.world.hosts k new
+    → LogsOnlyPut before after
     → (new.is_lost ≡ false → (epoch : ℕ) → list_any (recovers epoch k) new.node.outbox ≡ true
     → (has_finished before.world.hosts before.world.log epoch (node_of k) ≡ true) ⊎ EndsNow after.world.hosts k epoch)
     → FinishedBefore before after
@@ -79,13 +86,14 @@ one_finished before after k new hosts logs own n epoch finished = ⊎_elim
     (λ (stands : has_recovered after.world.log epoch n ≡ true). inl (logs n epoch stands))
     (λ (to_put : IsToPut after.world.hosts n epoch). ⊎_elim
     (λ (is : n ≡ k).
-    let at : tree.get after.world.hosts k ≡ Some new = ap (λ (held : Hosts). tree.get held k) hosts ∙ get-insert_same before.world.hosts k new in
+    let at : tree.get after.world.hosts k ≡ Some new = ap (λ (held : Hosts). tree.get held k) hosts
+    ∙ get-insert_same before.world.hosts k new in
     let same : new ≡ to_put.host = same_Some new to_put.host (sym at ∙ ap (tree.get after.world.hosts) (sym is) ∙ to_put.there) in
     let puts : list_any (recovers epoch k) new.node.outbox ≡ true
     = ap (λ (h : Host). list_any (recovers epoch k) h.node.outbox) same
     ∙ ap (λ (q : ℕ). list_any (recovers epoch q) to_put.host.node.outbox) (sym is) ∙ to_put.puts in
-    subst (λ (q : ℕ). (has_finished before.world.hosts before.world.log epoch (node_of q) ≡ true) ⊎ EndsNow after.world.hosts q epoch) (sym is)
-    (own (ap (λ (h : Host). h.is_lost) same ∙ to_put.up) epoch puts))
+    subst (λ (q : ℕ). (has_finished before.world.hosts before.world.log epoch (node_of q) ≡ true) ⊎ EndsNow after.world.hosts q epoch)
+    (sym is) (own (ap (λ (h : Host). h.is_lost) same ∙ to_put.up) epoch puts))
     (λ (apart : n ≢ k). inl (finished_by_outbox before.world.hosts before.world.log n epoch (record {
       host = to_put.host;
       there = sym (ap (λ (held : Hosts). tree.get held n) hosts ∙ get-insert_other before.world.hosts k new n apart) ∙ to_put.there;
@@ -106,10 +114,12 @@ pub one_goes : (before after : MomentWithPast) (k : ℕ) (new : Host) → after.
     → (new.is_lost ≡ false → GoesFrom before k new ⊎ (is_some (tree.get before.world.hosts k) ≡ false)) → RecoveriesGo before after
 one_goes before after k new hosts own n now there up = ⊎_elim
     (λ (is : n ≡ k).
-    let at : tree.get after.world.hosts k ≡ Some new = ap (λ (held : Hosts). tree.get held k) hosts ∙ get-insert_same before.world.hosts k new in
+    let at : tree.get after.world.hosts k ≡ Some new = ap (λ (held : Hosts). tree.get held k) hosts
+    ∙ get-insert_same before.world.hosts k new in
     let same : new ≡ now = same_Some new now (sym at ∙ ap (tree.get after.world.hosts) (sym is) ∙ there) in
     let so : GoesFrom before k now ⊎ (is_some (tree.get before.world.hosts k) ≡ false)
-    = subst (λ (h : Host). GoesFrom before k h ⊎ (is_some (tree.get before.world.hosts k) ≡ false)) same (own (ap (λ (h : Host). h.is_lost) same ∙ up)) in
+    = subst (λ (h : Host). GoesFrom before k h ⊎ (is_some (tree.get before.world.hosts k) ≡ false)) same
+    (own (ap (λ (h : Host). h.is_lost) same ∙ up)) in
     subst (λ (q : ℕ). GoesFrom before q now ⊎ (is_some (tree.get before.world.hosts q) ≡ false)) (sym is) so)
     (λ (apart : n ≢ k). inl (record {
       host = now;
@@ -125,13 +135,16 @@ unfolding entry_read peers.peer_in_next_epoch read_entry without_objects
 goes_reading entry node = by_begins (begins_recovery entry node) refl
   where
     next : begins_epoch entry ≡ true → (peer_with_entry entry node).epoch ≡ node.peer.epoch + 1
-    next begins = ap (λ (b : Bool). (cond b (peers.peer_in_next_epoch node.me (targets_in (epochs_with_entry entry node)) (read_entry entry node.peer))
-        (read_entry entry node.peer)).epoch) begins
+    next begins =
+        ap (λ (b : Bool). (cond b (peers.peer_in_next_epoch node.me (targets_in (epochs_with_entry entry node))
+        (read_entry entry node.peer)) (read_entry entry node.peer)).epoch) begins
 
     by_begins : (b : Bool) → begins_recovery entry node ≡ b
-        → (((cond b (recovery_in_epoch (node_with_entry entry node)) (recovery_state_of (node_with_entry entry node))).recovery.epoch ≡ node.recovery.epoch)
+        → (((cond b (recovery_in_epoch (node_with_entry entry node)) (recovery_state_of (node_with_entry entry node))).recovery.epoch
+        ≡ node.recovery.epoch)
         × (node.recovered ≡ true → cond b false node.recovered ≡ true))
-        ⊎ (node.peer.epoch < (cond b (recovery_in_epoch (node_with_entry entry node)) (recovery_state_of (node_with_entry entry node))).recovery.epoch)
+        ⊎ (node.peer.epoch < (cond b (recovery_in_epoch (node_with_entry entry node))
+        (recovery_state_of (node_with_entry entry node))).recovery.epoch)
     by_begins true begins =
         let entered = node_with_entry entry node in
         let aim : (recovery_in_epoch entered).recovery.epoch ≡ entered.peer.epoch
@@ -140,7 +153,8 @@ goes_reading entry node = by_begins (begins_recovery entry node) refl
         inr (omega (arith, aim, more))
     by_begins false none = inl (refl, λ was. was)
 
-goes_quiet : (input : Input) (node : Node) → may_begin_recovery input ≡ false → RecoveryGoes node (input_received input (at_first node)).node
+goes_quiet : (input : Input) (node : Node) → may_begin_recovery input ≡ false
+    → RecoveryGoes node (input_received input (at_first node)).node
 goes_quiet input node quiet =
     inl (ap (λ (p : RecoveryParts). p.aim) (parts_received input node quiet), λ was. recovered_received input node quiet ∙ was)
 
@@ -153,14 +167,15 @@ goes_received (EntryIsRead entry) node = goes_reading entry node
 goes_received (EntryIsPut entry) node = goes_quiet inputs.Put node refl
 goes_received RecoveryTicks node = goes_quiet inputs.RecoverTick node refl
 goes_received WorkIsRetried node = goes_quiet inputs.RetryTick node refl
+goes_received (ClientAsks req ask) node = goes_quiet (inputs.Guest req 0 ask) node refl
 
 -- and what changes of the node leave
 goes_with : (node first : Node) (so_far : StepState) → PutsOnlyItsEnd first so_far → RecoveryGoes node first → RecoveryGoes node so_far.node
 goes_with node first so_far puts goes =
     let same : so_far.node.recovery.epoch ≡ first.recovery.epoch = ap (λ (s : RecoveryState). s.recovery.epoch) puts.state_so in
     ⊎_elim
-    (λ (on : (first.recovery.epoch ≡ node.recovery.epoch) × (node.recovered ≡ true → first.recovered ≡ true)). inl (same ∙ on.0, λ was. puts.stays (on.1 was)))
-    (λ (later : node.peer.epoch < first.recovery.epoch). inr (omega (arith, later, same)))
+    (λ (on : (first.recovery.epoch ≡ node.recovery.epoch) × (node.recovered ≡ true → first.recovered ≡ true)). inl
+    (same ∙ on.0, λ was. puts.stays (on.1 was))) (λ (later : node.peer.epoch < first.recovery.epoch). inr (omega (arith, later, same)))
     goes
 
 -- the end that a node put
@@ -176,7 +191,8 @@ ends_now hosts k old first so_far epoch there up puts so later end =
       up = up;
       of_epoch = ap (λ (s : RecoveryState). s.recovery.epoch) puts.state_so ∙ end.of_epoch;
       later = omega (arith, later, own);
-      listed = ap (λ (s : RecoveryState). is_listed s.recovery) puts.state_so ∙ (finished_done (recovery_state_of first) so later end.finished).0;
+      listed = ap (λ (s : RecoveryState). is_listed s.recovery) puts.state_so
+          ∙ (finished_done (recovery_state_of first) so later end.finished).0;
       put = end.put;
     }
 
@@ -192,11 +208,14 @@ module _ (script : List Statement) (range : RunsAreInRange script) (start : Mome
     up = not_lost stepping.host (known_step script range start.world began stepping is).up
 
     sound_at : (so_far : StepState) → LeadsInStep stepping (first_in_step stepping) so_far → IsSoundNode so_far.node
-    sound_at so_far leads = sound_so_far script range start.world began stepping.n stepping.host is.there stepping.cause is.caused sound leads
+    sound_at so_far leads =
+        sound_so_far script range start.world began stepping.n stepping.host is.there stepping.cause is.caused sound leads
 
-    puts_at : (so_far : StepState) → LeadsInStep stepping (first_in_step stepping) so_far → PutsOnlyItsEnd (first_in_step stepping).node so_far
+    puts_at : (so_far : StepState) → LeadsInStep stepping (first_in_step stepping) so_far
+        → PutsOnlyItsEnd (first_in_step stepping).node so_far
     puts_at so_far leads =
-        puts_so_far (input_of_cause stepping.cause) node (asks_no_recovered script start.world stepping.n stepping.host stepping.cause is.caused) sound.only leads
+        puts_so_far (input_of_cause stepping.cause) node (asks_no_recovered script start.world stepping.n stepping.host stepping.cause
+        is.caused) sound.only leads
 
     -- what was in the outbox before the step
     was_to_put : (epoch : ℕ) → list_any (recovers epoch stepping.n) (first_in_step stepping).node.outbox ≡ true
@@ -213,7 +232,8 @@ module _ (script : List Statement) (range : RunsAreInRange script) (start : Mome
     put_logs = by_cause stepping.cause is.caused
       where
         by_cause : (cause : NodeCause) → IsCause script start.world stepping.n stepping.host cause → (n epoch : ℕ)
-            → has_recovered (log_after_cause cause start.world.log) epoch n ≡ true → has_finished start.world.hosts start.world.log epoch (node_of n) ≡ true
+            → has_recovered (log_after_cause cause start.world.log) epoch n ≡ true
+            → has_finished start.world.hosts start.world.log epoch (node_of n) ≡ true
         by_cause (GuestAsks session req ask) so n epoch stands = finished_by_log start.world.hosts start.world.log n epoch stands
         by_cause (RequestComes name to request) so n epoch stands = finished_by_log start.world.hosts start.world.log n epoch stands
         by_cause (ReplyComes name from rsp) so n epoch stands = finished_by_log start.world.hosts start.world.log n epoch stands
@@ -224,7 +244,8 @@ module _ (script : List Statement) (range : RunsAreInRange script) (start : Mome
             (λ (new : (recovers epoch n entry || false) ≡ true).
             let there : list_any (recovers epoch n) node.outbox ≡ true
             = ap (list_any (recovers epoch n)) first ∙ or_first (recovers epoch n entry) (list_any (recovers epoch n) later) new in
-            let own : stepping.n ≡ n = sym (knows_its_number script start.world began stepping.n stepping.host is.there) ∙ sound.ends epoch n there in
+            let own : stepping.n ≡ n = sym (knows_its_number script start.world began stepping.n stepping.host is.there)
+            ∙ sound.ends epoch n there in
             finished_by_outbox start.world.hosts start.world.log n epoch
             (record { host = stepping.host; there = ap (tree.get start.world.hosts) (sym own) ∙ is.there; up = up; puts = there }))
             (or_cases (has_recovered start.world.log epoch n) (recovers epoch n entry || false)
@@ -235,8 +256,10 @@ module _ (script : List Statement) (range : RunsAreInRange script) (start : Mome
             or_first false b so = absurd (cc (so))
         by_cause RecoveryTicks so n epoch stands = finished_by_log start.world.hosts start.world.log n epoch stands
         by_cause WorkIsRetried so n epoch stands = finished_by_log start.world.hosts start.world.log n epoch stands
+        by_cause (ClientAsks req ask) so n epoch stands = finished_by_log start.world.hosts start.world.log n epoch stands
 
-    pub begins_finished : StepsByChanges stepping.cause → FinishedBefore start (moment_in_step script stepping start (first_in_step stepping))
+    pub begins_finished : StepsByChanges stepping.cause
+        → FinishedBefore start (moment_in_step script stepping start (first_in_step stepping))
     begins_finished by =
         let after = moment_in_step script stepping start (first_in_step stepping) in
         one_finished start after stepping.n (host_with_node stepping.host (first_in_step stepping).node) refl
@@ -254,8 +277,8 @@ module _ (script : List Statement) (range : RunsAreInRange script) (start : Mome
         (λ up epoch there. ⊎_elim
         (λ (old : list_any (recovers epoch stepping.n) first.outbox ≡ true). inl (was_to_put epoch old))
         (λ (end : IsOwnEnd first (last_in_step stepping).node.recovered epoch stepping.n).
-        inr (ends_now after.world.hosts stepping.n stepping.host first (last_in_step stepping) epoch (get-insert_same start.world.hosts stepping.n now) up puts
-        sound_first.lists.asks_so (sound_first.recovers.put end.due) end))
+        inr (ends_now after.world.hosts stepping.n stepping.host first (last_in_step stepping) epoch
+        (get-insert_same start.world.hosts stepping.n now) up puts sound_first.lists.asks_so (sound_first.recovers.put end.due) end))
         (puts.puts epoch stepping.n there))
 
     pub on_finished : (so_far next : StepState) → IsWithinStep stepping so_far next
@@ -267,7 +290,8 @@ module _ (script : List Statement) (range : RunsAreInRange script) (start : Mome
         let now = host_with_node stepping.host next.node in
         let sound_was = sound_at so_far within.leads in
         let puts : PutsOnlyItsEnd so_far.node next
-        = change_puts so_far.node (input_of_cause stepping.cause) node (asks_no_recovered script start.world stepping.n stepping.host stepping.cause is.caused)
+        = change_puts so_far.node (input_of_cause stepping.cause) node
+        (asks_no_recovered script start.world stepping.n stepping.host stepping.cause is.caused)
         so_far next within.change (puts_at_first so_far.node sound_was.only) in
         one_finished before after stepping.n now (sym (insert-insert start.world.hosts stepping.n was now)) (same_log before after refl)
         (λ up_now epoch there. ⊎_elim
@@ -275,11 +299,12 @@ module _ (script : List Statement) (range : RunsAreInRange script) (start : Mome
         inl (finished_by_outbox before.world.hosts before.world.log stepping.n epoch
         (record { host = was; there = get-insert_same start.world.hosts stepping.n was; up = up; puts = old })))
         (λ (end : IsOwnEnd so_far.node next.node.recovered epoch stepping.n).
-        inr (ends_now after.world.hosts stepping.n stepping.host so_far.node next epoch (get-insert_same start.world.hosts stepping.n now) up puts
-        sound_was.lists.asks_so (sound_was.recovers.put end.due) end))
+        inr (ends_now after.world.hosts stepping.n stepping.host so_far.node next epoch (get-insert_same start.world.hosts stepping.n now)
+        up puts sound_was.lists.asks_so (sound_was.recovers.put end.due) end))
         (puts.puts epoch stepping.n there))
 
-    pub step_goes : (so_far : StepState) → LeadsInStep stepping (first_in_step stepping) so_far → RecoveriesGo start (moment_in_step script stepping start so_far)
+    pub step_goes : (so_far : StepState) → LeadsInStep stepping (first_in_step stepping) so_far
+        → RecoveriesGo start (moment_in_step script stepping start so_far)
     step_goes so_far leads =
         one_goes start (moment_in_step script stepping start so_far) stepping.n (host_with_node stepping.host so_far.node) refl
         (λ up_now. inl (record {
@@ -294,7 +319,8 @@ module _ (script : List Statement) (range : RunsAreInRange script) (start : Mome
         let was = host_with_node stepping.host so_far.node in
         let now = host_with_node stepping.host next.node in
         let puts : PutsOnlyItsEnd so_far.node next
-        = change_puts so_far.node (input_of_cause stepping.cause) node (asks_no_recovered script start.world stepping.n stepping.host stepping.cause is.caused)
+        = change_puts so_far.node (input_of_cause stepping.cause) node
+        (asks_no_recovered script start.world stepping.n stepping.host stepping.cause is.caused)
         so_far next within.change (puts_at_first so_far.node (sound_at so_far within.leads).only) in
         one_goes (moment_in_step script stepping start so_far) (moment_in_step script stepping start next) stepping.n now
         (sym (insert-insert start.world.hosts stepping.n was now))

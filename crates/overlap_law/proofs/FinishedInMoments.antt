@@ -1,5 +1,5 @@
--- In each run in range, and in the middle of its steps, the recovered have all, the unfinished are unsettled, and recoveries are present and
--- answered by those that came.
+-- In each run in range, and in the middle of its steps, the recovered have all, the unfinished are unsettled, and recoveries are present
+-- and answered by those that came.
 use Rattle.std.proofs.Common.{◌≡◌, inl, inr, ⊎_elim, arith, ℕ, suc, ◌<◌, Bool, true, List, Some, refl, sym, ap, subst, ◌∙◌}
 use Rattle.std.specs.List.{list_any}
 use Rattle.std.specs.FinMap as tree
@@ -40,13 +40,15 @@ use Rattle.overlap_law.specs.MomentChanges.{MomentChange, RunsAreInRange, KeptBy
 use Rattle.overlap_law.proofs.AnswerersInMoments.{AnswersHold, kept_answers}
 use Rattle.overlap_law.proofs.AskedEpochs as asked_epochs
 use Rattle.overlap_law.proofs.EpochsRise.{epochs_rise}
-use Rattle.overlap_law.proofs.FinishedBefore.{LogsOnlyPut, put_logs, same_log, plain_log, same_finished, one_finished, same_go, one_goes, ends_now, begins_finished, made_finished, on_finished, step_goes, on_goes}
+use Rattle.overlap_law.proofs.FinishedBefore.{LogsOnlyPut, put_logs, same_log, plain_log, same_finished, one_finished, same_go, one_goes}
+use Rattle.overlap_law.proofs.FinishedBefore.{ends_now, begins_finished, made_finished, on_finished, step_goes, on_goes}
 use Rattle.overlap_law.proofs.KnownSteps.{together}
 use Rattle.overlap_law.proofs.ListMessages.{AsksListsIn}
 use Rattle.overlap_law.proofs.LogsInMoments.{log_grows, log_by_changes}
 use Rattle.overlap_law.proofs.ReadInMoments.{HostsAreSound, epoch_within, sound_hosts, hosts_after_sound, kept_sound}
 use Rattle.overlap_law.proofs.RecoveredEntries.{IsOwnEnd, PutsOnlyItsEnd, stepped_puts, opening_only}
-use Rattle.overlap_law.proofs.RecoveredInMoments.{node_of, IsToPut, finished_cases, EndsNow, TheFinishedCame, FinishedBefore, RecoveriesGo, came_after}
+use Rattle.overlap_law.proofs.RecoveredInMoments.{node_of, IsToPut, finished_cases, EndsNow, TheFinishedCame, FinishedBefore, RecoveriesGo}
+use Rattle.overlap_law.proofs.RecoveredInMoments.{came_after}
 use Rattle.overlap_law.proofs.StoodNodes.{TheUpHaveStood, kept_stood}
 use Rattle.sheep_node.specs.Changes as changes
 
@@ -68,7 +70,8 @@ module _ (script : List Statement) (range : RunsAreInRange script) (start : Mome
 
     returned_epoch : now.node.recovery.epoch ≡ suc (epoch_of start.world.log)
     returned_epoch =
-        asked_epochs.back_recovers log host.node ∙ (sound.each n now now_there).read.epoch_so ∙ ap epoch_of (step_reads (inputs.Back log) host.node)
+        asked_epochs.back_recovers log host.node ∙ (sound.each n now now_there).read.epoch_so
+        ∙ ap epoch_of (step_reads (inputs.Back log) host.node)
         ∙ epoch_more start.world.log (join_of script n (last_weight start.world.log n)) refl
 
     returned_puts : PutsOnlyItsEnd (input_received (inputs.Back log) (at_first host.node)).node (node_step (inputs.Back log) host.node)
@@ -80,16 +83,18 @@ module _ (script : List Statement) (range : RunsAreInRange script) (start : Mome
         let first = (input_received (inputs.Back log) (at_first host.node)).node in
         let aim : first.recovery.epoch ≡ suc (epoch_of start.world.log)
         = ap (λ (s : RecoveryState). s.recovery.epoch) (sym returned_puts.state_so) ∙ returned_epoch in
-        let asks : AsksListsIn (recovery_state_of first) = subst AsksListsIn returned_puts.state_so (sound.each n now now_there).sound.lists.asks_so in
+        let asks : AsksListsIn (recovery_state_of first) = subst AsksListsIn returned_puts.state_so
+        (sound.each n now now_there).sound.lists.asks_so in
         ⊎_elim
         (λ (old : list_any (recovers epoch n) first.outbox ≡ true). none_at_back (recovers epoch n) log host.node old)
         (λ (end : IsOwnEnd first now.node.recovered epoch n).
-        ends_now after.world.hosts n (revived_host host) first (node_step (inputs.Back log) host.node) epoch now_there refl returned_puts asks (omega (arith, aim)) end)
-        (returned_puts.puts epoch n puts)
+        ends_now after.world.hosts n (revived_host host) first (node_step (inputs.Back log) host.node) epoch now_there refl returned_puts
+        asks (omega (arith, aim)) end) (returned_puts.puts epoch n puts)
 
     returned_later : host.node.peer.epoch < now.node.recovery.epoch
     returned_later =
-        let within = epoch_within start.world.log n host.node.me host.node.peer ((sound_hosts script range start began).each n host there).read in
+        let within = epoch_within start.world.log n host.node.me host.node.peer
+        ((sound_hosts script range start began).each n host there).read in
         let aim = returned_epoch in
         omega (arith, within, aim)
 
@@ -116,54 +121,66 @@ module _ (script : List Statement) (range : RunsAreInRange script) (start : Mome
       plain_log before after (entries.Reweight (record { 0 = h.n }) h.vnodes) (ap (λ (m : EventOutcome). m.world.log) (sym h.made_so))
       (λ n epoch. refl)
   logs_only_put {before} {after} (moments.NodeJoins event made happened h) =
-      plain_log before after (join_of script h.n (vnodes_of script)) (ap (λ (m : EventOutcome). m.world.log) (sym h.made_so)) (λ n epoch. refl)
+      plain_log before after (join_of script h.n (vnodes_of script)) (ap (λ (m : EventOutcome). m.world.log) (sym h.made_so))
+      (λ n epoch. refl)
   logs_only_put {before} {after} (moments.NodeComesBack event made happened h) =
       plain_log before after (join_of script h.n (last_weight start.world.log h.n)) (ap (λ (m : EventOutcome). m.world.log) (sym h.made_so))
       (λ n epoch. refl)
 
   pub finished_before : {before after : MomentWithPast} → MomentChange script start before after → FinishedBefore before after
   finished_before (moments.StepBegins stepping is by) = begins_finished script range start began stepping is by
-  finished_before (moments.StepGoesOn stepping so_far next is by within) = on_finished script range start began stepping is so_far next within
+  finished_before (moments.StepGoesOn stepping so_far next is by within) =
+      on_finished script range start began stepping is so_far next within
   finished_before (moments.StepIsMade stepping is by) = made_finished script range start began stepping is
   finished_before {before} {after} (moments.LossIsUntold event made happened h) =
-      same_finished before after (ap (λ (m : EventOutcome). m.world.hosts) (sym h.made_so)) (same_log before after (ap (λ (m : EventOutcome). m.world.log) (sym h.made_so)))
+      same_finished before after (ap (λ (m : EventOutcome). m.world.hosts) (sym h.made_so))
+      (same_log before after (ap (λ (m : EventOutcome). m.world.log) (sym h.made_so)))
   finished_before {before} {after} (moments.DeliveryIsUnread event made happened h) =
-      same_finished before after (ap (λ (m : EventOutcome). m.world.hosts) (sym h.made_so)) (same_log before after (ap (λ (m : EventOutcome). m.world.log) (sym h.made_so)))
+      same_finished before after (ap (λ (m : EventOutcome). m.world.hosts) (sym h.made_so))
+      (same_log before after (ap (λ (m : EventOutcome). m.world.log) (sym h.made_so)))
   finished_before {before} {after} (moments.NodeIsLost event made happened h) =
       one_finished before after h.n (lost_host h.host) (ap (λ (m : EventOutcome). m.world.hosts) (sym h.made_so))
       (same_log before after (ap (λ (m : EventOutcome). m.world.log) (sym h.made_so))) (λ up epoch there. absurd (cc (up)))
   finished_before {before} {after} (moments.NodeLeaves event made happened h) =
       same_finished before after (ap (λ (m : EventOutcome). m.world.hosts) (sym h.made_so))
-      (plain_log before after (entries.Leave (record { 0 = h.n })) (ap (λ (m : EventOutcome). m.world.log) (sym h.made_so)) (λ n epoch. refl))
+      (plain_log before after (entries.Leave (record { 0 = h.n })) (ap (λ (m : EventOutcome). m.world.log) (sym h.made_so))
+      (λ n epoch. refl))
   finished_before {before} {after} (moments.NodeIsReweighted event made happened h) =
       same_finished before after (ap (λ (m : EventOutcome). m.world.hosts) (sym h.made_so))
-      (plain_log before after (entries.Reweight (record { 0 = h.n }) h.vnodes) (ap (λ (m : EventOutcome). m.world.log) (sym h.made_so)) (λ n epoch. refl))
+      (plain_log before after (entries.Reweight (record { 0 = h.n }) h.vnodes) (ap (λ (m : EventOutcome). m.world.log) (sym h.made_so))
+      (λ n epoch. refl))
   finished_before {before} {after} (moments.NodeJoins event made happened h) =
       one_finished before after h.n (joined_host script h.n) (ap (λ (m : EventOutcome). m.world.hosts) (sym h.made_so))
-      (plain_log before after (join_of script h.n (vnodes_of script)) (ap (λ (m : EventOutcome). m.world.log) (sym h.made_so)) (λ n epoch. refl))
-      (λ up epoch there. absurd (cc (there)))
+      (plain_log before after (join_of script h.n (vnodes_of script)) (ap (λ (m : EventOutcome). m.world.log) (sym h.made_so))
+      (λ n epoch. refl)) (λ up epoch there. absurd (cc (there)))
   finished_before {before} {after} (moments.NodeComesBack event made happened h) =
       let change : MomentChange script start before after = moments.NodeComesBack event made happened h in
       let now = host_after_return (log_after_return script h.n start.world) h.host in
       let at : tree.get after.world.hosts h.n ≡ Some now
       = ap (λ (m : EventOutcome). tree.get m.world.hosts h.n) (sym h.made_so) ∙ get-insert_same start.world.hosts h.n now in
       one_finished before after h.n now (ap (λ (m : EventOutcome). m.world.hosts) (sym h.made_so))
-      (plain_log before after (join_of script h.n (last_weight start.world.log h.n)) (ap (λ (m : EventOutcome). m.world.log) (sym h.made_so)) (λ n epoch. refl))
+      (plain_log before after (join_of script h.n (last_weight start.world.log h.n))
+      (ap (λ (m : EventOutcome). m.world.log) (sym h.made_so)) (λ n epoch. refl))
       (λ up epoch there. inr (returned_ends after (hosts_after_sound script range start began change) h.n h.host h.there at epoch there))
   finished_before {before} {after} (moments.PhaseEnds event made happened h) =
-      same_finished before after (ap (λ (m : EventOutcome). m.world.hosts) (sym h.made_so)) (same_log before after (ap (λ (m : EventOutcome). m.world.log) (sym h.made_so)))
+      same_finished before after (ap (λ (m : EventOutcome). m.world.hosts) (sym h.made_so))
+      (same_log before after (ap (λ (m : EventOutcome). m.world.log) (sym h.made_so)))
 
   pub recoveries_go : {before after : MomentWithPast} → MomentChange script start before after → RecoveriesGo before after
   recoveries_go (moments.StepBegins stepping is by) = step_goes script range start began stepping is (first_in_step stepping) changes.Still
   recoveries_go (moments.StepGoesOn stepping so_far next is by within) = on_goes script range start began stepping is so_far next within
   recoveries_go (moments.StepIsMade stepping is by) =
       step_goes script range start began stepping is (last_in_step stepping) (step_chain (input_of_cause stepping.cause) stepping.host.node)
-  recoveries_go {before} {after} (moments.LossIsUntold event made happened h) = same_go before after (ap (λ (m : EventOutcome). m.world.hosts) (sym h.made_so))
-  recoveries_go {before} {after} (moments.DeliveryIsUnread event made happened h) = same_go before after (ap (λ (m : EventOutcome). m.world.hosts) (sym h.made_so))
+  recoveries_go {before} {after} (moments.LossIsUntold event made happened h) =
+      same_go before after (ap (λ (m : EventOutcome). m.world.hosts) (sym h.made_so))
+  recoveries_go {before} {after} (moments.DeliveryIsUnread event made happened h) =
+      same_go before after (ap (λ (m : EventOutcome). m.world.hosts) (sym h.made_so))
   recoveries_go {before} {after} (moments.NodeIsLost event made happened h) =
       one_goes before after h.n (lost_host h.host) (ap (λ (m : EventOutcome). m.world.hosts) (sym h.made_so)) (λ up. absurd (cc (up)))
-  recoveries_go {before} {after} (moments.NodeLeaves event made happened h) = same_go before after (ap (λ (m : EventOutcome). m.world.hosts) (sym h.made_so))
-  recoveries_go {before} {after} (moments.NodeIsReweighted event made happened h) = same_go before after (ap (λ (m : EventOutcome). m.world.hosts) (sym h.made_so))
+  recoveries_go {before} {after} (moments.NodeLeaves event made happened h) =
+      same_go before after (ap (λ (m : EventOutcome). m.world.hosts) (sym h.made_so))
+  recoveries_go {before} {after} (moments.NodeIsReweighted event made happened h) =
+      same_go before after (ap (λ (m : EventOutcome). m.world.hosts) (sym h.made_so))
   recoveries_go {before} {after} (moments.NodeJoins event made happened h) =
       one_goes before after h.n (joined_host script h.n) (ap (λ (m : EventOutcome). m.world.hosts) (sym h.made_so))
       (λ up. inr (next_fits script start.world (lines.Join h.n) h.control (together script range start.world began).fit).1)
@@ -178,7 +195,8 @@ module _ (script : List Statement) (range : RunsAreInRange script) (start : Mome
         there = h.there;
         goes = inr (returned_later after (hosts_after_sound script range start began change) h.n h.host h.there at);
       }))
-  recoveries_go {before} {after} (moments.PhaseEnds event made happened h) = same_go before after (ap (λ (m : EventOutcome). m.world.hosts) (sym h.made_so))
+  recoveries_go {before} {after} (moments.PhaseEnds event made happened h) =
+      same_go before after (ap (λ (m : EventOutcome). m.world.hosts) (sym h.made_so))
 
 -- ---- every moment
 
@@ -190,7 +208,8 @@ pub record TermsHold (moment : MomentWithPast) : Type 0 where
   pub came : TheFinishedCame moment.world.log moment.world.hosts
 
 module _ (script : List Statement) (range : RunsAreInRange script) where
-  change_terms : (start before after : MomentWithPast) → Began script start.world → MomentChange script start before after → TermsHold before → TermsHold after
+  change_terms : (start before after : MomentWithPast) → Began script start.world → MomentChange script start before after
+      → TermsHold before → TermsHold after
   change_terms start before after began change terms =
       let sound = hosts_after_sound script range start began change in
       let answers = (kept_answers script range).keeps start before after began change terms.answers in
@@ -199,11 +218,13 @@ module _ (script : List Statement) (range : RunsAreInRange script) where
         sound = sound;
         answers = answers;
         came = came_after before after (log_grows script change) terms.stood.some (epochs_rise script range start began change)
-            (finished_before script range start began change) (recoveries_go script range start began change) sound answers.answered terms.came;
+            (finished_before script range start began change) (recoveries_go script range start began change) sound answers.answered
+            terms.came;
       }
 
   -- nothing is finished before the first event
-  opening_finished : {P : Type 0} (n epoch : ℕ) → has_finished (first_moment script).world.hosts (first_moment script).world.log epoch (node_of n) ≡ true → P
+  opening_finished : {P : Type 0} (n epoch : ℕ)
+      → has_finished (first_moment script).world.hosts (first_moment script).world.log epoch (node_of n) ≡ true → P
   unfolding initial_world entry_read
   opening_finished n epoch finished = ⊎_elim
       (λ (stands : has_recovered (first_moment script).world.log epoch n ≡ true). absurd (cc (stands)))
@@ -214,7 +235,8 @@ module _ (script : List Statement) (range : RunsAreInRange script) where
       let there = ap (λ (h : Host). list_any (recovers epoch n) h.node.outbox) is ∙ to_put.puts in
       ⊎_elim
       (λ (old : list_any (recovers epoch n) (entry_read (format_entry script) node).outbox ≡ true). absurd (cc (old)))
-      (λ (end : IsOwnEnd (entry_read (format_entry script) node) (node_step (inputs.LogEntry (format_entry script)) node).node.recovered epoch n). let due = end.due in absurd (cc (due)))
+      (λ (end : IsOwnEnd (entry_read (format_entry script) node) (node_step (inputs.LogEntry (format_entry script)) node).node.recovered epoch n).
+      let due = end.due in absurd (cc (due)))
       (puts.puts epoch n there))
       (finished_cases (first_moment script).world.hosts (first_moment script).world.log n epoch finished)
 
@@ -234,4 +256,5 @@ module _ (script : List Statement) (range : RunsAreInRange script) where
   }
 
   pub kept_terms : KeptByChanges script TermsHold
-  kept_terms = record { opens = opening_terms; keeps = λ start before after began change terms. change_terms start before after began change terms }
+  kept_terms =
+      record { opens = opening_terms; keeps = λ start before after began change terms. change_terms start before after began change terms }

@@ -1,5 +1,6 @@
--- At each moment on the way of an event of a run in range nothing is known to be pending, nothing is searched, and nothing is missing, before
--- a recovery's list is finished; and a search is of the first pending object, at a level from 1 to the one before the recovery's epoch.
+-- At each moment on the way of an event of a run in range nothing is known to be pending, nothing is searched, and nothing is missing,
+-- before a recovery's list is finished; and a search is of the first pending object, at a level from 1 to the one before the recovery's
+-- epoch.
 use Rattle.std.proofs.Common.{◌≡◌, ℕ, ◌<◌, ◌≤◌, List, [], Option, Some, None, subst}
 use Rattle.std.specs.Option.{IfSome}
 use Rattle.std.specs.FinMap as tree
@@ -8,10 +9,10 @@ use Rattle.cluster_script.specs.declared.statement.Statement.{Statement}
 use Rattle.peer_service.specs.State.{Peer}
 use Rattle.recovery.specs.State.{Search, Recovery, initial_recovery, still_on}
 use Rattle.recovery.specs.Step.{AnswersFit}
-use Rattle.sheep_node.specs.declared.event.Event.{Event}
 use Rattle.sheep_node.specs.RecoveryView.{shown_node}
 use Rattle.sheep_world.specs.World.{Host, World}
 use Rattle.sheep_world.specs.Began.{Began}
+use Rattle.sheep_world.specs.RunsWithAsks.{Move}
 use Rattle.overlap_law.specs.Past.{MomentWithPast, run_with_past}
 use Rattle.overlap_law.specs.MomentChanges.{MomentTrail, RunsAreInRange}
 use Rattle.overlap_law.specs.Lists.{ListsComeFirst}
@@ -62,7 +63,7 @@ module _ (script : List Statement) (range : RunsAreInRange script) where
   misses-in_world =
       recoveries_so script range MissesLater misses_kept (λ me. (λ unlisted. absurd (cc (unlisted)), λ unlisted. absurd (cc (unlisted))))
 
-  module _ (events : List Event) (start moment : MomentWithPast) (is : run_with_past script events ≡ Some start)
+  module _ (events : List Move) (start moment : MomentWithPast) (is : run_with_past script events ≡ Some start)
       (trail : MomentTrail script start moment) where
     within : (n : ℕ) (host : Host) → tree.get moment.world.hosts n ≡ Some host → SearchesWithin n host.node.recovery host.node.peer
     within = recoveries-on_the_way script SearchesWithin within-in_world events start moment is trail

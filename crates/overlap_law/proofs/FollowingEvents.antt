@@ -1,6 +1,7 @@
 -- Events that may come next in a history, by what it tells of their requests: writes begin that hadn't begun, and those end that had begun
 -- and hadn't ended.
-use Rattle.std.proofs.Common.{◌≡◌, ◌≢◌, ⊎_elim, ℕ, zero, suc, ◌+◌, ◌<◌, ◌≤◌, ◌==◌, ◌&&◌, ◌||◌, not, Bool, true, false, List, [], ◌∷◌, ◌++◌, map, fold, length, Contains, Option, Some, None, refl, sym, ap, subst, arith, ◌∙◌}
+use Rattle.std.proofs.Common.{◌≡◌, ◌≢◌, ⊎_elim, ℕ, zero, suc, ◌+◌, ◌<◌, ◌≤◌, ◌==◌, ◌&&◌, ◌||◌, not, Bool, true, false, List, [], ◌∷◌, ◌++◌}
+use Rattle.std.proofs.Common.{map, fold, length, Contains, Option, Some, None, refl, sym, ap, subst, arith, ◌∙◌}
 use Rattle.std.specs.Prelude.{◌/◌, flat_map}
 use Rattle.std.specs.List.{list_any, range_with_len}
 use Rattle.std.proofs.Math.Bool.{or-false}
@@ -10,7 +11,8 @@ use Rattle.std.proofs.lemmas.List.Sums.{fold-append}
 use Rattle.proof_tools.proofs.Lists.{Contains-cons, Contains-head}
 use Rattle.object_id.specs.declared.limits.TheConstants.{BLOCK_BYTES}
 use Rattle.disk_history.specs.declared.event.HistEvent.{HistEvent}
-use Rattle.disk_history.specs.declared.event.HistEvent.TheVariants.{Create, Copy, Delete, WriteStart, WriteDone, WriteRefused, WriterLost, Read}
+use Rattle.disk_history.specs.declared.event.HistEvent.TheVariants.{Create, Copy, Delete, WriteStart, WriteDone, WriteRefused, WriterLost}
+use Rattle.disk_history.specs.declared.event.HistEvent.TheVariants.{Read}
 use Rattle.disk_history.specs.Ledger.{Ledger, empty_ledger, ledger_after}
 use Rattle.disk_history.specs.Legal.{has_begun_to_write, has_place, may_follow}
 use Rattle.cluster_script.specs.declared.statement.Statement.{Statement}
@@ -20,7 +22,8 @@ use Rattle.peer_proto.specs.declared.guest.GuestRsp.{GuestRsp}
 use Rattle.peer_proto.specs.declared.guest.GuestRsp.TheVariants as answers
 use Rattle.sheep_node.specs.declared.check_write.CheckWrite.{CheckWrite}
 use Rattle.sheep_world.specs.World.{World}
-use Rattle.sheep_world.specs.HistoryAdditions.{block_in, write_ended, blocks_read, reply_adds, added_by, disk_of, has_begun_check_write, reply_grown}
+use Rattle.sheep_world.specs.HistoryAdditions.{block_in, write_ended, blocks_read, reply_adds, added_by, disk_of, has_begun_check_write}
+use Rattle.sheep_world.specs.HistoryAdditions.{reply_grown}
 use Rattle.overlap_law.specs.DiskEvents.{ends_write_of}
 use Rattle.overlap_law.specs.Headline.{ledger_of}
 use Rattle.overlap_law.specs.PastWords.{is_refusal}

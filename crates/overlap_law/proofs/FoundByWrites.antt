@@ -31,7 +31,8 @@ use Rattle.sheep_node.specs.declared.input.Input.{Input}
 use Rattle.sheep_node.specs.declared.input.Input.TheVariants as inputs
 use Rattle.sheep_node.specs.Changes.{Change, EndsWork}
 use Rattle.sheep_node.specs.CheckWrites.{has_course_written}
-use Rattle.sheep_node.specs.Courses.{after_command_step, after_driver_step, check_acted, check_stepped, command_acted, command_stepped, course_went_on, disk_went_on, driver_acted, driver_stepped, work_reply}
+use Rattle.sheep_node.specs.Courses.{after_command_step, after_driver_step, check_acted, check_stepped, command_acted, command_stepped}
+use Rattle.sheep_node.specs.Courses.{course_went_on, disk_went_on, driver_acted, driver_stepped, work_reply}
 use Rattle.sheep_node.specs.RequestWorks.{queue_left, course_refused, work_asked}
 use Rattle.sheep_node.specs.State.{Node}
 use Rattle.sheep_node.specs.StepState.{StepState, at_first, request_ended, session_in, with_gateway, with_sole_request}

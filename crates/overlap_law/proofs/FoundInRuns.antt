@@ -8,7 +8,6 @@ use Rattle.disk_history.specs.declared.event.HistEvent.{HistEvent}
 use Rattle.disk_history.specs.declared.event.HistEvent.TheVariants.{Create, Copy, Delete, WriteStart, WriteDone, WriteRefused, WriterLost}
 use Rattle.disk_history.specs.declared.event.HistEvent.TheVariants.{Read}
 use Rattle.sheep_node.specs.declared.course.Course.TheVariants.{Checking}
-use Rattle.sheep_node.specs.declared.event.Event.{Event}
 use Rattle.overlap_law.specs.ChecksAhead.{ChecksHaveBegunIfFound, HasBegunAWrite}
 use Rattle.overlap_law.specs.MomentChanges as moments
 use Rattle.overlap_law.specs.MomentChanges.{RunsAreInRange}
@@ -17,6 +16,7 @@ use Rattle.overlap_law.proofs.ClosedHistories.{IsKeptWithHistory, with_history-i
 use Rattle.overlap_law.proofs.FoundInSteps.{AllBegunIfFound, HasBegunIfFound, found_grown, step_found}
 use Rattle.overlap_law.proofs.ItemsOfRequests.{begins_write_of}
 use Rattle.overlap_law.proofs.OpenTables.{whole_tables}
+use Rattle.sheep_world.specs.RunsWithAsks.{Move}
 
 -- what begins a write of the request is among the events
 found_start : (req : ℕ) (history : List HistEvent) → list_any (begins_write_of req) history ≡ true → HasBegunAWrite req history
@@ -66,11 +66,11 @@ module _ (script : List Statement) (range : RunsAreInRange script) (req : ℕ) w
         (whole_tables script range events before before run moments.Still) n host there up cause caused;
   }
 
-  pub found-in_run : (events : List Event) (moment : MomentWithPast) → run_with_past script events ≡ Some moment
+  pub found-in_run : (events : List Move) (moment : MomentWithPast) → run_with_past script events ≡ Some moment
       → AllBegunIfFound req moment.past.history moment.world.hosts
   found-in_run = with_history-in_run script req (HasBegunIfFound req) kept
 
-pub counted-in_run : (script : List Statement) → RunsAreInRange script → (events : List Event) (moment : MomentWithPast)
+pub counted-in_run : (script : List Statement) → RunsAreInRange script → (events : List Move) (moment : MomentWithPast)
     → run_with_past script events ≡ Some moment → ChecksHaveBegunIfFound moment.past.history moment.world.hosts
 counted-in_run script range events moment is = record {
   each = λ n host got req session check there counted.

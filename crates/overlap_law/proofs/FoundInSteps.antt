@@ -1,5 +1,6 @@
 -- What a step of a node leaves of the checks: one that has counted an own object has begun a write in the history.
-use Rattle.std.proofs.Common.{◌≡◌, ◌≢◌, ⊎_elim, ℕ, zero, suc, ◌+◌, ◌*◌, ◌-◌, ◌<◌, ◌≤◌, ◌^◌, ◌==◌, Bool, true, false, cond, List, [], ◌∷◌, ◌++◌, length, filter, Contains, Option, Some, None, option_map, refl, sym, ap, subst, pow_pos, arith, ◌∙◌}
+use Rattle.std.proofs.Common.{◌≡◌, ◌≢◌, ⊎_elim, ℕ, zero, suc, ◌+◌, ◌*◌, ◌-◌, ◌<◌, ◌≤◌, ◌^◌, ◌==◌, Bool, true, false, cond, List, [], ◌∷◌}
+use Rattle.std.proofs.Common.{◌++◌, length, filter, Contains, Option, Some, None, option_map, refl, sym, ap, subst, pow_pos, arith, ◌∙◌}
 use Rattle.std.specs.Prelude.{◌/◌, flat_map, slice_index, unwrap_or}
 use Rattle.std.specs.List.{list_any, range_with_len}
 use Rattle.std.specs.Option.{option_map_or, option_and_then}
@@ -46,8 +47,11 @@ use Rattle.sheep_node.proofs.OneWorkParts.{Requests}
 use Rattle.sheep_world.specs.World.{Host, World, is_host_up, node_at}
 use Rattle.sheep_world.specs.Asking.{ask_of_statement}
 use Rattle.sheep_world.specs.Began.{Began}
-use Rattle.sheep_world.specs.HistoryAdditions.{block_checked, check_write_adds, check_write_by, check_write_grown, is_on_disk, replies_grown}
-use Rattle.sheep_world.specs.NodeCauses.{NodeCause, GuestAsks, RequestComes, ReplyComes, LossIsTold, EntryIsRead, EntryIsPut, RecoveryTicks, WorkIsRetried, input_of_cause, IsCause, host_with_node, history_of_cause, world_after_cause}
+use Rattle.sheep_world.specs.HistoryAdditions.{block_checked, check_write_adds, check_write_by, check_write_grown, is_on_disk}
+use Rattle.sheep_world.specs.HistoryAdditions.{replies_grown}
+use Rattle.sheep_world.specs.NodeCauses.{NodeCause, GuestAsks, RequestComes, ReplyComes, LossIsTold, EntryIsRead, EntryIsPut, RecoveryTicks}
+use Rattle.sheep_world.specs.NodeCauses.{WorkIsRetried, ClientAsks, input_of_cause, IsCause, host_with_node, history_of_cause}
+use Rattle.sheep_world.specs.NodeCauses.{world_after_cause}
 use Rattle.sheep_world.proofs.StepsByCause.{sound_step}
 use Rattle.sheep_world.proofs.WireAtEvents.{is_ready}
 use Rattle.overlap_law.specs.MomentChanges.{RunsAreInRange}
@@ -314,3 +318,5 @@ module _ (script : List Statement) (range : RunsAreInRange script) (req : ℕ) (
       walked RecoveryTicks (λ so_far number count work attempt status bytes check ends. ends.ends.learns.told)
   step_found WorkIsRetried caused =
       walked WorkIsRetried (λ so_far number count work attempt status bytes check ends. ends.ends.learns.told)
+  step_found (ClientAsks req ask) caused =
+      walked (ClientAsks req ask) (λ so_far number count work attempt status bytes check ends. ends.ends.learns.told)

@@ -24,7 +24,8 @@ module _ (script : List Statement) (range : RunsAreInRange script) (start : Mome
   opened_now attempt n host o gateway there =
       let then = host_with_node o.stepping.host o.next.node in
       let at : tree.get after.world.hosts o.stepping.n ≡ Some then
-      = ap (λ (m : MomentWithPast). tree.get m.world.hosts o.stepping.n) o.moment_so ∙ get-insert_same start.world.hosts o.stepping.n then in
+      = ap (λ (m : MomentWithPast). tree.get m.world.hosts o.stepping.n) o.moment_so
+      ∙ get-insert_same start.world.hosts o.stepping.n then in
       let own : then.node.me.0 ≡ o.stepping.n = ((hosts_after_sound script range start began change).each o.stepping.n then at).read.own in
       let number : attempt.gateway.0 ≡ o.stepping.n
       = ap (λ (a : AttemptRecord). a.gateway.0) (sym o.opened) ∙ ap (λ m. m.0) (sym o.me_so) ∙ own in

@@ -21,23 +21,26 @@ abbrev pub GatewaysCame : Hosts → List AttemptRecord → Type 0
 GatewaysCame hosts attempts =
     EachAttempt attempts (λ j attempt. (host : Host) → tree.get hosts attempt.gateway.0 ≡ Some host → attempt.epoch ≤ host.node.peer.epoch)
 
-module _ (script : List Statement) (range : RunsAreInRange script) (start : MomentWithPast) (began : Began script start.world) {before after : MomentWithPast}
+module _ (script : List Statement) (range : RunsAreInRange script) (start : MomentWithPast) (began : Began script start.world)
+    {before after : MomentWithPast}
     (change : MomentChange script start before after) where
   -- an attempt that begins
   pub opened_epoch : (attempt : AttemptRecord) → IsOpened script start after attempt → (host : Host)
       → tree.get after.world.hosts attempt.gateway.0 ≡ Some host → attempt.epoch ≡ host.node.peer.epoch
   opened_epoch attempt o =
-      subst (λ (a : AttemptRecord). (host : Host) → tree.get after.world.hosts a.gateway.0 ≡ Some host → a.epoch ≡ host.node.peer.epoch) o.opened
-      (λ host at.
+      subst (λ (a : AttemptRecord). (host : Host) → tree.get after.world.hosts a.gateway.0 ≡ Some host → a.epoch ≡ host.node.peer.epoch)
+      o.opened (λ host at.
       let then = host_with_node o.stepping.host o.next.node in
       let there : tree.get after.world.hosts o.stepping.n ≡ Some then
-      = ap (λ (m : MomentWithPast). tree.get m.world.hosts o.stepping.n) o.moment_so ∙ get-insert_same start.world.hosts o.stepping.n then in
+      = ap (λ (m : MomentWithPast). tree.get m.world.hosts o.stepping.n) o.moment_so
+      ∙ get-insert_same start.world.hosts o.stepping.n then in
       let read = ((hosts_after_sound script range start began change).each o.stepping.n then there).read in
       let number : o.stepping.n ≡ o.lined.node.me.0 = sym read.own ∙ ap (λ m. m.0) o.me_so in
       let same : then ≡ host = same_Some then host (sym there ∙ ap (tree.get after.world.hosts) number ∙ at) in
       sym o.epoch_so ∙ ap (λ (h : Host). h.node.peer.epoch) same)
 
-  pub gateways_come : IsTied before → GatewaysCame before.world.hosts before.past.attempts → GatewaysCame after.world.hosts after.past.attempts
+  pub gateways_come : IsTied before → GatewaysCame before.world.hosts before.past.attempts
+      → GatewaysCame after.world.hosts after.past.attempts
   gateways_come tied came j now got host at = ⊎_elim
       (λ (w : WasAttempt before j now).
       let (old, was_there) = tied.there.each j w.was w.at in

@@ -1,5 +1,6 @@
 -- Each change of a moment keeps the attempts with the hosts of their gateways.
-use Rattle.std.proofs.Common.{◌≡◌, ◌⊎◌, inl, inr, arith, ℕ, ◌+◌, ◌≤◌, ◌<◌, Bool, true, false, List, length, Option, Some, None, is_some, slice_get, ⊎_elim, refl, sym, ap, subst, ◌∙◌}
+use Rattle.std.proofs.Common.{◌≡◌, ◌⊎◌, inl, inr, arith, ℕ, ◌+◌, ◌≤◌, ◌<◌, Bool, true, false, List, length, Option, Some, None, is_some}
+use Rattle.std.proofs.Common.{slice_get, ⊎_elim, refl, sym, ap, subst, ◌∙◌}
 use Rattle.std.specs.FinMap as tree
 use Rattle.std.proofs.lemmas.Bool.{cases_lt}
 use Rattle.std.proofs.lemmas.Option.{same_Some, slice_get_within}
@@ -12,7 +13,8 @@ use Rattle.overlap_law.specs.Attempts.{AttemptRecord, MessageFate, Doomed, attem
 use Rattle.overlap_law.specs.Reached.{Hosts}
 use Rattle.overlap_law.specs.Packets.{Wire, message_name_at, is_name_in_wire, IsQuiet}
 use Rattle.overlap_law.specs.Fates.{AttemptsAreOfIncarnations}
-use Rattle.overlap_law.specs.Traffic.{IsBegunBy, Traffic, NothingMoves, MessageIsLost, ReplyIsReceived, RequestIsAnswered, RequestsAreSent, AttemptBegins, RepliesGo}
+use Rattle.overlap_law.specs.Traffic.{IsBegunBy, Traffic, NothingMoves, MessageIsLost, ReplyIsReceived, RequestIsAnswered, RequestsAreSent}
+use Rattle.overlap_law.specs.Traffic.{AttemptBegins, RepliesGo}
 use Rattle.overlap_law.specs.TiedAttempts.{GatewaysAreThere}
 use Rattle.overlap_law.proofs.AttemptLists.{got_more, got_marked, fates_told}
 use Rattle.overlap_law.proofs.HostsInMoments.{SendsNothingIn, HostStays}
@@ -23,7 +25,8 @@ not_in_wire : (wire : Wire) (n : ℕ) (attempt : AttemptRecord) (place : ℕ) �
     → is_name_in_wire wire (message_name_at attempt place) ≡ false
 not_in_wire wire n attempt place nothing own = by_packet (tree.get wire (message_name_at attempt place)) refl
   where
-    by_packet : (o : Option Packet) → tree.get wire (message_name_at attempt place) ≡ o → is_name_in_wire wire (message_name_at attempt place) ≡ false
+    by_packet : (o : Option Packet) → tree.get wire (message_name_at attempt place) ≡ o
+        → is_name_in_wire wire (message_name_at attempt place) ≡ false
     by_packet None is = ap (λ (o : Option Packet). is_some o) is
     by_packet (Some packet) is = absurd (nothing (message_name_at attempt place) packet is own)
 
@@ -31,9 +34,10 @@ none_from : (one other : Bool) → (other ≡ true → one ≡ true) → one ≡
 none_from one true back none = let yes = back refl in absurd (cc (yes, none))
 none_from one false back none = refl
 
-module _ (hosts hosts_after : Hosts) (wire later : Wire) (attempts after : List AttemptRecord) (of_incarnations : AttemptsAreOfIncarnations hosts wire attempts)
-    (there : GatewaysAreThere hosts attempts) (stay : (n : ℕ) (host : Host) → tree.get hosts n ≡ Some host → HostStays hosts_after wire n host)
-    (traffic : Traffic hosts hosts_after wire attempts later after) where
+module _ (hosts hosts_after : Hosts) (wire later : Wire) (attempts after : List AttemptRecord)
+    (of_incarnations : AttemptsAreOfIncarnations hosts wire attempts)
+    (there : GatewaysAreThere hosts attempts) (stay : (n : ℕ) (host : Host) → tree.get hosts n ≡ Some host
+    → HostStays hosts_after wire n host) (traffic : Traffic hosts hosts_after wire attempts later after) where
   -- an attempt that was there, but for its fates
   pub record WasThere (j : ℕ) (now : AttemptRecord) : Type 0 where
     pub was : AttemptRecord
@@ -48,7 +52,8 @@ module _ (hosts hosts_after : Hosts) (wire later : Wire) (attempts after : List 
     pub sends : List (NodeId × PeerReq)
     pub begun : IsBegunBy hosts hosts_after n sends now
 
-  marked : (told : MessageFate) (sender : NodeId) (number j : ℕ) (now : AttemptRecord) → slice_get (attempts_with_fate told sender number attempts) j ≡ Some now
+  marked : (told : MessageFate) (sender : NodeId) (number j : ℕ) (now : AttemptRecord)
+      → slice_get (attempts_with_fate told sender number attempts) j ≡ Some now
       → WasThere j now ⊎ Begins j now
   marked told sender number j now got =
       let (was, at, is) = got_marked told sender number attempts j now got in
@@ -57,7 +62,8 @@ module _ (hosts hosts_after : Hosts) (wire later : Wire) (attempts after : List 
   unmarked : (j : ℕ) (now : AttemptRecord) → slice_get attempts j ≡ Some now → WasThere j now ⊎ Begins j now
   unmarked j now got = inl (record { was = now; at = got; fates = now.fates; same = refl })
 
-  by_kind : {w : Wire} {all : List AttemptRecord} → Traffic hosts hosts_after wire attempts w all → (j : ℕ) (now : AttemptRecord) → slice_get all j ≡ Some now
+  by_kind : {w : Wire} {all : List AttemptRecord} → Traffic hosts hosts_after wire attempts w all → (j : ℕ) (now : AttemptRecord)
+      → slice_get all j ≡ Some now
       → WasThere j now ⊎ Begins j now
   by_kind NothingMoves j now got = unmarked j now got
   by_kind (MessageIsLost name (Request to bytes) at) j now got = marked Doomed name.sender name.number j now got
@@ -94,21 +100,33 @@ module _ (hosts hosts_after : Hosts) (wire later : Wire) (attempts after : List 
     sends : host.node.sends ≤ now.node.sends
     renewed : host.incarnation < now.incarnation → SendsNothingIn was.gateway.0 wire
 
-  at_hosts : (j : ℕ) (was : AttemptRecord) (now : Host) → slice_get attempts j ≡ Some was → tree.get hosts_after was.gateway.0 ≡ Some now → AtHosts was now
+  at_hosts : (j : ℕ) (was : AttemptRecord) (now : Host) → slice_get attempts j ≡ Some was → tree.get hosts_after was.gateway.0 ≡ Some now
+      → AtHosts was now
   at_hosts j was now at got =
       let (host, is) = there.each j was at in
       let stays = stay was.gateway.0 host is in
       let same : stays.now ≡ now = same_Some stays.now now (sym stays.there ∙ got) in
-      subst (AtHosts was) same (record { host = host; is = is; incarnation = stays.incarnation; sends = stays.sends; renewed = stays.renewed })
+      subst (AtHosts was) same (record {
+        host = host;
+        is = is;
+        incarnation = stays.incarnation;
+        sends = stays.sends;
+        renewed = stays.renewed;
+      })
 
-  quiet_still : (j : ℕ) (was : AttemptRecord) → slice_get attempts j ≡ Some was → ((place : ℕ) (target : NodeId) → slice_get was.targets place ≡ Some target
-      → is_name_in_wire wire (message_name_at was place) ≡ false) → (fates : List MessageFate) → IsQuiet later (record was { fates = fates })
+  quiet_still : (j : ℕ) (was : AttemptRecord) → slice_get attempts j ≡ Some was
+      → ((place : ℕ) (target : NodeId) → slice_get was.targets place ≡ Some target
+      → is_name_in_wire wire (message_name_at was place) ≡ false) → (fates : List MessageFate)
+      → IsQuiet later (record was { fates = fates })
   quiet_still j was at none fates = record {
-    none = λ place target among. none_from (is_name_in_wire wire (message_name_at was place)) (is_name_in_wire later (message_name_at was place))
-        (traffic_fewer hosts hosts_after wire attempts of_incarnations traffic j was at place target among) (none place target among);
+    none =
+        λ place target among. none_from (is_name_in_wire wire (message_name_at was place))
+        (is_name_in_wire later (message_name_at was place)) (traffic_fewer hosts hosts_after wire attempts of_incarnations traffic j was at
+        place target among) (none place target among);
   }
 
-  earlier_quiet : (j : ℕ) (was : AttemptRecord) (now : Host) → slice_get attempts j ≡ Some was → tree.get hosts_after was.gateway.0 ≡ Some now
+  earlier_quiet : (j : ℕ) (was : AttemptRecord) (now : Host) → slice_get attempts j ≡ Some was
+      → tree.get hosts_after was.gateway.0 ≡ Some now
       → was.incarnation < now.incarnation → (fates : List MessageFate) → IsQuiet later (record was { fates = fates })
   earlier_quiet j was now at got less fates =
       let h = at_hosts j was now at got in
@@ -131,8 +149,10 @@ module _ (hosts hosts_after : Hosts) (wire later : Wire) (attempts after : List 
         let still : w.was.incarnation ≤ host.incarnation = omega (arith, before, rises) in
         subst (λ (a : AttemptRecord). a.incarnation ≤ host.incarnation) w.same still)
         (λ (b : Begins j now).
-        let same : b.begun.sent_by.after ≡ host = same_Some b.begun.sent_by.after host (sym b.begun.sent_by.there_after ∙ ap (tree.get hosts_after) (sym b.begun.gateway) ∙ is) in
-        let at : now.incarnation ≡ host.incarnation = b.begun.incarnation ∙ sym b.begun.sent_by.stays ∙ ap (λ (h : Host). h.incarnation) same in
+        let same : b.begun.sent_by.after ≡ host = same_Some b.begun.sent_by.after host
+        (sym b.begun.sent_by.there_after ∙ ap (tree.get hosts_after) (sym b.begun.gateway) ∙ is) in
+        let at : now.incarnation ≡ host.incarnation = b.begun.incarnation ∙ sym b.begun.sent_by.stays
+        ∙ ap (λ (h : Host). h.incarnation) same in
         omega (arith, at))
         (where_from j now got);
     earlier = λ j now got host is less. ⊎_elim
@@ -141,8 +161,10 @@ module _ (hosts hosts_after : Hosts) (wire later : Wire) (attempts after : List 
         (earlier_quiet j w.was host w.at (ap (λ (a : AttemptRecord). tree.get hosts_after a.gateway.0) w.same ∙ is)
         (subst (λ (a : AttemptRecord). a.incarnation < host.incarnation) (sym w.same) less) w.fates))
         (λ (b : Begins j now).
-        let same : b.begun.sent_by.after ≡ host = same_Some b.begun.sent_by.after host (sym b.begun.sent_by.there_after ∙ ap (tree.get hosts_after) (sym b.begun.gateway) ∙ is) in
-        let at : now.incarnation ≡ host.incarnation = b.begun.incarnation ∙ sym b.begun.sent_by.stays ∙ ap (λ (h : Host). h.incarnation) same in
+        let same : b.begun.sent_by.after ≡ host = same_Some b.begun.sent_by.after host
+        (sym b.begun.sent_by.there_after ∙ ap (tree.get hosts_after) (sym b.begun.gateway) ∙ is) in
+        let at : now.incarnation ≡ host.incarnation = b.begun.incarnation ∙ sym b.begun.sent_by.stays
+        ∙ ap (λ (h : Host). h.incarnation) same in
         absurd (omega (arith, at, less)))
         (where_from j now got);
     given = λ j now got host is. ⊎_elim
@@ -153,7 +175,8 @@ module _ (hosts hosts_after : Hosts) (wire later : Wire) (attempts after : List 
         let still : w.was.first + length w.was.targets ≤ host.node.sends = omega (arith, before, rises) in
         subst (λ (a : AttemptRecord). a.first + length a.targets ≤ host.node.sends) w.same still)
         (λ (b : Begins j now).
-        let same : b.begun.sent_by.after ≡ host = same_Some b.begun.sent_by.after host (sym b.begun.sent_by.there_after ∙ ap (tree.get hosts_after) (sym b.begun.gateway) ∙ is) in
+        let same : b.begun.sent_by.after ≡ host = same_Some b.begun.sent_by.after host
+        (sym b.begun.sent_by.there_after ∙ ap (tree.get hosts_after) (sym b.begun.gateway) ∙ is) in
         let first : now.first ≡ b.begun.sent_by.host.node.sends = b.begun.first in
         let count : length now.targets ≡ length b.sends = b.begun.count in
         let counted : host.node.sends ≡ b.begun.sent_by.host.node.sends + length b.sends

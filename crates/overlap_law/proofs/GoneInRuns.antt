@@ -1,6 +1,7 @@
--- In each world of a run in range a node has left as often as incarnations of it ended in a `Leave`, and what left came to no epoch from its
--- `Leave` on. So what it asked is fenced.
-use Rattle.std.proofs.Common.{◌≡◌, ◌≢◌, ⊎_elim, arith, ℕ, ◌+◌, ◌-◌, ◌<◌, ◌==◌, ◌||◌, ◌≤◌, not, cond, Bool, true, false, List, [], ◌∷◌, ◌++◌, filter, length, slice_get, Option, Some, None, is_some, refl, sym, ap, subst, ◌∙◌}
+-- In each world of a run in range a node has left as often as incarnations of it ended in a `Leave`, and what left came to no epoch from
+-- its `Leave` on. So what it asked is fenced.
+use Rattle.std.proofs.Common.{◌≡◌, ◌≢◌, ⊎_elim, arith, ℕ, ◌+◌, ◌-◌, ◌<◌, ◌==◌, ◌||◌, ◌≤◌, not, cond, Bool, true, false, List, [], ◌∷◌, ◌++◌}
+use Rattle.std.proofs.Common.{filter, length, slice_get, Option, Some, None, is_some, refl, sym, ap, subst, ◌∙◌}
 use Rattle.std.specs.FinMap as tree
 use Rattle.std.proofs.lemmas.Bool.{cases_eq, eq-eqb, ne_eqb, and_parts, not-true}
 use Rattle.std.proofs.lemmas.List.{length_push}
@@ -25,12 +26,14 @@ use Rattle.sheep_world.specs.MembershipChanges.{lost_host, last_weight}
 use Rattle.sheep_world.specs.Step.{EventOutcome}
 use Rattle.sheep_world.specs.Began.{Began}
 use Rattle.sheep_world.specs.LogHolds.{is_member_now, LogHolds}
-use Rattle.sheep_world.specs.NodeCauses.{NodeCause, GuestAsks, RequestComes, ReplyComes, LossIsTold, EntryIsRead, EntryIsPut, RecoveryTicks, WorkIsRetried, input_of_cause, IsCause, log_after_cause, host_with_node}
-use Rattle.sheep_world.specs.EventKinds.{log_after_return, EventKind, NodeStep, UntoldLoss, UnreadDelivery, NodeLoss, NodeLeave, NodeReweight, NodeJoin, NodeReturn, PhaseEnd}
+use Rattle.sheep_world.specs.NodeCauses.{NodeCause, GuestAsks, RequestComes, ReplyComes, LossIsTold, EntryIsRead, EntryIsPut, RecoveryTicks}
+use Rattle.sheep_world.specs.NodeCauses.{WorkIsRetried, ClientAsks, input_of_cause, IsCause, log_after_cause, host_with_node}
+use Rattle.sheep_world.specs.EventKinds.{log_after_return, EventKind, NodeStep, UntoldLoss, UnreadDelivery, NodeLoss, NodeLeave}
+use Rattle.sheep_world.specs.EventKinds.{NodeReweight, NodeJoin, NodeReturn, PhaseEnd}
 use Rattle.sheep_world.specs.HostChanges.{host_after_return, joined_host}
 use Rattle.sheep_world.proofs.BegunWorlds.{by_induction}
 use Rattle.sheep_world.proofs.ControlLaws.{next_fits}
-use Rattle.sheep_world.proofs.EventInversion.{happens}
+use Rattle.sheep_world.proofs.ClientReads.{goes_by_kind}
 use Rattle.sheep_world.proofs.LogAtOpening.{log-holds, nodes-valid, opens_log}
 use Rattle.sheep_world.proofs.LogFrontLaws.{all_read}
 use Rattle.sheep_world.proofs.MembersOfLog.{member-members_with, member-members_reweighted, member-members_without, now-plain, now-begun}
@@ -87,7 +90,8 @@ record IsSame (log later : List Entry) (n : ℕ) : Type 0 where
   leaves : leaves_of later n ≡ leaves_of log n
   member : is_member_now later n ≡ is_member_now log n
 
-counted_still : (log later : List Entry) (n incarnation : ℕ) → IsSame log later n → IsCounted log n incarnation → IsCounted later n incarnation
+counted_still : (log later : List Entry) (n incarnation : ℕ) → IsSame log later n → IsCounted log n incarnation
+    → IsCounted later n incarnation
 counted_still log later n incarnation same is = record {
   member = λ now. ap (λ (leaves : List ℕ). length leaves + 1) same.leaves ∙ is.member (sym same.member ∙ now);
   gone = λ now. ap length same.leaves ∙ is.gone (sym same.member ∙ now);
@@ -108,13 +112,15 @@ not_left log n incarnation left is member leaves =
     let none : leave_of log n incarnation ≡ None = ap (slice_get (leaves_of log n)) place ∙ at_end (leaves_of log n) in
     absurd (cc (leaves, none))
 
-member_fenced : (log : List Entry) (n : ℕ) (host : Host) → IsCounted log n host.incarnation → is_member_now log n ≡ true → IsFenced log n host
+member_fenced : (log : List Entry) (n : ℕ) (host : Host) → IsCounted log n host.incarnation → is_member_now log n ≡ true
+    → IsFenced log n host
 member_fenced log n host is member =
     record { counted = is; before = λ left leaves. not_left log n host.incarnation left is member leaves }
 
 -- ---- hosts
 
-none_before : (hosts : Hosts) (k : ℕ) (new : Host) (n : ℕ) → tree.get (tree.insert hosts k new) n ≡ None → (n ≢ k) × (tree.get hosts n ≡ None)
+none_before : (hosts : Hosts) (k : ℕ) (new : Host) (n : ℕ) → tree.get (tree.insert hosts k new) n ≡ None
+    → (n ≢ k) × (tree.get hosts n ≡ None)
 none_before hosts k new n none = ⊎_elim
     (λ (own : n ≡ k).
     let some = ap (tree.get (tree.insert hosts k new)) own ∙ get-insert_same hosts k new in absurd (cc (none, some)))
@@ -122,7 +128,8 @@ none_before hosts k new n none = ⊎_elim
     (cases_eq n k)
 
 -- one host is another, the others are as they were
-one_fenced : (log later : List Entry) (hosts : Hosts) (k : ℕ) (new : Host) → ((n : ℕ) → n ≢ k → IsSame log later n) → IsFenced later k new → AllFenced log hosts
+one_fenced : (log later : List Entry) (hosts : Hosts) (k : ℕ) (new : Host) → ((n : ℕ) → n ≢ k → IsSame log later n) → IsFenced later k new
+    → AllFenced log hosts
     → AllFenced later (tree.insert hosts k new)
 one_fenced log later hosts k new same own all = record {
   each = λ n host there. ⊎_elim
@@ -139,7 +146,8 @@ up_so host up = not-true host.is_lost (and_parts (not host.is_lost) (has_numbers
 same_itself : (log : List Entry) (n : ℕ) → IsSame log log n
 same_itself log n = record { leaves = refl; member = refl }
 
-module _ (script : List Statement) (range : RunsAreInRange script) (world : World) (began : Began script world) (all : AllFenced world.log world.hosts) where
+module _ (script : List Statement) (range : RunsAreInRange script) (world : World) (began : Began script world)
+    (all : AllFenced world.log world.hosts) where
   abbrev log : List Entry
   log = world.log
 
@@ -158,16 +166,19 @@ module _ (script : List Statement) (range : RunsAreInRange script) (world : Worl
   same_put n host (LossIsTold name packet) there so q = same_itself log q
   same_put n host (EntryIsRead entry) there so q = same_itself log q
   same_put n host (EntryIsPut entry) there (later, first) q =
-      let puttable = each_puts script world began (nodes-valid script range.is_script range.room world began) n host entry later there first in
+      let puttable = each_puts script world began (nodes-valid script range.is_script range.room world began) n host entry later there
+      first in
       record { leaves = leaves_plain log entry q puttable.plain; member = now-plain log entry q some puttable.plain }
   same_put n host RecoveryTicks there so q = same_itself log q
   same_put n host WorkIsRetried there so q = same_itself log q
+  same_put n host (ClientAsks req ask) there so q = same_itself log q
 
   -- a node's epoch is one of the log
   epoch_read : (n : ℕ) (host : Host) → tree.get world.hosts n ≡ Some host → host.node.peer.epoch < epoch_of log + 1
   epoch_read n host there =
       let front = all_read script world began n host there in
-      let own : host.node.peer.epoch ≡ epoch_of host.node.peer.entries = (by_the_log script range.is_script range.room world began n host there).epoch_so in
+      let own : host.node.peer.epoch ≡ epoch_of host.node.peer.entries = (by_the_log script range.is_script range.room world began n host
+      there).epoch_so in
       let whole : epoch_of log ≡ epoch_of host.node.peer.entries + length (filter begins_epoch front.rest)
       = ap epoch_of front.is ∙ epoch_of-append host.node.peer.entries front.rest in
       omega (arith, own, whole)
@@ -236,7 +247,8 @@ module _ (script : List Statement) (range : RunsAreInRange script) (world : Worl
 
     now_so : (n : ℕ) → is_member_now joined n ≡ ((k == n) || is_member_now log n)
     now_so n =
-        now-begun log (entries.Join (record { 0 = k }) zone vnodes) n some refl ∙ member-members_with n new_member (members_in log (epoch_of log))
+        now-begun log (entries.Join (record { 0 = k }) zone vnodes) n some refl
+        ∙ member-members_with n new_member (members_in log (epoch_of log))
 
     others_same : (n : ℕ) → n ≢ k → IsSame log joined n
     others_same n apart = record {
@@ -277,20 +289,23 @@ module _ (script : List Statement) (range : RunsAreInRange script) (world : Worl
       let stands = (holds.well h.n h.host h.there).stands (up_so h.host h.up) in
       subst FencedAfter h.made_so
       (one_fenced log later world.hosts h.n new (λ n apart. same n)
-      (member_fenced later h.n new (counted_still log later h.n h.host.incarnation (same h.n) (all.each h.n h.host h.there).counted) ((same h.n).member ∙ stands)) all)
+      (member_fenced later h.n new (counted_still log later h.n h.host.incarnation (same h.n) (all.each h.n h.host h.there).counted)
+      ((same h.n).member ∙ stands)) all)
   event_fenced event made (UntoldLoss h) = subst FencedAfter h.made_so all
   event_fenced event made (UnreadDelivery h) = subst FencedAfter h.made_so all
   event_fenced event made (NodeLoss h) =
       let was = all.each h.n h.host h.there in
       subst FencedAfter h.made_so
-      (one_fenced log log world.hosts h.n (lost_host h.host) (λ n apart. same_itself log n) (record { counted = was.counted; before = was.before }) all)
+      (one_fenced log log world.hosts h.n (lost_host h.host) (λ n apart. same_itself log n)
+      (record { counted = was.counted; before = was.before }) all)
   event_fenced event made (NodeLeave h) = subst FencedAfter h.made_so (left_fenced h.n h.host h.there h.member)
   event_fenced event made (NodeReweight h) =
       let later = log ++ entries.Reweight (record { 0 = h.n }) h.vnodes ∷ [] in
       let same : (n : ℕ) → IsSame log later n
       = λ n. record {
         leaves = leaves_weighed log (record { 0 = h.n }) h.vnodes n;
-        member = now-begun log (entries.Reweight (record { 0 = h.n }) h.vnodes) n some refl ∙ member-members_reweighted n h.n h.vnodes (members_in log (epoch_of log));
+        member = now-begun log (entries.Reweight (record { 0 = h.n }) h.vnodes) n some refl
+            ∙ member-members_reweighted n h.n h.vnodes (members_in log (epoch_of log));
       } in
       subst FencedAfter h.made_so
       (record {
@@ -300,16 +315,19 @@ module _ (script : List Statement) (range : RunsAreInRange script) (world : Worl
   event_fenced event made (NodeJoin h) =
       let none = (next_fits script world (lines.Join h.n) h.control (together script range world began).fit).1 in
       subst FencedAfter h.made_so
-      (new_fenced h.n (zone_of script h.n) (vnodes_of script) (joined_host script h.n) (ap (λ (leaves : List ℕ). length leaves + 1) (no_leaves h.n none)))
+      (new_fenced h.n (zone_of script h.n) (vnodes_of script) (joined_host script h.n)
+      (ap (λ (leaves : List ℕ). length leaves + 1) (no_leaves h.n none)))
   event_fenced event made (NodeReturn h) =
       let count : length (leaves_of log h.n) ≡ h.host.incarnation = (all.each h.n h.host h.there).counted.gone h.no_member in
       subst FencedAfter h.made_so
-      (new_fenced h.n (zone_of script h.n) (last_weight log h.n) (host_after_return (log_after_return script h.n world) h.host) (ap (λ (n : ℕ). n + 1) count))
+      (new_fenced h.n (zone_of script h.n) (last_weight log h.n) (host_after_return (log_after_return script h.n world) h.host)
+      (ap (λ (n : ℕ). n + 1) count))
   event_fenced event made (PhaseEnd h) = subst FencedAfter h.made_so all
 
 -- ---- every world
 
-opening_fenced : (script : List Statement) → LogHolds (initial_world script) → AllFenced (initial_world script).log (initial_world script).hosts
+opening_fenced : (script : List Statement) → LogHolds (initial_world script)
+    → AllFenced (initial_world script).log (initial_world script).hosts
 unfolding initial_world
 opening_fenced script holds =
     let first : (n : ℕ) → leaves_of (format_entry script ∷ []) n ≡ [] = λ n. leaves_plain [] (format_entry script) n refl ∙ leaves_none n in
@@ -330,5 +348,6 @@ pub all_fenced : (script : List Statement) → RunsAreInRange script → (world 
 all_fenced script range =
     by_induction script (λ (world : World). AllFenced world.log world.hosts) (record {
       opens = opening_fenced script (opens_log script range.is_script);
-      keeps = λ event world made began is all. event_fenced script range world began all event made (happens script event world made is);
+      keeps = λ event world made began is all. event_fenced script range world began all event made
+          (goes_by_kind script event world made is);
     })

@@ -13,7 +13,8 @@ use Rattle.vdi_directory.proofs.DecisionLaws.{states-forward}
 use Rattle.vdi_directory.proofs.DeadTests.{test-finds-dead}
 use Rattle.overlap_law.specs.Attempts.{AttemptRecord}
 use Rattle.overlap_law.specs.BornObjects.{IsBorn}
-use Rattle.overlap_law.specs.Holders.{is_object_among, born_objects, is_live_object, is_dead_by_log, is_good, is_of_chain, is_available_disk}
+use Rattle.overlap_law.specs.Holders.{is_object_among, born_objects, is_live_object, is_dead_by_log, is_good, is_of_chain}
+use Rattle.overlap_law.specs.Holders.{is_available_disk}
 use Rattle.overlap_law.proofs.MadeForDisks.{stands_alive}
 
 -- an object of the disk, or of one above it

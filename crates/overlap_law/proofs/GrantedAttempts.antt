@@ -1,6 +1,7 @@
--- The attempts of a request that may still make something are under the grant, on each id that its session may write: over each change of a moment,
--- and so in every run in range. So only the writer of an id has creates and writes open on it, with attempts under its grant.
-use Rattle.std.proofs.Common.{◌≡◌, inl, ⊎_elim, ℕ, ◌≤◌, Bool, true, false, cond, List, [], ◌∷◌, ◌++◌, Option, Some, None, option_map, refl, sym, ap, subst, ◌∙◌}
+-- The attempts of a request that may still make something are under the grant, on each id that its session may write: over each change of a
+-- moment, and so in every run in range. So only the writer of an id has creates and writes open on it, with attempts under its grant.
+use Rattle.std.proofs.Common.{◌≡◌, inl, ⊎_elim, ℕ, ◌≤◌, Bool, true, false, cond, List, [], ◌∷◌, ◌++◌, Option, Some, None, refl, sym, ap}
+use Rattle.std.proofs.Common.{subst, ◌∙◌}
 use Rattle.std.specs.FinMap as tree
 use Rattle.object_id.specs.declared.entry.Entry.{Entry}
 use Rattle.object_id.specs.declared.entry.Entry.TheVariants as entries
@@ -18,15 +19,16 @@ use Rattle.inode.specs.Layout.{Content}
 use Rattle.sheep_node.specs.declared.course.Course.{Course}
 use Rattle.sheep_node.specs.declared.course.Course.TheVariants.{Waiting, Driving, Commanding, Checking, DoingWork, AwaitingDecision}
 use Rattle.sheep_node.specs.declared.course.Request.{Request}
-use Rattle.sheep_node.specs.declared.event.Event.{Event}
 use Rattle.sheep_node.specs.Courses.{inode_open}
 use Rattle.sheep_node.specs.SessionQueues.{session_among}
 use Rattle.sheep_node.specs.WantedWorks.{IsWorkWanted, IsWantedAt}
 use Rattle.sheep_world.specs.Began.{Began}
 use Rattle.sheep_world.specs.MembershipChanges.{join_of, last_weight}
-use Rattle.sheep_world.specs.NodeCauses.{NodeCause, GuestAsks, RequestComes, ReplyComes, LossIsTold, EntryIsRead, EntryIsPut, RecoveryTicks, WorkIsRetried, IsCause, log_after_cause}
+use Rattle.sheep_world.specs.NodeCauses.{NodeCause, GuestAsks, RequestComes, ReplyComes, LossIsTold, EntryIsRead, EntryIsPut, RecoveryTicks}
+use Rattle.sheep_world.specs.NodeCauses.{WorkIsRetried, ClientAsks, IsCause, log_after_cause}
 use Rattle.sheep_world.specs.Step.{EventOutcome}
 use Rattle.sheep_world.specs.World.{Host, is_host_up}
+use Rattle.sheep_world.specs.RunsWithAsks.{Move}
 use Rattle.overlap_law.specs.Attempts.{AttemptRecord, object_of}
 use Rattle.overlap_law.specs.Grants.{gives, given_to, granted_in, writer_of}
 use Rattle.overlap_law.specs.GrantedAttempts.{is_past_works, has_made_all, AttemptsAreUnderTheGrant}
@@ -52,6 +54,7 @@ use Rattle.overlap_law.proofs.WorkedCourses.{may_have_worked}
 use Rattle.overlap_law.proofs.WorksInMoments.{well_along}
 use Rattle.overlap_law.proofs.WriterChanges.{entry_gives_writer, entry_gives_to}
 use Rattle.overlap_law.proofs.WritersOfWorks.{works_may-in_run}
+use Rattle.overlap_law.proofs.GoingOn.{next_by}
 
 -- ---- an entry gives nothing to a session of which a request works
 
@@ -87,9 +90,11 @@ module _ (script : List Statement) (range : RunsAreInRange script) (start : Mome
   stepped_gives n host there up (EntryIsPut put) so entry more =
       subst (GivesToNone start) (pushed start.world.log put entry more)
       (λ q at found req request asked worked making to.
-      gives_not script range start began n host there (up_not_lost script range start began host up) put so q at found req request asked worked making to)
+      gives_not script range start began n host there (up_not_lost script range start began host up) put so q at found req request asked
+      worked making to)
   stepped_gives n host there up RecoveryTicks so entry more = absurd (never_pushed start.world.log entry more)
   stepped_gives n host there up WorkIsRetried so entry more = absurd (never_pushed start.world.log entry more)
+  stepped_gives n host there up (ClientAsks req ask) so entry more = absurd (never_pushed start.world.log entry more)
 
   gives_none : {before after : MomentWithPast} → MomentChange script start before after → GivesNoneAtEntries before after
   gives_none {before} {after} (moments.StepBegins stepping is by) = none_put before after (log-by_changes stepping.cause start.world.log by)
@@ -119,8 +124,10 @@ module _ (script : List Statement) (range : RunsAreInRange script) (start : Mome
   -- ---- each change
 
   module _ {before after : MomentWithPast} (change : MomentChange script start before after) (started : StartedAt script start)
-      (worked : RequestsHaveWorked before) (granted : AttemptsAreUnderTheGrant before.world.log before.world.hosts before.past.attempts) where
-    module _ (n : ℕ) (host : Host) (there : tree.get after.world.hosts n ≡ Some host) (up : host.is_lost ≡ false) (j : ℕ) (attempt : AttemptRecord)
+      (worked : RequestsHaveWorked before) (granted : AttemptsAreUnderTheGrant before.world.log before.world.hosts
+      before.past.attempts) where
+    module _ (n : ℕ) (host : Host) (there : tree.get after.world.hosts n ≡ Some host) (up : host.is_lost ≡ false) (j : ℕ)
+        (attempt : AttemptRecord)
         (gateway : attempt.gateway.0 ≡ n) (request : Request) (asked : tree.get host.node.requests attempt.req ≡ Some request)
         (making : has_made_all request.course ≡ false)
         (writer : writer_of (log_effects after.world.log) (vid_of (object_of attempt)) ≡ Some (session_holder n request.session)) where
@@ -130,7 +137,8 @@ module _ (script : List Statement) (range : RunsAreInRange script) (start : Mome
       abbrev IsGranted : Type 0
       IsGranted = granted_in after.world.log (vid_of (object_of attempt)) ≤ attempt.epoch
 
-      module _ (w : WasAttempt before j attempt) (had : HadMaking script start before n host) (was : WasMaking attempt.req request had.old.node.requests) where
+      module _ (w : WasAttempt before j attempt) (had : HadMaking script start before n host)
+          (was : WasMaking attempt.req request had.old.node.requests) where
         of_gateway : w.was.gateway.0 ≡ n
         of_gateway = ap (λ (a : AttemptRecord). a.gateway.0) w.same ∙ gateway
 
@@ -154,7 +162,8 @@ module _ (script : List Statement) (range : RunsAreInRange script) (start : Mome
             → gives (vid_of (object_of attempt)) (outcome (log_effects before.world.log) entry).effect ≡ true → ⊥
         not_given entry more given =
             let to : given_to (outcome (log_effects before.world.log) entry).effect ≡ Some (session_holder n was.request.session)
-            = sym (entry_gives_to before.world.log entry id given) ∙ sym (ap (λ (log : List Entry). writer_of (log_effects log) id) more) ∙ writer
+            = sym (entry_gives_to before.world.log entry id given) ∙ sym (ap (λ (log : List Entry). writer_of (log_effects log) id) more)
+            ∙ writer
             ∙ ap (λ (h : Holder). Some h) (sym session_then) in
             gives_none change entry more n had.old had.there w.was.req was.request asked_then
             (worked n had.old had.there had.up j w.was w.at of_gateway was.request asked_then) was.making to
@@ -234,14 +243,15 @@ module _ (script : List Statement) (range : RunsAreInRange script) where
 
   events_keep : KeptByEvents script HoldsAt
   events_keep event before made began is holds = record {
-    within = along before began holds (event_trail script event before (moment_after script event before made) (ap (option_map (moment_after script event before)) is));
-    started = events_started script event before made began is holds.started;
+    within = along before began holds (event_trail script is.move before (moment_after script event before made)
+        (next_by script event before made is));
+    started = events_started script range event before made began is holds.started;
   }
 
-  holds_then : (events : List Event) (moment : MomentWithPast) → run_with_past script events ≡ Some moment → HoldsAt moment
+  holds_then : (events : List Move) (moment : MomentWithPast) → run_with_past script events ≡ Some moment → HoldsAt moment
   holds_then = run-kept_by_events script HoldsAt opens_so events_keep
 
-  pub under_the_grant-in_run : (events : List Event) (start moment : MomentWithPast) → run_with_past script events ≡ Some start
+  pub under_the_grant-in_run : (events : List Move) (start moment : MomentWithPast) → run_with_past script events ≡ Some start
       → MomentTrail script start moment → AttemptsAreUnderTheGrant moment.world.log moment.world.hosts moment.past.attempts
   under_the_grant-in_run events start moment is trail =
       (along start (began-with_past script events start is) (holds_then events start is) trail).granted
@@ -263,13 +273,14 @@ module _ (script : List Statement) (range : RunsAreInRange script) where
   course_makes inode (DoingWork asked) work wanted = refl
   course_makes inode (AwaitingDecision entry) work wanted = refl
 
-  pub only_writer-in_run : (events : List Event) (start moment : MomentWithPast) → run_with_past script events ≡ Some start
+  pub only_writer-in_run : (events : List Move) (start moment : MomentWithPast) → run_with_past script events ≡ Some start
       → MomentTrail script start moment → OnlyTheWriterWrites moment.world.log moment.world.hosts moment.past.attempts
   only_writer-in_run events start moment is trail = record {
     each = λ n host there up req work got making.
         let w = (works_may-in_run script range events start moment is trail).each n host there up req work got making in
         let well = well_along script range start (began-with_past script events start is) trail n host there in
-        let wanted = subst (λ (o : Option Request). IsWantedAt host.node.sessions o work.work) w.there (well.wanted req work.work (inl (work, got, refl))) in
+        let wanted = subst (λ (o : Option Request). IsWantedAt host.node.sessions o work.work) w.there
+        (well.wanted req work.work (inl (work, got, refl))) in
         let makes = course_makes (inode_open (session_among w.request.session host.node.sessions).disk) w.request.course work.work wanted in
         record {
           request = w.request;

@@ -1,5 +1,6 @@
 -- Where a log that grows has an id reserved, and what disk the id is of: no later entry changes it. And where incarnations left.
-use Rattle.std.proofs.Common.{◌≡◌, arith, ℕ, zero, suc, ◌+◌, ◌≤◌, ◌<◌, ◌==◌, ◌||◌, Bool, true, false, cond, List, [], ◌∷◌, ◌++◌, length, map, fold, filter, zip, Option, Some, None, is_some, refl, sym, ap, subst, ◌∙◌, append_assoc, append-nil}
+use Rattle.std.proofs.Common.{◌≡◌, arith, ℕ, zero, suc, ◌+◌, ◌≤◌, ◌<◌, ◌==◌, ◌||◌, Bool, true, false, cond, List, [], ◌∷◌, ◌++◌, length}
+use Rattle.std.proofs.Common.{map, fold, filter, zip, Option, Some, None, is_some, refl, sym, ap, subst, ◌∙◌, append_assoc, append-nil}
 use Rattle.std.specs.Option.{option_map}
 use Rattle.std.specs.List.{filter_map, range_with_len}
 use Rattle.std.proofs.lemmas.Bool.{eqb-true}
@@ -23,7 +24,8 @@ use Rattle.vdi_directory.proofs.StateLemmas.{log_effects-none, log_effects-push,
 use Rattle.overlap_law.specs.Grants.{epochs_at_entries, dated_effects, later_if, reserved_in, leave_epoch_of, leaves_of}
 
 -- what each entry more keeps, all later ones keep
-pub from_front : (P : List Entry → Type 0) → ((log : List Entry) (entry : Entry) → P log → P (log ++ entry ∷ [])) → (log later : List Entry) → P log
+pub from_front : (P : List Entry → Type 0) → ((log : List Entry) (entry : Entry) → P log → P (log ++ entry ∷ [])) → (log later : List Entry)
+    → P log
     → P (log ++ later)
 from_front P next log [] holds = subst P (sym (append-nil log)) holds
 from_front P next log (entry ∷ later) holds =
@@ -42,18 +44,21 @@ length_of_effects log = from_front (λ (log : List Entry). length (log_effects l
     let there : length (log ++ entry ∷ []) ≡ length log + 1 = length_push log entry in
     omega (arith, is, here, there)) [] log (ap length log_effects-none)
 
-zip_push : {X Y : Type 0} (xs : List X) (ys : List Y) (x : X) (y : Y) → length xs ≡ length ys → zip (xs ++ x ∷ []) (ys ++ y ∷ []) ≡ zip xs ys ++ (x, y) ∷ []
+zip_push : {X Y : Type 0} (xs : List X) (ys : List Y) (x : X) (y : Y) → length xs ≡ length ys
+    → zip (xs ++ x ∷ []) (ys ++ y ∷ []) ≡ zip xs ys ++ (x, y) ∷ []
 zip_push [] [] x y same = refl
 zip_push [] (first ∷ ys) x y same = absurd (omega (arith, same))
 zip_push (first ∷ xs) [] x y same = absurd (omega (arith, same))
 zip_push (first ∷ xs) (other ∷ ys) x y same = ap (λ rest. (first, other) ∷ rest) (zip_push xs ys x y (omega (arith, same)))
 
-ranges_agree : {X : Type 0} (f g : ℕ → X) (a n : ℕ) → ((place : ℕ) → place < a + n → f place ≡ g place) → map f (range_with_len a n) ≡ map g (range_with_len a n)
+ranges_agree : {X : Type 0} (f g : ℕ → X) (a n : ℕ) → ((place : ℕ) → place < a + n → f place ≡ g place)
+    → map f (range_with_len a n) ≡ map g (range_with_len a n)
 ranges_agree f g a zero same = refl
 ranges_agree f g a (suc n) same =
     λ i. same a (omega arith) i ∷ ranges_agree f g (a + 1) n (λ place below. same place (omega (arith, below))) i
 
-epochs_push : (log : List Entry) (entry : Entry) → epochs_at_entries (log ++ entry ∷ []) ≡ epochs_at_entries log ++ epoch_of (log ++ entry ∷ []) ∷ []
+epochs_push : (log : List Entry) (entry : Entry)
+    → epochs_at_entries (log ++ entry ∷ []) ≡ epochs_at_entries log ++ epoch_of (log ++ entry ∷ []) ∷ []
 epochs_push log entry =
     let all = log ++ entry ∷ [] in
     let count : length all ≡ length log + 1 = length_push log entry in
@@ -79,12 +84,14 @@ reserved_push log entry vid =
     ap (fold (later_if (grants vid)) 0) (dated_push log entry)
     ∙ fold-append (later_if (grants vid)) 0 (dated_effects log) ((epoch_of (log ++ entry ∷ []), effect_of log entry) ∷ [])
 
-pub used_push : (log : List Entry) (entry : Entry) (vid : ℕ) → is_used (log_effects (log ++ entry ∷ [])) vid ≡ (is_used (log_effects log) vid || grants vid (effect_of log entry))
+pub used_push : (log : List Entry) (entry : Entry) (vid : ℕ)
+    → is_used (log_effects (log ++ entry ∷ [])) vid ≡ (is_used (log_effects log) vid || grants vid (effect_of log entry))
 used_push log entry vid =
     ap (λ (known : List Effect). is_used known vid) (log_effects-push log entry) ∙ is_used-push (log_effects log) (effect_of log entry) vid
 
 -- an id that is used is granted by no later entry
-pub not_again : (log : List Entry) (entry : Entry) (vid : ℕ) → is_used (log_effects log) vid ≡ true → grants vid (effect_of log entry) ≡ false
+pub not_again : (log : List Entry) (entry : Entry) (vid : ℕ) → is_used (log_effects log) vid ≡ true
+    → grants vid (effect_of log entry) ≡ false
 not_again log entry vid used = by_effect (effect_of log entry) refl
   where
     by_tie : (grant : Grant) → effect_of log entry ≡ effects.Reserved grant → (b : Bool) → (grant.reservation.vid.0 == vid) ≡ b → b ≡ false
@@ -106,14 +113,16 @@ not_again log entry vid used = by_effect (effect_of log entry) refl
     by_effect (effects.Withdrawn id) what = refl
     by_effect (effects.Left node) what = refl
 
-pub used_next : (log : List Entry) (entry : Entry) (vid : ℕ) → is_used (log_effects log) vid ≡ true → is_used (log_effects (log ++ entry ∷ [])) vid ≡ true
+pub used_next : (log : List Entry) (entry : Entry) (vid : ℕ) → is_used (log_effects log) vid ≡ true
+    → is_used (log_effects (log ++ entry ∷ [])) vid ≡ true
 used_next log entry vid used = used_push log entry vid ∙ ap (λ (b : Bool). b || grants vid (effect_of log entry)) used
 
 abbrev AsReserved : List Entry → ℕ → List Entry → Type 0
 AsReserved log vid all = (is_used (log_effects all) vid ≡ true) × (reserved_in all vid ≡ reserved_in log vid)
 
 -- what is reserved stays so in that epoch
-pub reserved_stays : (log later : List Entry) (vid : ℕ) → is_used (log_effects log) vid ≡ true → reserved_in (log ++ later) vid ≡ reserved_in log vid
+pub reserved_stays : (log later : List Entry) (vid : ℕ) → is_used (log_effects log) vid ≡ true
+    → reserved_in (log ++ later) vid ≡ reserved_in log vid
 reserved_stays log later vid used =
     (from_front (AsReserved log vid)
     (λ all entry is. (
@@ -134,18 +143,20 @@ pub reserved_within : (log : List Entry) (vid : ℕ) → is_used (log_effects lo
 reserved_within log vid = from_front (λ (log : List Entry). is_used (log_effects log) vid ≡ true → IsReservedWithin log vid)
     (λ log entry before used.
     let all = log ++ entry ∷ [] in
-    by_grant log entry before (grants vid (effect_of log entry)) (reserved_push log entry vid) (sym (used_push log entry vid) ∙ used)) [] log
-    (λ used. let none = ap (λ (known : List Effect). is_used known vid) log_effects-none ∙ none_used vid in absurd (cc (used, none)))
+    by_grant log entry before (grants vid (effect_of log entry)) (reserved_push log entry vid) (sym (used_push log entry vid) ∙ used)) []
+    log (λ used. let none = ap (λ (known : List Effect). is_used known vid) log_effects-none ∙ none_used vid in absurd (cc (used, none)))
   where
     by_grant : (log : List Entry) (entry : Entry) → (is_used (log_effects log) vid ≡ true → IsReservedWithin log vid) → (b : Bool)
-        → reserved_in (log ++ entry ∷ []) vid ≡ cond b (epoch_of (log ++ entry ∷ [])) (reserved_in log vid) → (is_used (log_effects log) vid || b) ≡ true
+        → reserved_in (log ++ entry ∷ []) vid ≡ cond b (epoch_of (log ++ entry ∷ [])) (reserved_in log vid)
+        → (is_used (log_effects log) vid || b) ≡ true
         → IsReservedWithin (log ++ entry ∷ []) vid
     by_grant log entry before true is used = (omega (arith, is), omega (arith, is))
     by_grant log entry before false is used =
         let was = before (by_used (is_used (log_effects log) vid) used) in
         let least = was.0 in
         let most = was.1 in
-        let grows : epoch_of (log ++ entry ∷ []) ≡ epoch_of log + length (filter begins_epoch (entry ∷ [])) = epoch_of-append log (entry ∷ []) in
+        let grows : epoch_of (log ++ entry ∷ []) ≡ epoch_of log + length (filter begins_epoch (entry ∷ [])) = epoch_of-append log
+        (entry ∷ []) in
         (omega (arith, is, least), omega (arith, is, most, grows))
       where
         by_used : (u : Bool) → (u || false) ≡ true → u ≡ true
@@ -158,7 +169,8 @@ pub unused_later : (log later : List Entry) (vid : ℕ) → is_used (log_effects
 unused_later log later vid unused =
     (from_front IsNoEarlier
     (λ all entry is.
-    (let grows : epoch_of (all ++ entry ∷ []) ≡ epoch_of all + length (filter begins_epoch (entry ∷ [])) = epoch_of-append all (entry ∷ []) in
+    (let grows : epoch_of (all ++ entry ∷ []) ≡ epoch_of all + length (filter begins_epoch (entry ∷ [])) = epoch_of-append all
+    (entry ∷ []) in
     let most = is.0 in (
       omega (arith, most, grows),
       λ used.
@@ -197,7 +209,9 @@ spec_after vid header (effects.Reserved grant) other =
 spec_after vid header (effects.Published id name) other = refl
 spec_after vid header (effects.Snapped snap) other = by_tie (snap.old.0 == vid) header
   where
-    by_tie : (b : Bool) (header : Option Header) → option_map (λ (header : Header). header.spec) (cond b (option_map (λ (old : Header). record old { tag = snap.tag }) header) header)
+    by_tie : (b : Bool) (header : Option Header)
+        → option_map (λ (header : Header). header.spec) (cond b (option_map (λ (old : Header). record old { tag = snap.tag }) header)
+        header)
         ≡ option_map (λ (header : Header). header.spec) header
     by_tie true None = refl
     by_tie true (Some old) = refl
@@ -209,7 +223,8 @@ spec_after vid header (effects.Withdrawn id) other = refl
 spec_after vid header (effects.Left node) other = refl
 
 -- whose disk is known is used
-pub spec_used : (log : List Entry) (vid : ℕ) (spec : VdiSpec) → spec_known (log_effects log) vid ≡ Some spec → is_used (log_effects log) vid ≡ true
+pub spec_used : (log : List Entry) (vid : ℕ) (spec : VdiSpec) → spec_known (log_effects log) vid ≡ Some spec
+    → is_used (log_effects log) vid ≡ true
 spec_used log vid spec is = (line-log_effects log).known vid ∙ by_header (header_of (log_effects log) vid) is
   where
     by_header : (o : Option Header) → option_map (λ (header : Header). header.spec) o ≡ Some spec → is_some o ≡ true
@@ -229,7 +244,9 @@ spec_stays log later vid spec = from_front (λ (log : List Entry). spec_known (l
 -- ---- the epochs that began with a node's leaves
 
 pub leaves_push : (log : List Entry) (entry : Entry) (node : ℕ)
-    → leaves_of (log ++ entry ∷ []) node ≡ leaves_of log node ++ filter_map (λ (effect : ℕ × Effect). leave_epoch_of node effect.0 effect.1) ((epoch_of (log ++ entry ∷ []), effect_of log entry) ∷ [])
+    → leaves_of (log ++ entry ∷ []) node ≡ leaves_of log node ++ filter_map (λ (effect : ℕ × Effect). leave_epoch_of node effect.0 effect.1)
+    ((epoch_of (log ++ entry ∷ []), effect_of log entry) ∷ [])
 leaves_push log entry node =
     ap (filter_map (λ (effect : ℕ × Effect). leave_epoch_of node effect.0 effect.1)) (dated_push log entry)
-    ∙ filter_map-append (λ (effect : ℕ × Effect). leave_epoch_of node effect.0 effect.1) (dated_effects log) ((epoch_of (log ++ entry ∷ []), effect_of log entry) ∷ [])
+    ∙ filter_map-append (λ (effect : ℕ × Effect). leave_epoch_of node effect.0 effect.1) (dated_effects log)
+    ((epoch_of (log ++ entry ∷ []), effect_of log entry) ∷ [])

@@ -1,6 +1,7 @@
--- What an entry that is granted an id gives: its session has the id then, which was nobody's before; and a snapshot that is opened is nobody's
--- for good.
-use Rattle.std.proofs.Common.{◌≡◌, ℕ, ◌==◌, ◌≤◌, Bool, true, false, cond, List, [], ◌∷◌, ◌++◌, Option, Some, None, Result, Ok, Err, is_some, refl, sym, ap, subst, ◌∙◌, arith}
+-- What an entry that is granted an id gives: its session has the id then, which was nobody's before; and a snapshot that is opened is
+-- nobody's for good.
+use Rattle.std.proofs.Common.{◌≡◌, ℕ, ◌==◌, ◌≤◌, Bool, true, false, cond, List, [], ◌∷◌, ◌++◌, Option, Some, None, Result, Ok, Err, is_some}
+use Rattle.std.proofs.Common.{refl, sym, ap, subst, ◌∙◌, arith}
 use Rattle.std.specs.Option.{option_or, option_map_or}
 use Rattle.std.proofs.lemmas.Bool.{eq-eqb}
 use Rattle.std.proofs.lemmas.List.Folds.{find-append}
@@ -25,8 +26,11 @@ use Rattle.vdi_directory.specs.declared.effect.Reservation.{Reservation}
 use Rattle.vdi_directory.specs.declared.effect.Source.{Source}
 use Rattle.vdi_directory.specs.declared.effect.Source.TheVariants as sources
 use Rattle.vdi_directory.specs.declared.header.Header.{Header}
-use Rattle.vdi_directory.specs.Decisions.{nothing, refusal_outcome, is_held_by, is_taken, grant_of, or_full, reservation_outcome, with_spec, held_disk, reserved_snapshot, reserved_clone, reserve_outcome, replacement, snapshot_outcome, target, lock, outcome, log_effects, decision_after}
-use Rattle.vdi_directory.specs.Effects.{is_used, header_of, name_of, reservations_after, reservations_of, reservation_on, holder_after, holder_of}
+use Rattle.vdi_directory.specs.Decisions.{nothing, refusal_outcome, is_held_by, is_taken, grant_of, or_full, reservation_outcome, with_spec}
+use Rattle.vdi_directory.specs.Decisions.{held_disk, reserved_snapshot, reserved_clone, reserve_outcome, replacement, snapshot_outcome}
+use Rattle.vdi_directory.specs.Decisions.{target, lock, outcome, log_effects, decision_after}
+use Rattle.vdi_directory.specs.Effects.{is_used, header_of, name_of, reservations_after, reservations_of, reservation_on, holder_after}
+use Rattle.vdi_directory.specs.Effects.{holder_of}
 use Rattle.vdi_directory.specs.Names.{snapshot_with_tag, is_live_name}
 use Rattle.vdi_directory.specs.Sources.{tag_for}
 use Rattle.vdi_directory.specs.Sound.{IsLiveSnapshot, IsNameTaken}
@@ -170,11 +174,13 @@ module _ (log : List Entry) (by : NodeId) (session : ℕ) where
     nothing_grants vid is = absurd (cc (is))
 
     module _ (source : Source) (so : IsSourceOf name origin source) (parent : Option Vid) where
-      free_grants : (spec : VdiSpec) (free : Option ℕ) → Grants (or_full free (grant_of (log_effects log) by session name source parent spec))
+      free_grants : (spec : VdiSpec) (free : Option ℕ)
+          → Grants (or_full free (grant_of (log_effects log) by session name source parent spec))
       free_grants spec None vid is = absurd (cc (is))
       free_grants spec (Some id) vid is = record { grant = _; reserved = refl; of = cc (is); own = refl; source = so }
 
-      spec_grants : (header : Option Header) → Grants (with_spec header (reservation_outcome (log_effects log) by session name source parent))
+      spec_grants : (header : Option Header)
+          → Grants (with_spec header (reservation_outcome (log_effects log) by session name source parent))
       spec_grants None = nothing_grants
       spec_grants (Some header) = free_grants header.spec (free_id name (is_used (log_effects log)))
 
@@ -186,18 +192,20 @@ module _ (log : List Entry) (by : NodeId) (session : ℕ) where
       by_test true is = is
       by_test false is = absurd (cc (is))
 
-  snapshot_grants : (name tag : List ℕ) (old : Option Vid) → held_disk (log_effects log) by session (name_of (log_effects log) name).working ≡ old
+  snapshot_grants : (name tag : List ℕ) (old : Option Vid)
+      → held_disk (log_effects log) by session (name_of (log_effects log) name).working ≡ old
       → Grants name (SnapshotOf tag) (reserved_snapshot (log_effects log) by session name tag old)
   snapshot_grants name tag None held = refused_grants name (SnapshotOf tag) causes.VdiNotLocked
   snapshot_grants name tag (Some old) held =
-      cond_either (Grants name (SnapshotOf tag)) (is_some (snapshot_with_tag tag (name_of (log_effects log) name))) (refusal_outcome causes.VdiExist)
-      (with_spec (header_of (log_effects log) old.0)
+      cond_either (Grants name (SnapshotOf tag)) (is_some (snapshot_with_tag tag (name_of (log_effects log) name)))
+      (refusal_outcome causes.VdiExist) (with_spec (header_of (log_effects log) old.0)
       (reservation_outcome (log_effects log) by session name (sources.Snapshot old tag) (Some old)))
       (refused_grants name (SnapshotOf tag) causes.VdiExist)
-      (spec_grants name (SnapshotOf tag) (sources.Snapshot old tag) (old, held_is (name_of (log_effects log) name).working old held, refl) (Some old)
-      (header_of (log_effects log) old.0))
+      (spec_grants name (SnapshotOf tag) (sources.Snapshot old tag) (old, held_is (name_of (log_effects log) name).working old held, refl)
+      (Some old) (header_of (log_effects log) old.0))
 
-  clone_grants : (name base tag : List ℕ) (from : Option Vid) → Grants name (CloneOf base tag) (reserved_clone (log_effects log) by session name from)
+  clone_grants : (name base tag : List ℕ) (from : Option Vid)
+      → Grants name (CloneOf base tag) (reserved_clone (log_effects log) by session name from)
   clone_grants name base tag None = refused_grants name (CloneOf base tag) causes.NoTag
   clone_grants name base tag (Some from) =
       cond_either (Grants name (CloneOf base tag)) (is_taken (log_effects log) name) (refusal_outcome causes.VdiExist)
@@ -232,7 +240,8 @@ module _ (log : List Entry) (by : NodeId) (session : ℕ) where
       pub free : IsFree log vid.0
 
     for_grant : (grant : Grant) → (outcome (log_effects log) (Reserve by session name origin)).effect ≡ effects.Reserved grant
-        → reserver grant.reservation ≡ holder_at by session → IsSourceOf name origin grant.reservation.source → IsReservedNow grant.reservation.vid
+        → reserver grant.reservation ≡ holder_at by session → IsSourceOf name origin grant.reservation.source
+        → IsReservedNow grant.reservation.vid
     for_grant grant is own source =
         let vid = grant.reservation.vid in
         let all = reservations_of (log_effects log) in
@@ -263,9 +272,11 @@ module _ (log : List Entry) (by : NodeId) (session : ℕ) where
 
 -- the disk of the name is the one that the session has locked
 pub in_place : (log outbox : List Entry) (me : NodeId) (session epoch old : ℕ) (name tag : List ℕ) (source : Source)
-    → HasLock log outbox me session epoch old → IsNamed log old name → IsSourceOf log me session name (SnapshotOf tag) source → IsInPlaceOf old source
+    → HasLock log outbox me session epoch old → IsNamed log old name → IsSourceOf log me session name (SnapshotOf tag) source
+    → IsInPlaceOf old source
 in_place log outbox me session epoch old name tag source has named (found, working, is) =
-    let here = found-working log name (record { 0 = old }) (record { state = held-works log old (holder_at me session) has.held; owner = named }) in
+    let here = found-working log name (record { 0 = old })
+    (record { state = held-works log old (holder_at me session) has.held; owner = named }) in
     let same : found ≡ record { 0 = old } = same_Some found (record { 0 = old }) (sym working ∙ here) in (
       tag,
       ap (tag_for (record { 0 = old })) is
@@ -274,7 +285,8 @@ in_place log outbox me session epoch old name tag source has named (found, worki
 
 -- ---- a disk becomes a snapshot, and the reserved id takes its place
 
-module _ (log outbox : List Entry) (me : NodeId) (session epoch : ℕ) (old vid : Vid) (has : HasPlace log outbox me session epoch vid.0 old.0)
+module _ (log outbox : List Entry) (me : NodeId) (session epoch : ℕ) (old vid : Vid)
+    (has : HasPlace log outbox me session epoch vid.0 old.0)
     (lock : HasLock log outbox me session epoch old.0) where
   abbrev snaps : Entry
   snaps = Snapshot me old vid
@@ -290,8 +302,8 @@ module _ (log outbox : List Entry) (me : NodeId) (session epoch : ℕ) (old vid 
   replaced_effect =
       let reservation = has.has.reservation in
       ap (λ (o : Option Reservation). (snapshot_outcome (log_effects log) me old o).effect) has.has.found
-      ∙ ap (λ (b : Bool). (cond b (replacement reservation old (tag_for old reservation.source) (holder_of (log_effects log) old.0)) nothing).effect)
-      (eq-eqb reservation.by.0 me.0 (ap (λ (h : Holder). h.node.0) has.has.own))
+      ∙ ap (λ (b : Bool). (cond b (replacement reservation old (tag_for old reservation.source) (holder_of (log_effects log) old.0))
+      nothing).effect) (eq-eqb reservation.by.0 me.0 (ap (λ (h : Holder). h.node.0) has.has.own))
       ∙ (λ i. (replacement reservation old (has.place.1 i) (lock.held i)).effect)
 
   pub replaced_now : IsLocked log me session (Snapshot me old vid) vid.0
@@ -300,8 +312,9 @@ module _ (log outbox : List Entry) (me : NodeId) (session epoch : ℕ) (old vid 
       let before = log_effects log in
       let on = (in-find (λ (r : Reservation). r.vid.0 == vid.0) reservation (reservations_of before) has.has.found).1 in
       let apart =
-      other-id before (sound-log_effects log) old.0 vid.0 Working (Reserved reservation.by) (held-works log old.0 (holder_at me session) lock.held)
-      (found_reserved before (sound-log_effects log) vid.0 reservation has.has.found) (λ e. cc) in
+      other-id before (sound-log_effects log) old.0 vid.0 Working (Reserved reservation.by)
+      (held-works log old.0 (holder_at me session) lock.held) (found_reserved before (sound-log_effects log) vid.0 reservation
+      has.has.found) (λ e. cc) in
       record {
         held = holder_now log snaps vid.0 _ replaced_effect
             ∙ (λ i. cond (apart i) None (cond (on i) (Some (holder_at me session)) (holder_of (log_effects log) vid.0)));

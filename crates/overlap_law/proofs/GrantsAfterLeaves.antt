@@ -1,5 +1,5 @@
--- Of whatever log: an id that a session of a node may write as the node leaves is another session's behind it only by a grant of the leave's
--- epoch or a later one.
+-- Of whatever log: an id that a session of a node may write as the node leaves is another session's behind it only by a grant of the
+-- leave's epoch or a later one.
 use Rattle.std.proofs.Common.{◌≡◌, ⊎_elim, arith, ℕ, ◌≤◌, Bool, true, false, cond, List, [], ◌∷◌, ◌++◌, Some, refl, sym, ap, subst, ◌∙◌}
 use Rattle.object_id.specs.declared.entry.Entry.{Entry}
 use Rattle.object_id.specs.declared.entry.Entry.TheVariants.{Leave}
@@ -48,7 +48,8 @@ module _ (front : List Entry) (node : NodeId) (vid : ℕ) (holder : Holder) (may
       does : Effect
       does = (outcome (log_effects log) entry).effect
 
-      granted : (b : Bool) → gives vid does ≡ b → granted_in (log ++ entry ∷ []) vid ≡ cond b (epoch_of (log ++ entry ∷ [])) (granted_in log vid)
+      granted : (b : Bool) → gives vid does ≡ b
+          → granted_in (log ++ entry ∷ []) vid ≡ cond b (epoch_of (log ++ entry ∷ [])) (granted_in log vid)
       granted b it = last_epoch-push (gives vid) log entry
           ∙ ap (λ c. cond c (epoch_of (log ++ entry ∷ [])) (granted_in log vid)) it
 

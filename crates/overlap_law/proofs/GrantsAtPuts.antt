@@ -5,7 +5,8 @@ use Rattle.std.proofs.lemmas.Bool.{both_ways}
 use Rattle.std.proofs.lemmas.List.Elements.{All-head}
 use Rattle.std.proofs.lemmas.Option.{same_Some}
 use Rattle.object_id.specs.declared.entry.Entry.{Entry}
-use Rattle.object_id.specs.declared.entry.Entry.TheVariants.{Format, Join, Leave, Reweight, Recovered, Reserve, Publish, Clone, Snapshot, Delete, Lock, Unlock}
+use Rattle.object_id.specs.declared.entry.Entry.TheVariants.{Format, Join, Leave, Reweight, Recovered, Reserve, Publish, Clone, Snapshot}
+use Rattle.object_id.specs.declared.entry.Entry.TheVariants.{Delete, Lock, Unlock}
 use Rattle.object_id.specs.declared.node.NodeId.{NodeId}
 use Rattle.object_id.specs.declared.oid.Vid.{Vid}
 use Rattle.cluster_script.specs.declared.statement.Statement.{Statement}
@@ -54,7 +55,8 @@ stage_for_none entry (Working vid task) worked making = refl
 stage_for_none entry (Publishing wanted made) worked making = absurd (cc (making))
 stage_for_none entry (Answered change) worked making = refl
 
-waits_for_none : (entry : Entry) (course : Course) → may_have_worked course ≡ true → has_made_all course ≡ false → waits_for_entry entry course ≡ false
+waits_for_none : (entry : Entry) (course : Course) → may_have_worked course ≡ true → has_made_all course ≡ false
+    → waits_for_entry entry course ≡ false
 waits_for_none entry (Waiting ask) worked making = refl
 waits_for_none entry (Driving driver) worked making = refl
 waits_for_none entry (Commanding op) worked making = stage_for_none entry op.stage worked making
@@ -62,7 +64,8 @@ waits_for_none entry (Checking check) worked making = refl
 waits_for_none entry (DoingWork work) worked making = refl
 waits_for_none entry (AwaitingDecision wanted) worked making = absurd (cc (worked))
 
-module _ (script : List Statement) (range : RunsAreInRange script) (start : MomentWithPast) (began : Began script start.world) (n : ℕ) (host : Host)
+module _ (script : List Statement) (range : RunsAreInRange script) (start : MomentWithPast) (began : Began script start.world) (n : ℕ)
+    (host : Host)
     (there : tree.get start.world.hosts n ≡ Some host) (up : host.is_lost ≡ false) (entry : Entry)
     (so : IsCause script start.world n host (EntryIsPut entry)) where
   abbrev log : List Entry
@@ -77,12 +80,14 @@ module _ (script : List Statement) (range : RunsAreInRange script) (start : Mome
   first_own : All (IsEntryOf host.node.me) (entry ∷ so.0)
   first_own = subst (All (IsEntryOf host.node.me)) so.1 (own_entries script start.world began n host there).entries
 
-  has : HasClaims start.world.log (entry ∷ so.0) host.node.peer.entries (length host.node.peer.entries) host.node.me host.node.requests host.node.sessions
+  has : HasClaims start.world.log (entry ∷ so.0) host.node.peer.entries (length host.node.peer.entries) host.node.me host.node.requests
+      host.node.sessions
   has =
-      subst (λ (outbox : List Entry). HasClaims log outbox host.node.peer.entries (length host.node.peer.entries) me host.node.requests host.node.sessions) so.1
-      (claimed_in_worlds script range start.world began n host there up)
+      subst (λ (outbox : List Entry). HasClaims log outbox host.node.peer.entries (length host.node.peer.entries) me host.node.requests
+      host.node.sessions) so.1 (claimed_in_worlds script range start.world began n host there up)
 
-  awaits : AreAwaited host.node.peer.entries host.node.me (unread_of start.world.log host.node) None host.node.me host.node.requests (entry ∷ so.0)
+  awaits : AreAwaited host.node.peer.entries host.node.me (unread_of start.world.log host.node) None host.node.me host.node.requests
+      (entry ∷ so.0)
   awaits =
       subst (λ (outbox : List Entry). AreAwaited host.node.peer.entries me (unread_of log host.node) None me host.node.requests outbox) so.1
       ((awaited_in_worlds script range start.world began).each n host there up)
@@ -93,7 +98,8 @@ module _ (script : List Statement) (range : RunsAreInRange script) (start : Mome
   here : (put : Entry) → entry ≡ put → 1 ≤ times put (entry ∷ so.0)
   here put same =
       subst (λ (e : Entry). 1 ≤ times e (entry ∷ so.0)) same
-      (here_once log entry so.0 host.node.peer.entries (length host.node.peer.entries) me host.node.requests host.node.sessions first_own has)
+      (here_once log entry so.0 host.node.peer.entries (length host.node.peer.entries) me host.node.requests host.node.sessions first_own
+      has)
 
   -- ---- who asked for the entry
 
@@ -106,7 +112,8 @@ module _ (script : List Statement) (range : RunsAreInRange script) (start : Mome
     pub waits : waits_for_entry entry request.course ≡ true
     pub sole : is_disk_course request.course ≡ false
 
-  its_session : (session : ℕ) (course : Course) → IsOwnCourse host.node.peer.entries host.node.me session course → waits_for_entry entry course ≡ true
+  its_session : (session : ℕ) (course : Course) → IsOwnCourse host.node.peer.entries host.node.me session course
+      → waits_for_entry entry course ≡ true
       → (is_disk_course course ≡ false) × IsSessionsEntry (log_effects host.node.peer.entries) host.node.me session entry
   its_session session (Waiting ask) own waits = absurd (cc (waits))
   its_session session (Driving driver) own waits = absurd (cc (waits))
@@ -120,13 +127,16 @@ module _ (script : List Statement) (range : RunsAreInRange script) (start : Mome
   asker is = awaits.awaited entry is (let once = here entry refl in omega (arith, once))
 
   -- one that names its session
-  puts_for_named : (holder : Holder) (put : Entry) → entry ≡ put → IsCommandEntry host.node.me put → (by : NodeId) (of : ℕ) → holder_at by of ≡ holder
-      → ((session : ℕ) → IsSessionsEntry (log_effects host.node.peer.entries) host.node.me session put → (by ≡ host.node.me) × (of ≡ session))
+  puts_for_named : (holder : Holder) (put : Entry) → entry ≡ put → IsCommandEntry host.node.me put → (by : NodeId) (of : ℕ)
+      → holder_at by of ≡ holder
+      → ((session : ℕ) → IsSessionsEntry (log_effects host.node.peer.entries) host.node.me session put → (by ≡ host.node.me)
+      × (of ≡ session))
       → PutsFor holder
   puts_for_named holder put same is by of gives names =
       let a = asker (subst (IsCommandEntry me) (sym same) is) in
       let (sole, its) = its_session a.request.session a.request.course (awaits.commands.own a.req a.request a.there) a.waits in
-      let (mine, session) = names a.request.session (subst (IsSessionsEntry (log_effects host.node.peer.entries) me a.request.session) same its) in
+      let (mine, session) = names a.request.session (subst (IsSessionsEntry (log_effects host.node.peer.entries) me a.request.session) same
+      its) in
       record {
         req = a.req;
         request = a.request;
@@ -144,10 +154,11 @@ module _ (script : List Statement) (range : RunsAreInRange script) (start : Mome
     publishes_it : Publisher start.world.log entry so.0 host.node.peer.entries (length host.node.peer.entries) host.node.me
         (unread_of start.world.log host.node) host.node.requests host.node.sessions first_own awaits has
     publishes_it =
-        publisher log entry so.0 host.node.peer.entries (length host.node.peer.entries) me (unread_of log host.node) host.node.requests host.node.sessions
-        first_own awaits has (λ first. subst IsFirstEntry same first) (subst (IsCommandEntry me) (sym same) mine)
+        publisher log entry so.0 host.node.peer.entries (length host.node.peer.entries) me (unread_of log host.node) host.node.requests
+        host.node.sessions first_own awaits has (λ first. subst IsFirstEntry same first) (subst (IsCommandEntry me) (sym same) mine)
 
-    replaces : IsReplacing start.world.log (entry ∷ so.0) host.node.peer.entries (length host.node.peer.entries) host.node.me publishes_it.request.session
+    replaces : IsReplacing start.world.log (entry ∷ so.0) host.node.peer.entries (length host.node.peer.entries) host.node.me
+        publishes_it.request.session
         (opened_in publishes_it.request.session host.node.sessions) old of (Snapshot by old of) publishes_it.made
     replaces =
         let p = publishes_it in
@@ -182,15 +193,15 @@ module _ (script : List Statement) (range : RunsAreInRange script) (start : Mome
   puts_for holder to (Reweight node vnodes) same gives = absurd gives
   puts_for holder to (Recovered node epoch) same gives = absurd gives
   puts_for holder to (Reserve by of name origin) same gives =
-      puts_for_named holder (Reserve by of name origin) same (subst (IsEntryOf me) same (All-head (IsEntryOf me) entry so.0 first_own)) by of gives
-      (λ session its. its)
+      puts_for_named holder (Reserve by of name origin) same (subst (IsEntryOf me) same (All-head (IsEntryOf me) entry so.0 first_own)) by
+      of gives (λ session its. its)
   puts_for holder to (Publish by of) same gives = absurd gives
   puts_for holder to (Clone by of) same gives = absurd gives
   puts_for holder to (Snapshot by old of) same gives = puts_for_snapshot by old of same holder to
   puts_for holder to (Delete by of name tag) same gives = absurd gives
   puts_for holder to (Lock by of name tag) same gives =
-      puts_for_named holder (Lock by of name tag) same (subst (IsEntryOf me) same (All-head (IsEntryOf me) entry so.0 first_own)) by of gives
-      (λ session its. its)
+      puts_for_named holder (Lock by of name tag) same (subst (IsEntryOf me) same (All-head (IsEntryOf me) entry so.0 first_own)) by of
+      gives (λ session its. its)
   puts_for holder to (Unlock by of id) same gives = absurd gives
 
   -- ---- it is alone in its session
@@ -207,6 +218,7 @@ module _ (script : List Statement) (range : RunsAreInRange script) (start : Mome
       let asked_here : tree.get host.node.requests req ≡ Some request = ap (λ (h : Host). tree.get h.node.requests req) (sym one) ∙ asked in
       let named : command_in p.request.session host.node.sessions ≡ Some p.req = well.alone.named p.req p.request p.asked p.sole in
       let same : req ≡ p.req = well.alone.alone p.request.session p.req req request named asked_here session in
-      let its : p.request ≡ request = same_Some p.request request (sym p.asked ∙ ap (tree.get host.node.requests) (sym same) ∙ asked_here) in
+      let its : p.request ≡ request = same_Some p.request request (sym p.asked ∙ ap (tree.get host.node.requests) (sym same)
+      ∙ asked_here) in
       let waits : waits_for_entry entry request.course ≡ true = sym (ap (λ (r : Request). waits_for_entry entry r.course) its) ∙ p.waits in
       both_ways (waits_for_entry entry request.course) (waits_for_none entry request.course worked making) waits

@@ -7,9 +7,9 @@ use Rattle.cluster_script.specs.declared.statement.Statement.{Statement}
 use Rattle.epoch_log.specs.Epochs.{epoch_of}
 use Rattle.inode.specs.Layout.{Content}
 use Rattle.vdi_ops.specs.Op.{Task, Opening, WritingBack, Tagging, Copying, Making, OpStage, Asked, Working, Publishing, Answered}
-use Rattle.sheep_node.specs.declared.event.Event.{Event}
 use Rattle.sheep_node.specs.State.{Node}
 use Rattle.sheep_world.specs.Began.{Began}
+use Rattle.sheep_world.specs.RunsWithAsks.{Move}
 use Rattle.overlap_law.specs.CommandDisks.{opened_in}
 use Rattle.overlap_law.specs.Courses.{granted_by, granted_at, CommandsKeepTheirGrants}
 use Rattle.overlap_law.specs.Past.{MomentWithPast, run_with_past}
@@ -23,7 +23,8 @@ use Rattle.overlap_law.proofs.NoRecoveredDue.{began-with_past}
 use Rattle.overlap_law.proofs.ReadInMoments.{HostsAreSound, sound_hosts, hosts_after_sound}
 use Rattle.overlap_law.proofs.MakingEntries.{making_reserved}
 
-module _ (log : List Entry) (n : ℕ) (node : Node) (own : node.me.0 ≡ n) (epoch_so : node.peer.epoch ≡ epoch_of node.peer.entries) (session : ℕ) where
+module _ (log : List Entry) (n : ℕ) (node : Node) (own : node.me.0 ≡ n) (epoch_so : node.peer.epoch ≡ epoch_of node.peer.entries)
+    (session : ℕ) where
   abbrev epoch : ℕ
   epoch = epoch_of node.peer.entries
 
@@ -36,7 +37,8 @@ module _ (log : List Entry) (n : ℕ) (node : Node) (own : node.me.0 ≡ n) (epo
     read = let since = lock.since in omega (arith, since, epoch_so);
   }
 
-  reserved_may : (vid : ℕ) → HasReservation log node.outbox node.me session (epoch_of node.peer.entries) vid → MayWrite log n session vid node
+  reserved_may : (vid : ℕ) → HasReservation log node.outbox node.me session (epoch_of node.peer.entries) vid
+      → MayWrite log n session vid node
   reserved_may vid has = record {
     writer =
         reservation-writer log node.outbox node.me session epoch vid has
@@ -47,7 +49,8 @@ module _ (log : List Entry) (n : ℕ) (node : Node) (own : node.me.0 ≡ n) (epo
 
   module _ (opened : Option (Bool × ℕ)) where
     made_may : (vid : Vid) (entry : Entry) (made : Option Content)
-        → IsMakingKept log node.outbox node.peer.entries (length node.peer.entries) node.me session opened vid entry made → MayWrite log n session vid.0 node
+        → IsMakingKept log node.outbox node.peer.entries (length node.peer.entries) node.me session opened vid entry made
+        → MayWrite log n session vid.0 node
     made_may vid entry made is =
         reserved_may vid.0
         (making_reserved log node.outbox node.peer.entries (length node.peer.entries) node.me session opened vid entry made is)
@@ -56,7 +59,8 @@ module _ (log : List Entry) (n : ℕ) (node : Node) (own : node.me.0 ≡ n) (epo
     abbrev MayFor : Vid → Vid → Task → Type 0
     MayFor vid of task =
         granted_by vid task ≡ Some of
-        → IsTaskKept log node.outbox node.peer.entries (length node.peer.entries) node.me session opened vid task → MayWrite log n session of.0 node
+        → IsTaskKept log node.outbox node.peer.entries (length node.peer.entries) node.me session opened vid task
+        → MayWrite log n session of.0 node
 
     its_own : (vid of : Vid) → Some vid ≡ Some of → MayWrite log n session vid.0 node → MayWrite log n session of.0 node
     its_own vid of same may = subst (λ (v : Vid). MayWrite log n session v.0 node) (same_Some vid of same) may
@@ -70,23 +74,25 @@ module _ (log : List Entry) (n : ℕ) (node : Node) (own : node.me.0 ≡ n) (epo
     task_may vid of (Making entry made) same is = its_own vid of same (made_may vid entry made is)
 
     pub stage_may : (of : Vid) (stage : OpStage) → granted_at stage ≡ Some of
-        → IsStageKept log node.outbox node.peer.entries (length node.peer.entries) node.me session opened stage → MayWrite log n session of.0 node
+        → IsStageKept log node.outbox node.peer.entries (length node.peer.entries) node.me session opened stage
+        → MayWrite log n session of.0 node
     stage_may of (Asked entry) same is = absurd (cc (same))
     stage_may of (Working vid task) same is = task_may vid of task same is
     stage_may of (Publishing entry made) same is = absurd (cc (same))
     stage_may of (Answered change) same is = absurd (cc (same))
 
 module _ (script : List Statement) (range : RunsAreInRange script) where
-  pub sound_along : (start : MomentWithPast) → Began script start.world → {moment : MomentWithPast} → MomentTrail script start moment → HostsAreSound moment
+  pub sound_along : (start : MomentWithPast) → Began script start.world → {moment : MomentWithPast} → MomentTrail script start moment
+      → HostsAreSound moment
   sound_along start began moments.Still = sound_hosts script range start began
   sound_along start began (moments.Then trail change) = hosts_after_sound script range start began change
 
-  pub grants-in_run : (events : List Event) (start moment : MomentWithPast) → run_with_past script events ≡ Some start
+  pub grants-in_run : (events : List Move) (start moment : MomentWithPast) → run_with_past script events ≡ Some start
       → MomentTrail script start moment → CommandsKeepTheirGrants moment.world.log moment.world.hosts
   grants-in_run events start moment is trail = record {
     each = λ n host there up req request op vid got command granted.
         let read = ((sound_along start (began-with_past script events start is) trail).each n host there).read in
         let has = (claims-in_run script range events start moment is trail).each n host there up in
-        stage_may moment.world.log n host.node read.own read.epoch_so request.session (opened_in request.session host.node.sessions) vid op.stage granted
-        (has.commands req request op got command);
+        stage_may moment.world.log n host.node read.own read.epoch_so request.session (opened_in request.session host.node.sessions) vid
+        op.stage granted (has.commands req request op got command);
   }

@@ -1,9 +1,11 @@
 -- Attempts grow over each kind of traffic: each stays at its place, also among those on its object, and what was served of it is so still.
-use Rattle.std.proofs.Common.{◌≡◌, ℕ, zero, suc, ◌-◌, ◌==◌, not, Bool, true, false, cond, List, [], ◌∷◌, ◌++◌, slice_get, Some, refl, sym, ap, subst, ◌∙◌}
+use Rattle.std.proofs.Common.{◌≡◌, ℕ, zero, suc, ◌-◌, ◌==◌, not, Bool, true, false, cond, List, [], ◌∷◌, ◌++◌, slice_get, Some, refl, sym}
+use Rattle.std.proofs.Common.{ap, subst, ◌∙◌}
 use Rattle.std.specs.List.{list_any}
 use Rattle.std.proofs.lemmas.Option.{same_Some}
 use Rattle.object_id.specs.declared.node.NodeId.{NodeId}
-use Rattle.overlap_law.specs.Attempts.{AttemptRecord, MessageFate, Flying, Served, Doomed, fates_with, fate_of_say, has_message, object_of, attempts_on, attempt_with_fate, attempts_with_fate}
+use Rattle.overlap_law.specs.Attempts.{AttemptRecord, MessageFate, Flying, Served, Doomed, fates_with, fate_of_say, has_message, object_of}
+use Rattle.overlap_law.specs.Attempts.{attempts_on, attempt_with_fate, attempts_with_fate}
 use Rattle.overlap_law.specs.Words.{is_served, is_mute}
 use Rattle.message_wire.specs.declared.packet.Packet.{Packet}
 use Rattle.message_wire.specs.declared.packet.Packet.TheVariants.{Request, Reply}

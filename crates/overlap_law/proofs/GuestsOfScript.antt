@@ -1,5 +1,6 @@
 -- What a request of a script asks is as a guest may ask it.
-use Rattle.std.proofs.Common.{◌≡◌, ◌≢◌, arith, ℕ, zero, suc, ◌≤◌, ◌%◌, ◌/◌, Bool, true, false, not, ◌&&◌, List, [], ◌∷◌, ◌++◌, length, Option, Some, None, sym, ap, subst}
+use Rattle.std.proofs.Common.{◌≡◌, ◌≢◌, arith, ℕ, zero, suc, ◌≤◌, ◌%◌, ◌/◌, Bool, true, false, not, ◌&&◌, List, [], ◌∷◌, ◌++◌, length}
+use Rattle.std.proofs.Common.{Option, Some, None, sym, ap, subst}
 use Rattle.std.specs.Prelude.{All}
 use Rattle.std.proofs.lemmas.Bool.{eq-eqb, ne_eqb}
 use Rattle.std.proofs.lemmas.List.FromFn.{length-map-range_with_len}
@@ -49,11 +50,13 @@ span_asked ask span =
     λ i. first i && whole i && some i
 
 module _ (node : Node) where
-  asked_so : (before : List Statement) (line : Statement) (ask : Ask) → MayStand before line → ask_of_statement line ≡ Some ask → IsGuestAsk node ask
+  asked_so : (before : List Statement) (line : Statement) (ask : Ask) → MayStand before line → ask_of_statement line ≡ Some ask
+      → IsGuestAsk node ask
   asked_so before (lines.Create session policy shift name size) ask may is = given (IsGuestAsk node) is (printed_name name may.1, may.2)
   asked_so before (lines.OpenDisk session name tag) ask may is = given (IsGuestAsk node) is (printed_name name may.1, printed_tag tag may.2)
   asked_so before (lines.Close session) ask may is = given (IsGuestAsk node) is tt
-  asked_so before (lines.Read session offset length) ask may is = given (IsGuestAsk node) is (span_asked (disk_asks.Read offset length) may.1)
+  asked_so before (lines.Read session offset length) ask may is =
+      given (IsGuestAsk node) is (span_asked (disk_asks.Read offset length) may.1)
   asked_so before (lines.Write session offset size pattern) ask may is =
       given (IsGuestAsk node) is
       (span_asked (disk_asks.Write offset (payload_of pattern size))
@@ -72,7 +75,8 @@ module _ (node : Node) where
   each_can_stand before [] may = All-nil CanStand
   each_can_stand before (s ∷ rest) may = All-cons CanStand s rest (before, may.0) (each_can_stand (before ++ s ∷ []) rest may.1)
 
-  pub guest_asks : (script : List Statement) → IsScript script → (req : ℕ) (line : Statement) (ask : Ask) → request_at script req ≡ Some line
+  pub guest_asks : (script : List Statement) → IsScript script → (req : ℕ) (line : Statement) (ask : Ask)
+      → request_at script req ≡ Some line
       → ask_of_statement line ≡ Some ask → IsGuestAsk node ask
   guest_asks script is_script zero line ask at is = absurd (cc (at))
   guest_asks script is_script (suc place) line ask at is =

@@ -1,6 +1,7 @@
 -- What a node with a finished list hasn't pending it has, after a change of a moment: what is made of the recovered epoch itself the node
 -- has served; and what was made before was pending, or there, and stays so, or is missing.
-use Rattle.std.proofs.Common.{◌≡◌, ◌⊎◌, inl, inr, ⊎_elim, arith, ℕ, ◌≤◌, ◌<◌, Bool, true, false, List, [], ◌∷◌, ◌++◌, Some, refl, sym, ap, subst, ◌∙◌, slice_get}
+use Rattle.std.proofs.Common.{◌≡◌, ◌⊎◌, inl, inr, ⊎_elim, arith, ℕ, ◌≤◌, ◌<◌, Bool, true, false, List, [], ◌∷◌, ◌++◌, Some, refl, sym, ap}
+use Rattle.std.proofs.Common.{subst, ◌∙◌, slice_get}
 use Rattle.std.specs.FinMap as tree
 use Rattle.std.proofs.lemmas.Bool.{cases_lt}
 use Rattle.std.proofs.lemmas.Option.{same_Some}
@@ -22,7 +23,6 @@ use Rattle.peer_proto.specs.Work.{policy_of}
 use Rattle.peer_service.specs.State.{Peer, is_dead_object, with_entry}
 use Rattle.recovery.specs.Shown.{is_pending_object}
 use Rattle.recovery.specs.State.{Recovery, is_listed}
-use Rattle.sheep_node.specs.declared.event.Event.{Event}
 use Rattle.sheep_node.specs.declared.input.Input.{Input}
 use Rattle.sheep_node.specs.declared.input.Input.TheVariants as inputs
 use Rattle.sheep_node.specs.State.{Node}
@@ -34,8 +34,10 @@ use Rattle.sheep_node.proofs.StepResults.{step_peer, step_reads}
 use Rattle.sheep_world.specs.Began.{Began}
 use Rattle.sheep_world.specs.EventKinds.{log_after_return}
 use Rattle.sheep_world.specs.MembershipChanges.{join_of, last_weight}
-use Rattle.sheep_world.specs.NodeCauses.{NodeCause, GuestAsks, RequestComes, ReplyComes, LossIsTold, EntryIsRead, EntryIsPut, RecoveryTicks, WorkIsRetried, IsCause, input_of_cause}
+use Rattle.sheep_world.specs.NodeCauses.{NodeCause, GuestAsks, RequestComes, ReplyComes, LossIsTold, EntryIsRead, EntryIsPut, RecoveryTicks}
+use Rattle.sheep_world.specs.NodeCauses.{WorkIsRetried, ClientAsks, IsCause, input_of_cause}
 use Rattle.sheep_world.specs.World.{Host}
+use Rattle.sheep_world.specs.RunsWithAsks.{Move}
 use Rattle.overlap_law.specs.Attempts.{AttemptRecord, object_of}
 use Rattle.overlap_law.specs.Each.{row_covers, policy_in, index_of_part}
 use Rattle.overlap_law.specs.Holders.{targets_by, is_dead_by_log}
@@ -80,6 +82,7 @@ reads_entry (EntryIsRead other) entry is = (other, refl)
 reads_entry (EntryIsPut other) entry is = absurd (cc (is))
 reads_entry RecoveryTicks entry is = absurd (cc (is))
 reads_entry WorkIsRetried entry is = absurd (cc (is))
+reads_entry (ClientAsks req ask) entry is = absurd (cc (is))
 
 comes_not_back : (cause : NodeCause) (entries : List Entry) → input_of_cause cause ≡ inputs.Back entries → ⊥
 comes_not_back (GuestAsks session req ask) entries is = cc (is)
@@ -90,8 +93,9 @@ comes_not_back (EntryIsRead other) entries is = cc (is)
 comes_not_back (EntryIsPut other) entries is = cc (is)
 comes_not_back RecoveryTicks entries is = cc (is)
 comes_not_back WorkIsRetried entries is = cc (is)
+comes_not_back (ClientAsks req ask) entries is = cc (is)
 
-module _ (script : List Statement) (range : RunsAreInRange script) (events : List Event) (start before after : MomentWithPast)
+module _ (script : List Statement) (range : RunsAreInRange script) (events : List Move) (start before after : MomentWithPast)
     (is : run_with_past script events ≡ Some start) (trail : MomentTrail script start before)
     (change : MomentChange script start before after) (good : ℕ → Bool)
     (alive : (oid : ℕ) → good oid ≡ true → is_dead_by_log after.world.log oid ≡ false)

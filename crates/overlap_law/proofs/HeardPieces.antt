@@ -16,9 +16,9 @@ use Rattle.gateway.specs.declared.message.Message.{Message}
 use Rattle.gateway.specs.Attempt as gateways
 use Rattle.gateway.specs.Attempt.{send_of}
 use Rattle.gateway.specs.State.{Work}
-use Rattle.sheep_node.specs.declared.event.Event.{Event}
 use Rattle.sheep_world.specs.World.{Host}
 use Rattle.sheep_world.specs.Began.{Began}
+use Rattle.sheep_world.specs.RunsWithAsks.{Move}
 use Rattle.overlap_law.specs.Each.{policy_in}
 use Rattle.overlap_law.specs.MomentChanges.{MomentChange, MomentTrail, RunsAreInRange, Still, Then}
 use Rattle.overlap_law.specs.Packets.{IsAsking, IsAnswering}
@@ -28,11 +28,12 @@ use Rattle.overlap_law.proofs.HostsInMoments.{hosts_stay}
 use Rattle.overlap_law.proofs.NoRecoveredDue.{began-with_past}
 use Rattle.overlap_law.proofs.TellersOfPieces.{IsToldBy, tellers-on_the_way, teller_stays}
 use Rattle.overlap_law.proofs.ToldBefore.{asked_before}
-use Rattle.overlap_law.proofs.ToldPiecesSince.{IsWorkSince, teller_now, since_now, goes_on, work_so}
+use Rattle.overlap_law.proofs.ToldPiecesSince.{IsWorkSince, teller_now, since_now, goes_on, work_so, own_then}
 use Rattle.overlap_law.proofs.TrafficOfChanges.{traffic}
 use Rattle.overlap_law.proofs.UnansweredInSteps.{WasUnansweredAt, MessageIsSentNow, unanswered_came}
+use Rattle.overlap_law.specs.Sessions.{is_of_client_at}
 
-module _ (script : List Statement) (range : RunsAreInRange script) (events : List Event) (start : MomentWithPast)
+module _ (script : List Statement) (range : RunsAreInRange script) (events : List Move) (start : MomentWithPast)
     (is : run_with_past script events ≡ Some start) (good : ℕ → Bool)
     (told : ToldPiecesAreSince (log_effects start.world.log) good start.world.hosts start.world.wire start.past.attempts) (n : ℕ)
     (first : Host) (first_there : tree.get start.world.hosts n ≡ Some first) (number : ℕ) (given : number < first.node.sends)
@@ -55,7 +56,7 @@ module _ (script : List Statement) (range : RunsAreInRange script) (events : Lis
     unasked : (to : NodeId) (request : PeerReq) → IsAsking moment.world.wire (message_name n number) to request → ⊥
     held : (now : Host) → tree.get moment.world.hosts n ≡ Some now → now.is_lost ≡ false → (req place : ℕ) (work : Work)
         (current : gateways.Attempt) (message : Message) → IsUnansweredOf now.node.gateway.works req work current place message
-        → message.number ≡ number → IsHeldFor moment work.work current.epoch.0 message.index
+        → is_of_client_at req now.node ≡ false → message.number ≡ number → IsHeldFor moment work.work current.epoch.0 message.index
 
   at_first : IsHeldAt start
   at_first = record {
@@ -66,14 +67,14 @@ module _ (script : List Statement) (range : RunsAreInRange script) (events : Lis
         let asked = asking.there in
         let answered = answering.there in
         absurd (cc (asked, answered));
-    held = λ now there up req place work current message of same.
+    held = λ now there up req place work current message of no_client same.
         let own : IsAnswering start.world.wire (message_name n message.number) from rsp
         = subst (λ (k : ℕ). IsAnswering start.world.wire (message_name n k) from rsp) (sym same) answering in
         record {
           teller = (tellers-on_the_way script range events start start is Still).told n now there up req place work current message from
               rsp bytes of own said;
           since = λ is_good known.
-              told.each n now there up req place work current message from rsp bytes of own said is_good known;
+              told.each n now there up req place work current message from rsp bytes of no_client own said is_good known;
         };
   }
 
@@ -87,10 +88,12 @@ module _ (script : List Statement) (range : RunsAreInRange script) (events : Lis
 
     held_after : (now : Host) → tree.get after.world.hosts n ≡ Some now → now.is_lost ≡ false → (req place : ℕ) (work : Work)
         (current : gateways.Attempt) (message : Message) → IsUnansweredOf now.node.gateway.works req work current place message
-        → message.number ≡ number → IsHeldFor after work.work current.epoch.0 message.index
-    held_after now there up req place work current message of same = ⊎_elim
+        → is_of_client_at req now.node ≡ false → message.number ≡ number → IsHeldFor after work.work current.epoch.0 message.index
+    held_after now there up req place work current message of no_client same = ⊎_elim
         (λ (was : WasUnansweredAt before.world.hosts n req work current place message).
-        let old = had.held was.old was.there was.up req place was.of.was was.of.before message was.of.is same in
+        let old = had.held was.old was.there was.up req place was.of.was was.of.before message was.of.is
+        (own_then script range events start is before after trail change n now there up req place work current message of was from bytes
+        no_client) same in
         let teller = teller_now script range events start is before after trail change n now there up req place work current message of
         was from bytes old.teller in
         let work_is = work_so script range events start is before after trail change n now there up req place work current message of was
@@ -98,7 +101,7 @@ module _ (script : List Statement) (range : RunsAreInRange script) (events : Lis
           teller = teller_stays script range start before after began change work.work current.epoch.0 from teller;
           since = λ is_good known.
               goes_on script range events start is before after trail change n now there up req place work current message of was from
-              bytes teller
+              bytes teller no_client
               (since_now script range events start is before after trail change n now there up req place work current message of was from
               bytes
               (old.since (ap (λ (w : ObjWork). good (oid_of w)) work_is ∙ is_good)
@@ -131,6 +134,6 @@ module _ (script : List Statement) (range : RunsAreInRange script) (events : Lis
 
   pub heard_piece : (moment : MomentWithPast) → MomentTrail script start moment → (now : Host) → tree.get moment.world.hosts n ≡ Some now
       → now.is_lost ≡ false → (req place : ℕ) (work : Work) (current : gateways.Attempt) (message : Message)
-      → IsUnansweredOf now.node.gateway.works req work current place message → message.number ≡ number
-      → IsHeldFor moment work.work current.epoch.0 message.index
+      → IsUnansweredOf now.node.gateway.works req work current place message → is_of_client_at req now.node ≡ false
+      → message.number ≡ number → IsHeldFor moment work.work current.epoch.0 message.index
   heard_piece moment trail = (held_along trail).held

@@ -18,7 +18,7 @@ use Rattle.sheep_node.specs.declared.input.Input.{Input}
 use Rattle.sheep_node.specs.declared.input.Input.TheVariants as inputs
 use Rattle.sheep_world.specs.World.{Host, World, is_host_up}
 use Rattle.sheep_world.specs.NodeCauses.{NodeCause, GuestAsks, RequestComes, ReplyComes, LossIsTold, EntryIsRead, EntryIsPut, RecoveryTicks}
-use Rattle.sheep_world.specs.NodeCauses.{WorkIsRetried, input_of_cause, IsCause}
+use Rattle.sheep_world.specs.NodeCauses.{WorkIsRetried, ClientAsks, input_of_cause, IsCause}
 use Rattle.sheep_world.specs.Began.{Began}
 use Rattle.sheep_world.proofs.BegunWorlds.{each_began}
 use Rattle.sheep_world.proofs.RecoveryMessages.{same_said}
@@ -69,6 +69,7 @@ module _ (script : List Statement) (range : RunsAreInRange script) (world : Worl
   heard_reply (EntryIsPut entry) so rsp is message own = absurd (cc (is))
   heard_reply RecoveryTicks so rsp is message own = absurd (cc (is))
   heard_reply WorkIsRetried so rsp is message own = absurd (cc (is))
+  heard_reply (ClientAsks req ask) so rsp is message own = absurd (cc (is))
 
   -- a message for the object of the search is for the search's level
   pub at_level : (one : Search) → host.node.recovery.search ≡ Some one → (message : Message)

@@ -19,8 +19,8 @@ use Rattle.message_wire.specs.Message.{message_name}
 use Rattle.gateway.specs.declared.message.Message.{Message}
 use Rattle.gateway.specs.Attempt as gateways
 use Rattle.gateway.specs.State.{Work}
-use Rattle.sheep_node.specs.declared.event.Event.{Event}
 use Rattle.sheep_world.specs.World.{Host}
+use Rattle.sheep_world.specs.RunsWithAsks.{Move}
 use Rattle.overlap_law.specs.Attempts.{AttemptRecord, object_of, attempts_on}
 use Rattle.overlap_law.specs.Each.{policy_in}
 use Rattle.overlap_law.specs.Holders.{targets_by}
@@ -37,6 +37,7 @@ use Rattle.overlap_law.proofs.LogsInMoments.{LogGrows, log_grows}
 use Rattle.overlap_law.proofs.PendingOfNodes.{policy_stays}
 use Rattle.overlap_law.proofs.PiecesToCome.{unit_to_come, part_of_made}
 use Rattle.overlap_law.proofs.TellersOfPieces.{TellersAreTargets, tellers-on_the_way}
+use Rattle.overlap_law.specs.Sessions.{is_of_client_at}
 
 -- a policy that was known is so along a trail
 pub policy_along : (script : List Statement) {start moment : MomentWithPast} → MomentTrail script start moment → (oid : ℕ)
@@ -48,10 +49,11 @@ policy_along script (Then {moment} {next} trail change) oid policy known =
     ap (λ (log : List Entry). policy_in (log_effects log) oid) grows.is
     ∙ policy_stays moment.world.log grows.rest oid policy (policy_along script trail oid policy known)
 
-module _ (script : List Statement) (range : RunsAreInRange script) (events : List Event) (start moment : MomentWithPast)
+module _ (script : List Statement) (range : RunsAreInRange script) (events : List Move) (start moment : MomentWithPast)
     (is : run_with_past script events ≡ Some start) (trail : MomentTrail script start moment) (n : ℕ) (now : Host)
     (there : tree.get moment.world.hosts n ≡ Some now) (up : now.is_lost ≡ false) (req place : ℕ) (work : Work)
-    (current : gateways.Attempt) (message : Message) (of : IsUnansweredOf now.node.gateway.works req work current place message) where
+    (current : gateways.Attempt) (message : Message) (of : IsUnansweredOf now.node.gateway.works req work current place message)
+    (own : is_of_client_at req now.node ≡ false) where
   abbrev oid : ℕ
   oid = oid_of work.work
 
@@ -77,7 +79,7 @@ module _ (script : List Statement) (range : RunsAreInRange script) (events : Lis
   piece_is_to_come good told first first_there given from rsp bytes answering said is_good known whole unit above below k made at object
       covers is_made_one =
       let held = heard_piece script range events start is good told n first first_there message.number given from rsp bytes answering said
-      moment trail now there up req place work current message of refl in
+      moment trail now there up req place work current message of own refl in
       let known_now : policy_in (log_effects moment.world.log) oid ≡ Some (policy_of work.work)
       = policy_along script trail oid (policy_of work.work) known in
       let same : held.teller.policy ≡ policy_of work.work
@@ -86,11 +88,11 @@ module _ (script : List Statement) (range : RunsAreInRange script) (events : Lis
       tellers.rows.shaped.shape from oid current.epoch.0 message.index (offset_read work.work) (policy_of work.work) known_now
       (ap (λ (p : Policy). has_node from (targets_by moment.world.log current.epoch.0 oid p)) (sym same) ∙ held.teller.target)
       (λ j attempt attempt_at attempt_on.
-      (open_reads-in_run script range events start moment is trail n now there up req work current of.there held.teller.reads of.stage j
+      (open_reads-in_run script range events start moment is trail n now there up req work current of.there held.teller.reads own of.stage j
       attempt attempt_at attempt_on).epochs)
       bytes (held.since is_good known) unit whole above below
       (λ j attempt attempt_at attempt_on.
-      (open_reads-in_run script range events start moment is trail n now there up req work current of.there held.teller.reads of.stage j
+      (open_reads-in_run script range events start moment is trail n now there up req work current of.there held.teller.reads own of.stage j
       attempt attempt_at attempt_on).flying) k made at object covers is_made_one
 
   -- and a part of strips is that of a made attempt, if what came behind it adds nothing
@@ -108,7 +110,7 @@ module _ (script : List Statement) (range : RunsAreInRange script) (events : Lis
   part_is_of_made good told first first_there given from rsp bytes answering said is_good known strips unit j made at covers is_made_one
       quiet inside =
       let held = heard_piece script range events start is good told n first first_there message.number given from rsp bytes answering said
-      moment trail now there up req place work current message of refl in
+      moment trail now there up req place work current message of own refl in
       let known_now : policy_in (log_effects moment.world.log) oid ≡ Some (policy_of work.work)
       = policy_along script trail oid (policy_of work.work) known in
       let same : held.teller.policy ≡ policy_of work.work
@@ -117,6 +119,6 @@ module _ (script : List Statement) (range : RunsAreInRange script) (events : Lis
       tellers.rows.shaped.shape from oid current.epoch.0 message.index (offset_read work.work) (policy_of work.work) known_now
       (ap (λ (p : Policy). has_node from (targets_by moment.world.log current.epoch.0 oid p)) (sym same) ∙ held.teller.target)
       (λ k attempt attempt_at attempt_on.
-      (open_reads-in_run script range events start moment is trail n now there up req work current of.there held.teller.reads of.stage k
+      (open_reads-in_run script range events start moment is trail n now there up req work current of.there held.teller.reads own of.stage k
       attempt attempt_at attempt_on).epochs)
       bytes (held.since is_good known) unit strips j made at covers is_made_one quiet inside.above inside.below

@@ -4,8 +4,8 @@ use Rattle.std.proofs.Common.{◌≡◌, ℕ, Bool, true, false, List, Some}
 use Rattle.cluster_script.specs.declared.statement.Statement.{Statement}
 use Rattle.epoch_log.specs.Epochs.{settled_of}
 use Rattle.vdi_directory.specs.Decisions.{log_effects}
-use Rattle.sheep_node.specs.declared.event.Event.{Event}
 use Rattle.sheep_world.specs.Began.{Began}
+use Rattle.sheep_world.specs.RunsWithAsks.{Move}
 use Rattle.overlap_law.specs.Holders.{targets_by, is_dead_by_log}
 use Rattle.overlap_law.specs.Past.{MomentWithPast, run_with_past}
 use Rattle.overlap_law.specs.Rows.{RecoveredRowsAreKept, AttemptsAreCarried}
@@ -18,8 +18,9 @@ use Rattle.overlap_law.proofs.NoRecoveredDue.{began-with_past}
 use Rattle.overlap_law.proofs.RunsByChanges.{on_the_way}
 use Rattle.overlap_law.proofs.StayingRows.{RowsHold, kept_rows}
 
-module _ (script : List Statement) (range : RunsAreInRange script) (events : List Event) (start before after : MomentWithPast)
-    (is : run_with_past script events ≡ Some start) (trail : MomentTrail script start before) (change : MomentChange script start before after) where
+module _ (script : List Statement) (range : RunsAreInRange script) (events : List Move) (start before after : MomentWithPast)
+    (is : run_with_past script events ≡ Some start) (trail : MomentTrail script start before)
+    (change : MomentChange script start before after) where
   began : Began script start.world
   began = began-with_past script events start is
 

@@ -1,10 +1,12 @@
--- A working disk that is open is its session's, or the session's command has let it go in the log: in each world of a run in range, and at each
--- moment on the way of its events.
-use Rattle.std.proofs.Common.{◌≡◌, ◌⊎◌, inl, inr, ⊎_elim, ℕ, ◌+◌, ◌≤◌, Bool, true, false, ◌||◌, List, [], ◌∷◌, length, Option, Some, unwrap_or, refl, ap, subst, ◌∙◌, arith}
+-- A working disk that is open is its session's, or the session's command has let it go in the log: in each world of a run in range, and at
+-- each moment on the way of its events.
+use Rattle.std.proofs.Common.{◌≡◌, ◌⊎◌, inl, inr, ⊎_elim, ℕ, ◌+◌, ◌≤◌, Bool, true, false, ◌||◌, List, [], ◌∷◌, length, Option, Some}
+use Rattle.std.proofs.Common.{unwrap_or, refl, ap, subst, ◌∙◌, arith}
 use Rattle.std.specs.List.{list_any}
 use Rattle.std.specs.FinMap as tree
 use Rattle.object_id.specs.declared.entry.Entry.{Entry}
-use Rattle.object_id.specs.declared.entry.Entry.TheVariants.{Format, Join, Leave, Reweight, Recovered, Reserve, Publish, Clone, Snapshot, Delete, Lock, Unlock}
+use Rattle.object_id.specs.declared.entry.Entry.TheVariants.{Format, Join, Leave, Reweight, Recovered, Reserve, Publish, Clone, Snapshot}
+use Rattle.object_id.specs.declared.entry.Entry.TheVariants.{Delete, Lock, Unlock}
 use Rattle.object_id.specs.declared.node.NodeId.{NodeId}
 use Rattle.object_id.specs.declared.oid.Vid.{Vid}
 use Rattle.object_id.specs.Same.{is_same_entry}
@@ -17,7 +19,6 @@ use Rattle.vdi_ops.specs.Entries.{unlock_of}
 use Rattle.vdi_ops.specs.Op.{OpStage, Asked, Working, Publishing, Answered, Op, entry_wanted, entry_wanted_at}
 use Rattle.sheep_node.specs.declared.course.Course.TheVariants.{Commanding}
 use Rattle.sheep_node.specs.declared.course.Request.{Request}
-use Rattle.sheep_node.specs.declared.event.Event.{Event}
 use Rattle.sheep_node.specs.declared.session.Session.{Session}
 use Rattle.sheep_node.specs.SessionQueues.{session_among}
 use Rattle.sheep_node.specs.State.{Node, new_session}
@@ -26,13 +27,15 @@ use Rattle.overlap_law.specs.CommandDisks.{opened_in}
 use Rattle.overlap_law.specs.Past.{MomentWithPast, run_with_past}
 use Rattle.overlap_law.specs.MomentChanges.{MomentTrail, RunsAreInRange}
 use Rattle.overlap_law.specs.Sessions.{lets_go, HoldsDisk, IsLettingGo, OpenDisksAreHeld}
-use Rattle.overlap_law.specs.WriterClaims.{HasLock, HasLockYet, IsFirstEntry, IsPublicationKept, IsStageKept, LetsGoBy, LetsGo, IsLetGo, IsDiskKept, HasClaims}
+use Rattle.overlap_law.specs.WriterClaims.{HasLock, HasLockYet, IsFirstEntry, IsPublicationKept, IsStageKept, LetsGoBy, LetsGo, IsLetGo}
+use Rattle.overlap_law.specs.WriterClaims.{IsDiskKept, HasClaims}
 use Rattle.overlap_law.proofs.AwaitedInRuns.{commands_sessions-in_run}
 use Rattle.overlap_law.proofs.ClaimsInRuns.{claims-in_run}
 use Rattle.overlap_law.proofs.CountedEntries.{times, once_if, times-cons}
 use Rattle.overlap_law.proofs.GrantsOfCommands.{sound_along}
 use Rattle.overlap_law.proofs.KeptIds.{lock_yet}
 use Rattle.overlap_law.proofs.NoRecoveredDue.{began-with_past}
+use Rattle.sheep_world.specs.RunsWithAsks.{Move}
 
 -- an entry that stands in a list counts there
 count_of_any : (entry : Entry) (list : List Entry) → list_any (is_same_entry entry) list ≡ true → 1 ≤ times entry list
@@ -53,7 +56,8 @@ count_of_any entry (first ∷ later) is = by_test (is_same_entry entry first) re
 module _ (log : List Entry) (n : ℕ) (node : Node) (own : node.me.0 ≡ n) (epoch_so : node.peer.epoch ≡ epoch_of node.peer.entries)
     (commands_own : (req : ℕ) (request : Request) (op : Op) → tree.get node.requests req ≡ Some request → request.course ≡ Commanding op
     → IsSessionsCommand (log_effects node.peer.entries) node.me request.session op)
-    (has : HasClaims log node.outbox node.peer.entries (length node.peer.entries) node.me node.requests node.sessions) (number : ℕ) (disk : Disk)
+    (has : HasClaims log node.outbox node.peer.entries (length node.peer.entries) node.me node.requests node.sessions) (number : ℕ)
+    (disk : Disk)
     (opened : (session_among number node.sessions).disk ≡ Some disk) (working : disk.snapshot ≡ false) where
   abbrev Locked : Type 0
   Locked = HasLockYet log node.me number (epoch_of node.peer.entries) disk.inode.vid
@@ -106,7 +110,8 @@ module _ (log : List Entry) (n : ℕ) (node : Node) (own : node.me.0 ≡ n) (epo
         (λ there. has.held_yet number disk opened working (subst (λ (e : Entry). 1 ≤ times e node.outbox) entry there))
 
     -- or becomes a snapshot
-    taken : (by : NodeId) (old of : Vid) (made : Option Content) → goes.op.stage ≡ Publishing (Snapshot by old of) made → old.0 ≡ disk.inode.vid → Held
+    taken : (by : NodeId) (old of : Vid) (made : Option Content) → goes.op.stage ≡ Publishing (Snapshot by old of) made
+        → old.0 ≡ disk.inode.vid → Held
     taken by old of made at same =
         let kept = kept_at (Publishing (Snapshot by old of) made) at in
         by_entry (Snapshot by old of) (ap entry_wanted_at at) refl
@@ -166,7 +171,7 @@ module _ (log : List Entry) (n : ℕ) (node : Node) (own : node.me.0 ≡ n) (epo
           (λ (goes : IsLetGo node.requests number disk.inode.vid). let_held goes) is
 
 module _ (script : List Statement) (range : RunsAreInRange script) where
-  pub held-in_run : (events : List Event) (start moment : MomentWithPast) → run_with_past script events ≡ Some start
+  pub held-in_run : (events : List Move) (start moment : MomentWithPast) → run_with_past script events ≡ Some start
       → MomentTrail script start moment → OpenDisksAreHeld moment.world.log moment.world.hosts
   held-in_run events start moment is trail = record {
     each = λ n host there up number session disk got opened working.

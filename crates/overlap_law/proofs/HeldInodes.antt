@@ -9,8 +9,8 @@ use Rattle.cluster_script.specs.declared.statement.Statement.{Statement}
 use Rattle.disk_lock.specs.declared.holder.Holder.{Holder}
 use Rattle.disk_lock.specs.Locks.{is_of_node, without_node}
 use Rattle.epoch_log.specs.Epochs.{epoch_of}
-use Rattle.sheep_node.specs.declared.event.Event.{Event}
 use Rattle.sheep_world.specs.World.{Host}
+use Rattle.sheep_world.specs.RunsWithAsks.{Move}
 use Rattle.vdi_directory.specs.declared.effect.Effect.{Effect}
 use Rattle.vdi_directory.specs.declared.effect.Effect.TheVariants as effects
 use Rattle.vdi_directory.specs.Decisions.{outcome, log_effects}
@@ -131,7 +131,7 @@ published_by_grant vid holder = by_entries
 
 -- ---- so what is held was created
 
-module _ (script : List Statement) (range : RunsAreInRange script) (events : List Event) (start moment : MomentWithPast)
+module _ (script : List Statement) (range : RunsAreInRange script) (events : List Move) (start moment : MomentWithPast)
     (is : run_with_past script events ≡ Some start) (trail : MomentTrail script start moment) where
   pub held_inode : (n number vid : ℕ) (host : Host) → HoldsDisk moment.world.log n number vid host.node
       → IsCreated moment.past.attempts (inode_number vid) host.node.peer.epoch

@@ -1,6 +1,7 @@
 -- At which level the nodes hold what was made, where recovered rows are kept and attempts are carried; and that a recovery whose list is
 -- finished can find it there.
-use Rattle.std.proofs.Common.{◌≡◌, ◌⊎◌, inl, inr, ⊎_elim, arith, ℕ, ◌≤◌, ◌<◌, ◌==◌, ◌&&◌, ◌||◌, nat_le, max, not, Bool, true, false, List, [], ◌∷◌, ◌++◌, length, Option, Some, None, refl, sym, ap, subst, ◌∙◌, slice_get}
+use Rattle.std.proofs.Common.{◌≡◌, ◌⊎◌, inl, inr, ⊎_elim, arith, ℕ, ◌≤◌, ◌<◌, ◌==◌, ◌&&◌, ◌||◌, nat_le, max, not, Bool, true, false, List}
+use Rattle.std.proofs.Common.{[], ◌∷◌, ◌++◌, length, Option, Some, None, refl, sym, ap, subst, ◌∙◌, slice_get}
 use Rattle.std.specs.List.{list_any}
 use Rattle.std.specs.Option.{option_map_or}
 use Rattle.std.specs.FinMap as tree
@@ -18,8 +19,8 @@ use Rattle.vdi_directory.specs.Decisions.{log_effects}
 use Rattle.peer_proto.specs.Work.{policy_of}
 use Rattle.recovery.specs.State.{is_listed}
 use Rattle.cluster_script.specs.declared.statement.Statement.{Statement}
-use Rattle.sheep_node.specs.declared.event.Event.{Event}
 use Rattle.sheep_world.specs.World.{Host}
+use Rattle.sheep_world.specs.RunsWithAsks.{Move}
 use Rattle.overlap_law.specs.Attempts.{AttemptRecord, object_of}
 use Rattle.overlap_law.specs.Words.{Hosts, is_made, is_doomed}
 use Rattle.overlap_law.specs.Reached.{is_beyond, has_finished, is_dying}
@@ -51,7 +52,8 @@ none_dies : (hosts : Hosts) (log : List Entry) (epoch : ℕ) (members : List Mem
 none_dies hosts log epoch [] all = refl
 none_dies hosts log epoch (member ∷ members) all =
     let done : has_finished hosts log epoch member.node ≡ true
-    = all member.node (or_left (is_member_node member.node.0 member) (is_member member.node.0 members) (eq-eqb member.node.0 member.node.0 refl)) in
+    = all member.node (or_left (is_member_node member.node.0 member) (is_member member.node.0 members)
+    (eq-eqb member.node.0 member.node.0 refl)) in
     ap (λ (b : Bool). (not b && is_beyond hosts epoch member.node)
     || list_any (λ (other : Member). not (has_finished hosts log epoch other.node) && is_beyond hosts epoch other.node) members) done
     ∙ none_dies hosts log epoch members
@@ -83,7 +85,8 @@ pub record HoldTheMade (log : List Entry) (live good : ℕ → Bool) (hosts : Ho
   pub kept : SettledRowsAreKept log good hosts attempts
   pub carried : AttemptsAreCarried (targets_by log) log (log_effects log) good hosts attempts
 
-module _ (log : List Entry) (live good : ℕ → Bool) (hosts : Hosts) (attempts : List AttemptRecord) (holds : HoldTheMade log live good hosts attempts) where
+module _ (log : List Entry) (live good : ℕ → Bool) (hosts : Hosts) (attempts : List AttemptRecord)
+    (holds : HoldTheMade log live good hosts attempts) where
   module _ (j : ℕ) (attempt : AttemptRecord) (there : slice_get attempts j ≡ Some attempt) (made : is_made attempt ≡ true)
       (is_good : good (object_of attempt) ≡ true) where
     abbrev oid : ℕ
@@ -105,7 +108,8 @@ module _ (log : List Entry) (live good : ℕ → Bool) (hosts : Hosts) (attempts
         omega (arith, reserved, before)
 
     -- its targets have served it
-    own_rows : settled_of log ≤ attempt.epoch → EachHost hosts (λ n host. has_node (record { 0 = n }) (targets_by log attempt.epoch oid policy) ≡ true
+    own_rows : settled_of log ≤ attempt.epoch
+        → EachHost hosts (λ n host. has_node (record { 0 = n }) (targets_by log attempt.epoch oid policy) ≡ true
         → has_row_at host.node.peer.epoch host.node.peer.rows oid attempt.epoch ≡ true)
     own_rows later n host at placed =
         let own : has_node (record { 0 = n }) attempt.targets ≡ true
@@ -135,7 +139,8 @@ module _ (log : List Entry) (live good : ℕ → Bool) (hosts : Hosts) (attempts
         holds.carried.later j attempt there policy (settled_of log) is_good policy_so stands (omega arith) later (settled_of-begun log).1
         (settled-not_dying log hosts (omega (arith, later, least)))
 
-    at_level : (level : ℕ) → ((level ≡ attempt.epoch) × (settled_of log ≤ attempt.epoch)) ⊎ ((level ≡ settled_of log) × (attempt.epoch < settled_of log))
+    at_level : (level : ℕ)
+        → ((level ≡ attempt.epoch) × (settled_of log ≤ attempt.epoch)) ⊎ ((level ≡ settled_of log) × (attempt.epoch < settled_of log))
         → IsHeldAt (targets_by log) log hosts oid level policy
     at_level level (inl own) = subst (λ (l : ℕ). IsHeldAt (targets_by log) log hosts oid l policy) (sym own.0) (record {
       read = λ n host at. (let read = holds.settled n host at in let above = own.1 in omega (arith, read, above));
@@ -151,8 +156,8 @@ module _ (log : List Entry) (live good : ℕ → Bool) (hosts : Hosts) (attempts
     pub held : (asked : Policy) → policy_in (log_effects log) oid ≡ Some asked
         → IsHeldAt (targets_by log) log hosts oid (level_of log attempt) asked
     held asked is =
-        subst (λ (p : Policy). IsHeldAt (targets_by log) log hosts oid (level_of log attempt) p) (same_Some policy asked (sym policy_so ∙ is))
-        (at_level (level_of log attempt) (greater attempt.epoch (settled_of log)))
+        subst (λ (p : Policy). IsHeldAt (targets_by log) log hosts oid (level_of log attempt) p)
+        (same_Some policy asked (sym policy_so ∙ is)) (at_level (level_of log attempt) (greater attempt.epoch (settled_of log)))
 
   pub made_held : TheMadeIsHeld (targets_by log) log (log_effects log) good hosts attempts
   made_held = record { each = λ j attempt there policy is_good is made. held j attempt there made is_good policy is }
@@ -166,14 +171,16 @@ module _ (log : List Entry) (hosts : Hosts) (present : RecoveriesArePresent log 
   none_waits (other ∷ waiting) node listed =
       let no : length (other ∷ waiting) ≡ 0 = eqb-true (length (other ∷ waiting)) 0 listed in absurd (omega (arith, no))
 
-  pub members_came : (n : ℕ) (host : Host) → tree.get hosts n ≡ Some host → is_listed host.node.recovery ≡ true → 1 < host.node.recovery.epoch
+  pub members_came : (n : ℕ) (host : Host) → tree.get hosts n ≡ Some host → is_listed host.node.recovery ≡ true
+      → 1 < host.node.recovery.epoch
       → (other : NodeId) → is_member other.0 (members_in log host.node.recovery.epoch) ≡ true
       → has_reached hosts host.node.recovery.epoch other ≡ true
   members_came n host at listed later other member =
       answered.each n host at other (present.members n host at other later ∙ member)
       (none_waits host.node.recovery.lists.waiting other listed)
 
-module _ (log : List Entry) (live good : ℕ → Bool) (hosts : Hosts) (attempts : List AttemptRecord) (holds : HoldTheMade log live good hosts attempts)
+module _ (log : List Entry) (live good : ℕ → Bool) (hosts : Hosts) (attempts : List AttemptRecord)
+    (holds : HoldTheMade log live good hosts attempts)
     (present : RecoveriesArePresent log hosts) (answered : AnswerersHaveCome hosts) where
   -- who came to an epoch is there
   held_there : (epoch oid level : ℕ) (target : NodeId) → 1 < epoch → has_reached hosts epoch target ≡ true
@@ -182,7 +189,8 @@ module _ (log : List Entry) (live good : ℕ → Bool) (hosts : Hosts) (attempts
   held_there epoch oid level target later reached rows = by_host (tree.get hosts target.0) refl reached
     where
       by_host : (o : Option Host) → tree.get hosts target.0 ≡ o
-          → nat_le epoch (option_map_or (λ (host : Host). host.node.peer.epoch) o 0) ≡ true → holds_level (tree.get hosts target.0) oid level ≡ true
+          → nat_le epoch (option_map_or (λ (host : Host). host.node.peer.epoch) o 0) ≡ true
+          → holds_level (tree.get hosts target.0) oid level ≡ true
       by_host None is came = let low : epoch ≤ 0 = leb-true epoch 0 came in absurd (omega (arith, low, later))
       by_host (Some host) is came = ap (λ (o : Option Host). holds_level o oid level) is ∙ rows host is
 
@@ -232,10 +240,11 @@ pub settled_kept : (log : List Entry) (good : ℕ → Bool) (hosts : Hosts) (att
     → RecoveredRowsAreKept (targets_by log) log (log_effects log) good hosts attempts → SettledRowsAreKept log good hosts attempts
 settled_kept log good hosts attempts kept = record {
   each = λ n host at oid policy is_good policy_so recovered settled placed made.
-      kept.each n host at oid (settled_of log) policy is_good policy_so (finished_by_log hosts log n (settled_of log) recovered) settled placed made;
+      kept.each n host at oid (settled_of log) policy is_good policy_so (finished_by_log hosts log n (settled_of log) recovered) settled
+      placed made;
 }
 
-pub has_made : (script : List Statement) → RunsAreInRange script → (events : List Event) (start moment : MomentWithPast)
+pub has_made : (script : List Statement) → RunsAreInRange script → (events : List Move) (start moment : MomentWithPast)
     → run_with_past script events ≡ Some start → MomentTrail script start moment → (good : ℕ → Bool)
     → ((oid : ℕ) → good oid ≡ true → is_dead_by_log moment.world.log oid ≡ false)
     → RecoveredRowsAreKept (targets_by moment.world.log) moment.world.log (log_effects moment.world.log) good moment.world.hosts

@@ -2,7 +2,6 @@
 -- where a write is at.
 use Rattle.std.proofs.Common.{◌≡◌, List, refl, sym, subst, inr}
 use Rattle.cluster_script.specs.declared.statement.Statement.{Statement}
-use Rattle.sheep_node.specs.declared.event.Event.{Event}
 use Rattle.overlap_law.specs.CopiedStrips.{NoneElseWrites}
 use Rattle.overlap_law.specs.Headline.{ledger_of}
 use Rattle.overlap_law.specs.MomentChanges.{MomentTrail, RunsAreInRange}
@@ -14,8 +13,9 @@ use Rattle.std.specs.Prelude.{Some}
 use Rattle.overlap_law.proofs.ApartDone.{told_apart}
 use Rattle.overlap_law.proofs.UnwrittenInRuns.{none_meet}
 use Rattle.overlap_law.proofs.UnwrittenTold.{apart_from_open}
+use Rattle.sheep_world.specs.RunsWithAsks.{Move}
 
-module _ (script : List Statement) (range : RunsAreInRange script) (events : List Event) (start : MomentWithPast)
+module _ (script : List Statement) (range : RunsAreInRange script) (events : List Move) (start : MomentWithPast)
     (run : run_with_past script events ≡ Some start) where
   pub done_apart : (before after : MomentWithPast) → MomentTrail script start before → DoneWritesAreApart script start before after
   done_apart before after trail = record {
@@ -23,8 +23,8 @@ module _ (script : List Statement) (range : RunsAreInRange script) (events : Lis
         let along : MomentTrail script start (moment_in_step script stepping start so_far)
         = subst (λ (m : MomentWithPast). MomentTrail script start m) at_before trail in
         subst (λ (m : MomentWithPast). IsApartFromReads script start m after reply.0) (sym at_before)
-        (subst (λ (m : MomentWithPast). IsApartFromReads script start (moment_in_step script stepping start so_far) m reply.0) (sym at_after)
-        (record {
+        (subst (λ (m : MomentWithPast). IsApartFromReads script start (moment_in_step script stepping start so_far) m reply.0)
+        (sym at_after) (record {
           standing = apart_from_open script range events start run stepping is by so_far next within along reply among free accepts;
           told = told_apart script range events start run stepping is by so_far next within reply among free accepts;
         }));

@@ -1,8 +1,8 @@
 -- The history stands over events: what a block may come to be read as may be read of it, and the reads of nodes stand, both by each test
--- for good ids that serves there. So it does in every run in range, of the disks that were available, and each event tells what may be read.
+-- for good ids that serves there. So it does in every run in range, of the disks that were available, and each event tells what may be
+-- read.
 use Rattle.std.proofs.Common.{◌≡◌, ℕ, Bool, List, Some, refl}
 use Rattle.cluster_script.specs.declared.statement.Statement.{Statement}
-use Rattle.sheep_node.specs.declared.event.Event.{Event}
 use Rattle.vdi_directory.specs.Decisions.{log_effects}
 use Rattle.overlap_law.specs.Headline.{ledger_of}
 use Rattle.overlap_law.specs.HistoryStands.{CallsAvailable, HistoryStands}
@@ -49,6 +49,7 @@ use Rattle.overlap_law.proofs.StripReadsBased.{bases_at}
 use Rattle.overlap_law.proofs.StripReadsBegun.{bytes-on_the_way}
 use Rattle.overlap_law.proofs.StripReadsItems.{bytes_stand}
 use Rattle.overlap_law.proofs.StripReadsToCome.{strips_are_to_come}
+use Rattle.sheep_world.specs.RunsWithAsks.{Move}
 
 -- what is so of more ids is so of fewer
 fewer_stand : (script : List Statement) (few many : ℕ → Bool) (moment : MomentWithPast) → CallsFewer few many
@@ -79,7 +80,7 @@ opens script = record {
 module _ (script : List Statement) (range : RunsAreInRange script) where
   -- ---- over a change
 
-  module _ (events : List Event) (event : Event) (start end before after : MomentWithPast)
+  module _ (events : List Move) (event : Move) (start end before after : MomentWithPast)
       (way : IsOnTheWay script events event start end before after) where
     reads_are_kept : AllReadsAreKept script start before after
     reads_are_kept = reads_kept script range events start way.run way.change way.change way.behind
@@ -177,18 +178,18 @@ module _ (script : List Statement) (range : RunsAreInRange script) where
     };
   }
 
-  pub stands-in_run : (events : List Event) (moment : MomentWithPast) → run_with_past script events ≡ Some moment
+  pub stands-in_run : (events : List Move) (moment : MomentWithPast) → run_with_past script events ≡ Some moment
       → HistoryStands script (good_id_at moment) moment
   stands-in_run = by_tests-in_run script (HistoryStands script) stands_kept
 
-  pub stands-by_tests : (events : List Event) (event : Event) (start end : MomentWithPast) → run_with_past script events ≡ Some start
+  pub stands-by_tests : (events : List Move) (event : Move) (start end : MomentWithPast) → run_with_past script events ≡ Some start
       → next_moment script event start ≡ Some end → (good_id : ℕ → Bool) → {moment : MomentWithPast} → MomentTrail script start moment
       → TrailLeft script start moment end → CallsAvailable start moment good_id → HistoryStands script good_id moment
   stands-by_tests = by_tests-on_the_way script (HistoryStands script) stands_kept
 
   -- ---- what comes of reads, before each change on the way of an event
 
-  module _ (events : List Event) (event : Event) (start end before after : MomentWithPast)
+  module _ (events : List Move) (event : Move) (start end before after : MomentWithPast)
       (way : IsOnTheWay script events event start end before after) (good_id : ℕ → Bool) (test : CallsAvailable start before good_id) where
     stands_before : HistoryStands script good_id before
     stands_before = stands-by_tests events event start end way.run way.happens good_id way.behind (Next way.change way.left) test

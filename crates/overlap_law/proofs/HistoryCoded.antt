@@ -14,9 +14,11 @@ use Rattle.sheep_node.specs.StepState.{StepState}
 use Rattle.sheep_world.specs.EventKinds.{outcome_of_step}
 use Rattle.sheep_world.specs.HistoryAdditions.{check_write_by}
 use Rattle.sheep_world.specs.NodeCauses.{NodeCause, GuestAsks, RequestComes, ReplyComes, LossIsTold, EntryIsRead, EntryIsPut, RecoveryTicks}
-use Rattle.sheep_world.specs.NodeCauses.{WorkIsRetried, IsCause, event_of_cause, history_of_cause, input_of_cause}
-use Rattle.sheep_world.specs.Step.{EventOutcome, step}
+use Rattle.sheep_world.specs.NodeCauses.{WorkIsRetried, ClientAsks, IsCause, event_of_cause, history_of_cause, input_of_cause}
+use Rattle.sheep_world.specs.Step.{EventOutcome}
 use Rattle.sheep_world.specs.World.{Host, World, is_host_up, node_at}
+use Rattle.sheep_world.specs.RunsWithAsks.{Move}
+use Rattle.sheep_world.specs.Began.{MakesMove}
 use Rattle.overlap_law.specs.Headline.{ledger_of}
 use Rattle.overlap_law.specs.MomentChanges.{MomentChange, RunsAreInRange}
 use Rattle.overlap_law.specs.MomentChanges as moments
@@ -28,7 +30,7 @@ use Rattle.overlap_law.proofs.RunsWithOneMore.{run_with_one_more}
 use Rattle.overlap_law.proofs.SoundCodedRuns.{AllCoded, are_coded, asks_coded, came_coded, comes_harmless, split, told}
 use Rattle.overlap_law.proofs.SoundCodedRuns.{all_coded-in_run, coded-in_run}
 
-module _ (script : List Statement) (range : RunsAreInRange script) (events : List Event) (start : MomentWithPast)
+module _ (script : List Statement) (range : RunsAreInRange script) (events : List Move) (start : MomentWithPast)
     (run : run_with_past script events ≡ Some start) where
   all : AllCoded start.world.log (ledger_of start.past.history)
   all = all_coded-in_run script range events start run
@@ -55,6 +57,7 @@ module _ (script : List Statement) (range : RunsAreInRange script) (events : Lis
   so_far_coded n host there up (EntryIsPut entry) caused by after input = absurd by
   so_far_coded n host there up RecoveryTicks caused by after input = absurd by
   so_far_coded n host there up WorkIsRetried caused by after input = told script range events start run all start.world after None
+  so_far_coded n host there up (ClientAsks req ask) caused by after input = told script range events start run all start.world after None
 
   coded_in_step : (stepping : SteppingNode) → IsStepping script start.world stepping → StepsByChanges stepping.cause
       → (so_far : StepState) → AllCoded start.world.log (ledger_of (moment_in_step script stepping start so_far).past.history)
@@ -95,11 +98,11 @@ module _ (script : List Statement) (range : RunsAreInRange script) (events : Lis
 
   -- ---- and behind it
 
-  at_end : (event : Event) (made : EventOutcome) → step script event start.world ≡ Some made
+  at_end : (event : Event) (made : EventOutcome) → MakesMove script event start.world made
       → StripItemsAreCoded (ledger_of (moment_after script event start made).past.history)
       (log_effects (moment_after script event start made).world.log)
   at_end event made happened =
-      coded-in_run script range (events ++ event ∷ []) (moment_after script event start made)
+      coded-in_run script range (events ++ happened.move ∷ []) (moment_after script event start made)
       (run_with_one_more script event made events start happened run)
 
   pub coded_after : {before after : MomentWithPast} → MomentChange script start before after

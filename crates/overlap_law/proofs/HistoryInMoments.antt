@@ -1,5 +1,6 @@
 -- What each change of a moment adds to the history: a node's step adds as it begins, and whenever it replies to a guest.
-use Rattle.std.proofs.Common.{◌≡◌, ℕ, Contains, Bool, true, false, cond, List, [], ◌∷◌, ◌++◌, append_assoc, append-nil, Option, Some, None, refl, sym, ap, subst, ◌∙◌}
+use Rattle.std.proofs.Common.{◌≡◌, ℕ, Contains, Bool, true, false, cond, List, [], ◌∷◌, ◌++◌, append_assoc, append-nil, Option, Some, None}
+use Rattle.std.proofs.Common.{refl, sym, ap, subst, ◌∙◌}
 use Rattle.std.specs.Prelude.{flat_map, nat_lt}
 use Rattle.std.specs.List.{list_all}
 use Rattle.std.specs.Option.{option_map_or, option_and_then}
@@ -34,13 +35,16 @@ use Rattle.overlap_law.proofs.RepliesApart.{apart_so_far}
 use Rattle.sheep_world.specs.Began.{Began}
 use Rattle.sheep_world.specs.HistoryAdditions.{check_write_grown, reply_grown, writers_lost}
 use Rattle.sheep_world.specs.Step.{EventOutcome}
-use Rattle.sheep_world.specs.NodeCauses.{NodeCause, GuestAsks, RequestComes, ReplyComes, LossIsTold, EntryIsRead, EntryIsPut, RecoveryTicks, WorkIsRetried, input_of_cause, history_of_cause, log_after_cause}
-use Rattle.overlap_law.specs.HistoryGrowth.{added_at_cause, added_by_reply, HistoryGrows, NothingIsAdded, WritesBegin, RequestIsReplied, EntryAdds, WritersAreLost}
+use Rattle.sheep_world.specs.NodeCauses.{NodeCause, GuestAsks, RequestComes, ReplyComes, LossIsTold, EntryIsRead, EntryIsPut, RecoveryTicks}
+use Rattle.sheep_world.specs.NodeCauses.{WorkIsRetried, ClientAsks, input_of_cause, history_of_cause, log_after_cause}
+use Rattle.overlap_law.specs.HistoryGrowth.{added_at_cause, added_by_reply, HistoryGrows, NothingIsAdded, WritesBegin, RequestIsReplied}
+use Rattle.overlap_law.specs.HistoryGrowth.{EntryAdds, WritersAreLost}
 use Rattle.overlap_law.specs.MomentChanges as moments
 use Rattle.overlap_law.specs.MomentChanges.{MomentChange, RunsAreInRange}
 use Rattle.overlap_law.specs.Past.{MomentWithPast, past_after_event, moment_after}
 use Rattle.overlap_law.specs.StayingBlocks.{are_apart}
-use Rattle.overlap_law.specs.StepMoments.{SteppingNode, IsStepping, IsWithinStep, StepsByChanges, StepsAtOnce, first_in_step, last_in_step, world_in_step, moment_in_step}
+use Rattle.overlap_law.specs.StepMoments.{SteppingNode, IsStepping, IsWithinStep, StepsByChanges, StepsAtOnce, first_in_step, last_in_step}
+use Rattle.overlap_law.specs.StepMoments.{world_in_step, moment_in_step}
 use Rattle.overlap_law.proofs.RequestsInSteps.{received_replies}
 use Rattle.overlap_law.proofs.RepliesOfChanges.{IsFree, RepliesGrow, Silent, Replied, RepliesIn, change_replies}
 use Rattle.overlap_law.proofs.RepliesOfTwo.{replies_apart, behind_free}
@@ -147,6 +151,7 @@ module _ (script : List Statement) (range : RunsAreInRange script) (start : Mome
     by_cause (EntryIsPut entry) by so_far = absurd by
     by_cause RecoveryTicks by so_far = absurd by
     by_cause WorkIsRetried by so_far = refl
+    by_cause (ClientAsks req ask) by so_far = refl
 
     pub history_so : StepsByChanges stepping.cause → (so_far : StepState) → (at so_far).past.history ≡ base ++ told so_far.outputs.replies
     unfolding past_after_event
@@ -255,6 +260,7 @@ module _ (script : List Statement) (range : RunsAreInRange script) (start : Mome
         (tick_silent host.node)
         ∙ append-nil start.past.history)
     made_by WorkIsRetried by n host after same so = absurd by
+    made_by (ClientAsks req ask) by n host after same so = absurd by
 
     made_at_once : (stepping : SteppingNode) → StepsAtOnce stepping.cause → P start (at stepping (last_in_step stepping))
     unfolding past_after_event

@@ -3,7 +3,6 @@
 use Rattle.std.proofs.Common.{◌≡◌, ℕ, Bool, List, Some, sym, ap, subst, ◌∙◌}
 use Rattle.object_id.specs.declared.entry.Entry.{Entry}
 use Rattle.cluster_script.specs.declared.statement.Statement.{Statement}
-use Rattle.sheep_node.specs.declared.event.Event.{Event}
 use Rattle.vdi_directory.specs.Chains.{is_above}
 use Rattle.vdi_directory.specs.Decisions.{log_effects}
 use Rattle.overlap_law.specs.HistoryStands.{CallsAvailable}
@@ -19,6 +18,7 @@ use Rattle.overlap_law.proofs.KeptInRuns.{kept_at_events}
 use Rattle.overlap_law.proofs.KeptToTheEnd.{good_id_at}
 use Rattle.overlap_law.proofs.LogsInMoments.{log_grows}
 use Rattle.overlap_law.proofs.MomentTrails.{event_trail}
+use Rattle.sheep_world.specs.RunsWithAsks.{Move}
 
 -- ---- the tests
 
@@ -31,8 +31,8 @@ test_before script {start} {before} {after} change good_id test =
       fewer = test.fewer;
       above = λ elder vid over good.
           test.above elder vid
-          (ap (λ (log : List Entry). is_above (log_effects log) elder vid) grows.is ∙ above_later before.world.log grows.rest elder vid over)
-          good;
+          (ap (λ (log : List Entry). is_above (log_effects log) elder vid) grows.is
+          ∙ above_later before.world.log grows.rest elder vid over) good;
     }
 
 -- and as the event began
@@ -51,7 +51,7 @@ test_of_start script {start} change = record {
 }
 
 -- that of its end, at each moment on its way
-pub test_of_end : (script : List Statement) (event : Event) (start end : MomentWithPast) → next_moment script event start ≡ Some end
+pub test_of_end : (script : List Statement) (event : Move) (start end : MomentWithPast) → next_moment script event start ≡ Some end
     → {moment : MomentWithPast} → TrailLeft script start moment end → CallsAvailable start moment (good_id_at end)
 test_of_end script event start end happens left = record {
   fewer = was_good_id script event start end happens;
@@ -63,12 +63,12 @@ test_of_end script event start end happens left = record {
 pub record IsKeptByTests (script : List Statement) (P : (ℕ → Bool) → MomentWithPast → Type 0) : Type 0 where
   pub fewer : (few many : ℕ → Bool) (moment : MomentWithPast) → CallsFewer few many → P many moment → P few moment
   pub opens : P (good_id_at (first_moment script)) (first_moment script)
-  pub keeps : (events : List Event) (event : Event) (start end before after : MomentWithPast)
+  pub keeps : (events : List Move) (event : Move) (start end before after : MomentWithPast)
       → IsOnTheWay script events event start end before after → (good_id : ℕ → Bool) → CallsAvailable start after good_id
       → P good_id before → P good_id after
 
 module _ (script : List Statement) (P : (ℕ → Bool) → MomentWithPast → Type 0) (kept : IsKeptByTests script P) where
-  along : (events : List Event) (event : Event) (start end : MomentWithPast) → run_with_past script events ≡ Some start
+  along : (events : List Move) (event : Move) (start end : MomentWithPast) → run_with_past script events ≡ Some start
       → next_moment script event start ≡ Some end → (good_id : ℕ → Bool) → {moment : MomentWithPast} → MomentTrail script start moment
       → TrailLeft script start moment end → CallsAvailable start moment good_id → P (good_id_at start) start → P good_id moment
   along events event start end run happens good_id Still left test holds =
@@ -78,7 +78,7 @@ module _ (script : List Statement) (P : (ℕ → Bool) → MomentWithPast → Ty
       (record { run = run; happens = happens; behind = trail; change = change; left = left }) good_id test
       (along events event start end run happens good_id trail (Next change left) (test_before script change good_id test) holds)
 
-  pub by_tests-in_run : (events : List Event) (moment : MomentWithPast) → run_with_past script events ≡ Some moment
+  pub by_tests-in_run : (events : List Move) (moment : MomentWithPast) → run_with_past script events ≡ Some moment
       → P (good_id_at moment) moment
   by_tests-in_run =
       kept_at_events script (λ (moment : MomentWithPast). P (good_id_at moment) moment) kept.opens
@@ -86,7 +86,7 @@ module _ (script : List Statement) (P : (ℕ → Bool) → MomentWithPast → Ty
       along events event start end run happens (good_id_at end) (event_trail script event start end happens) AtEnd
       (test_of_end script event start end happens AtEnd) holds)
 
-  pub by_tests-on_the_way : (events : List Event) (event : Event) (start end : MomentWithPast) → run_with_past script events ≡ Some start
+  pub by_tests-on_the_way : (events : List Move) (event : Move) (start end : MomentWithPast) → run_with_past script events ≡ Some start
       → next_moment script event start ≡ Some end → (good_id : ℕ → Bool) → {moment : MomentWithPast} → MomentTrail script start moment
       → TrailLeft script start moment end → CallsAvailable start moment good_id → P good_id moment
   by_tests-on_the_way events event start end run happens good_id trail left test =

@@ -12,12 +12,12 @@ use Rattle.disk_history.specs.Ledger.{Disk}
 use Rattle.peer_proto.specs.declared.work.ObjWork.{ObjWork}
 use Rattle.peer_proto.specs.Work.{oid_of}
 use Rattle.guest_driver.specs.InodeQueue.{is_inode, is_on_inode}
-use Rattle.sheep_node.specs.declared.event.Event.{Event}
 use Rattle.sheep_node.specs.declared.session.Session.{Session}
 use Rattle.sheep_node.specs.OneWork.{waiting_in}
 use Rattle.sheep_node.specs.OpenLines.{IsOnInode}
 use Rattle.sheep_node.specs.State.{new_session}
 use Rattle.sheep_world.specs.Began.{Began}
+use Rattle.sheep_world.specs.RunsWithAsks.{Move}
 use Rattle.vdi_directory.specs.Decisions.{log_effects}
 use Rattle.overlap_law.specs.Headline.{ledger_of}
 use Rattle.overlap_law.specs.MomentChanges.{RunsAreInRange, Still}
@@ -37,7 +37,7 @@ use Rattle.overlap_law.proofs.QueuesInMoments.{queues_in_world}
 use Rattle.overlap_law.proofs.ReadableBlocks.{may_allowed}
 use Rattle.overlap_law.proofs.RunsByChanges.{on_the_way}
 
-module _ (script : List Statement) (range : RunsAreInRange script) (events : List Event) (moment : MomentWithPast)
+module _ (script : List Statement) (range : RunsAreInRange script) (events : List Move) (moment : MomentWithPast)
     (run : run_with_past script events ≡ Some moment) (good_id : ℕ → Bool)
     (stay : WorksMayStay (ledger_of moment.past.history) (log_effects moment.world.log) good_id moment.world.hosts moment.past.attempts)
   where

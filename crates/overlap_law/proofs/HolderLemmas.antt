@@ -1,5 +1,6 @@
 -- That the invariant gives the holders of a base: at its own epoch by what was served, at a later settled one by what was recovered.
-use Rattle.std.proofs.Common.{◌≡◌, ◌⊎◌, inl, inr, ⊎_elim, ℕ, zero, suc, ◌<◌, ◌≤◌, ◌==◌, not, max, Bool, true, false, List, [], ◌∷◌, length, Option, Some, None, refl, sym, ap, subst, ◌∙◌, slice_get, slice_index_or, arith}
+use Rattle.std.proofs.Common.{◌≡◌, ◌⊎◌, inl, inr, ⊎_elim, ℕ, zero, suc, ◌<◌, ◌≤◌, ◌==◌, not, max, Bool, true, false, List, [], ◌∷◌, length}
+use Rattle.std.proofs.Common.{Option, Some, None, refl, sym, ap, subst, ◌∙◌, slice_get, slice_index_or, arith}
 use Rattle.std.specs.Option.{option_map_or}
 use Rattle.std.specs.FinMap as tree
 use Rattle.std.proofs.lemmas.Bool.{eqb-true, eq-eqb, or_left, or_right, and_parts, cases_lt}
@@ -37,7 +38,8 @@ has-itself (node ∷ nodes) (suc k) d within = or_right
     (node.0 == (slice_index_or nodes k d).0) (lists.has_node (slice_index_or nodes k d) nodes) (has-itself nodes k d (omega arith))
 
 -- the targets of an epoch are its members
-pub target-member : (log : List Entry) (epoch oid : ℕ) (policy : Policy) (node : NodeId) → lists.has_node node (targets_by log epoch oid policy) ≡ true
+pub target-member : (log : List Entry) (epoch oid : ℕ) (policy : Policy) (node : NodeId)
+    → lists.has_node node (targets_by log epoch oid policy) ≡ true
     → is_member node.0 (members_in log epoch) ≡ true
 unfolding targets_by
 target-member log epoch oid policy node there =
@@ -161,7 +163,8 @@ pub good-live : (log : List Entry) (attempts : List AttemptRecord) (unavailable 
 good-live log attempts unavailable oid is = (and_parts (is_live_object log attempts oid) (not (is_object_among oid unavailable)) is).0
 
 pub gives-holders : (moment : MomentWithPast) → Overlap moment → EachGood moment.world moment.past
-    (HoldersOfTheBase (targets_by moment.world.log) (counts moment.past.ended moment.world) (settled_of moment.world.log) moment.world.hosts)
+    (HoldersOfTheBase (targets_by moment.world.log) (counts moment.past.ended moment.world) (settled_of moment.world.log)
+    moment.world.hosts)
 gives-holders moment o = holders
     (good-live moment.world.log moment.past.attempts moment.past.unavailable)
     o.attempts.fates o.attempts.shape o.attempts.known o.terms o.rows.stays o.rows.kept

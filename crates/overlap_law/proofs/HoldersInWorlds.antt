@@ -1,6 +1,7 @@
 -- In each world of a run in range a session with a working disk open holds it by the whole log, where no command goes on in it; and nobody
 -- holds an open snapshot.
-use Rattle.std.proofs.Common.{◌≡◌, ⊎_elim, arith, ℕ, Bool, true, false, List, length, Option, Some, None, is_none, option_map, refl, sym, ap, subst, ◌∙◌}
+use Rattle.std.proofs.Common.{◌≡◌, ⊎_elim, arith, ℕ, Bool, true, false, List, length, Option, Some, None, is_none, option_map, refl, sym}
+use Rattle.std.proofs.Common.{ap, subst, ◌∙◌}
 use Rattle.std.specs.Prelude.{unwrap_or, nat_le}
 use Rattle.std.specs.Option.{option_and_then}
 use Rattle.std.specs.FinMap as tree

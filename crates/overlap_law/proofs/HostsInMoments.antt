@@ -1,6 +1,7 @@
 -- A host that is there stays there over each change of a moment: its incarnation and its count of sends never fall, and where it begins its
 -- next incarnation, nothing of its node is in the wire.
-use Rattle.std.proofs.Common.{◌≡◌, ◌≢◌, ◌⊎◌, inl, inr, arith, ℕ, ◌+◌, ◌≤◌, ◌<◌, Bool, true, false, not, cond, List, length, Option, Some, None, is_some, ⊎_elim, refl, sym, ap, subst, ◌∙◌}
+use Rattle.std.proofs.Common.{◌≡◌, ◌≢◌, ◌⊎◌, inl, inr, arith, ℕ, ◌+◌, ◌≤◌, ◌<◌, Bool, true, false, not, cond, List, length, Option, Some}
+use Rattle.std.proofs.Common.{None, is_some, ⊎_elim, refl, sym, ap, subst, ◌∙◌}
 use Rattle.std.specs.FinMap as tree
 use Rattle.std.proofs.lemmas.Bool.{cases_eq, eq-eqb}
 use Rattle.std.proofs.lemmas.List.{length-append}
@@ -52,7 +53,8 @@ pub record HostStays (hosts_after : Hosts) (wire : Wire) (n : ℕ) (host : Host)
 
 -- each host is
 abbrev pub HostsStay : MomentWithPast → MomentWithPast → Type 0
-HostsStay before after = (n : ℕ) (host : Host) → tree.get before.world.hosts n ≡ Some host → HostStays after.world.hosts before.world.wire n host
+HostsStay before after =
+    (n : ℕ) (host : Host) → tree.get before.world.hosts n ≡ Some host → HostStays after.world.hosts before.world.wire n host
 
 none_less : (k : ℕ) → k ≤ k
 none_less k = omega arith
@@ -60,7 +62,8 @@ none_less k = omega arith
 same_incarnation : {P : Type 0} (k : ℕ) → k < k → P
 same_incarnation k less = absurd (omega (arith, less))
 
-as_it_was : (hosts_after : Hosts) (wire : Wire) (n : ℕ) (host : Host) → tree.get hosts_after n ≡ Some host → HostStays hosts_after wire n host
+as_it_was : (hosts_after : Hosts) (wire : Wire) (n : ℕ) (host : Host) → tree.get hosts_after n ≡ Some host
+    → HostStays hosts_after wire n host
 as_it_was hosts_after wire n host there = record {
   now = host;
   there = there;
@@ -75,16 +78,18 @@ same_hosts before after same n host there =
 
 -- one host is another
 one_host : (before after : MomentWithPast) (k : ℕ) (new : Host) → after.world.hosts ≡ tree.insert before.world.hosts k new
-    → ((host : Host) → tree.get before.world.hosts k ≡ Some host → HostStays after.world.hosts before.world.wire k host) → HostsStay before after
+    → ((host : Host) → tree.get before.world.hosts k ≡ Some host → HostStays after.world.hosts before.world.wire k host)
+    → HostsStay before after
 one_host before after k new hosts own n host there = ⊎_elim
-    (λ (is : n ≡ k). subst (λ (q : ℕ). HostStays after.world.hosts before.world.wire q host) (sym is) (own host (ap (tree.get before.world.hosts) (sym is) ∙ there)))
-    (λ (apart : n ≢ k). as_it_was after.world.hosts before.world.wire n host
+    (λ (is : n ≡ k). subst (λ (q : ℕ). HostStays after.world.hosts before.world.wire q host) (sym is)
+    (own host (ap (tree.get before.world.hosts) (sym is) ∙ there))) (λ (apart : n ≢ k). as_it_was after.world.hosts before.world.wire n host
     (ap (λ (held : Hosts). tree.get held n) hosts ∙ get-insert_other before.world.hosts k new n apart ∙ there))
     (cases_eq n k)
 
 -- the same host, in which the node has sent no fewer messages
 more_sends : (before after : MomentWithPast) (k : ℕ) (old new : Host) → after.world.hosts ≡ tree.insert before.world.hosts k new
-    → tree.get before.world.hosts k ≡ Some old → new.incarnation ≡ old.incarnation → old.node.sends ≤ new.node.sends → HostsStay before after
+    → tree.get before.world.hosts k ≡ Some old → new.incarnation ≡ old.incarnation → old.node.sends ≤ new.node.sends
+    → HostsStay before after
 more_sends before after k old new hosts was incarnation sends = one_host before after k new hosts (λ host there.
     let same : old ≡ host = same_Some old host (sym was ∙ there) in
     let no_less : old.incarnation ≤ new.incarnation = omega (arith, incarnation) in
@@ -107,7 +112,8 @@ module _ (script : List Statement) (range : RunsAreInRange script) (start : Mome
       let was = host_with_node stepping.host so_far.node in
       let now = host_with_node stepping.host next.node in
       let (more, longer, epochs) = sends_grow so_far next within.change in
-      let counted : so_far.node.sends ≡ stepping.host.node.sends + length so_far.outputs.sends = (in_order_so_far so_far within.leads).counted in
+      let counted : so_far.node.sends ≡ stepping.host.node.sends + length
+      so_far.outputs.sends = (in_order_so_far so_far within.leads).counted in
       let counted_next : next.node.sends ≡ stepping.host.node.sends + length next.outputs.sends
       = (in_order_so_far next (changes.Then within.leads within.change)).counted in
       let sum : length next.outputs.sends ≡ length so_far.outputs.sends + length more
@@ -118,23 +124,29 @@ module _ (script : List Statement) (range : RunsAreInRange script) (start : Mome
 
   pub hosts_stay : {before after : MomentWithPast} → MomentChange script start before after → HostsStay before after
   hosts_stay (moments.StepBegins stepping is by) =
-      let same : (first_in_step stepping).node.sends ≡ stepping.host.node.sends = (received_nothing stepping.cause stepping.host.node by).0 in
+      let same : (first_in_step stepping).node.sends ≡ stepping.host.node.sends = (received_nothing stepping.cause stepping.host.node
+      by).0 in
       let rises : stepping.host.node.sends ≤ (first_in_step stepping).node.sends = omega (arith, same) in
-      more_sends start (moment_in_step script stepping start (first_in_step stepping)) stepping.n stepping.host (host_with_node stepping.host (first_in_step stepping).node) refl
-      is.there refl rises
+      more_sends start (moment_in_step script stepping start (first_in_step stepping)) stepping.n stepping.host
+      (host_with_node stepping.host (first_in_step stepping).node) refl is.there refl rises
   hosts_stay (moments.StepGoesOn stepping so_far next is by within) = goes_on_stays stepping so_far next within
   hosts_stay (moments.StepIsMade stepping is by) =
       let counted : (last_in_step stepping).node.sends ≡ stepping.host.node.sends + length (last_in_step stepping).outputs.sends
       = step_counts (input_of_cause stepping.cause) stepping.host.node in
       let rises : stepping.host.node.sends ≤ (last_in_step stepping).node.sends = omega (arith, counted) in
-      more_sends start (moment_in_step script stepping start (last_in_step stepping)) stepping.n stepping.host (host_with_node stepping.host (last_in_step stepping).node) refl
-      is.there refl rises
-  hosts_stay {before} {after} (moments.LossIsUntold event made happened h) = same_hosts before after (ap (λ (m : EventOutcome). m.world.hosts) (sym h.made_so))
-  hosts_stay {before} {after} (moments.DeliveryIsUnread event made happened h) = same_hosts before after (ap (λ (m : EventOutcome). m.world.hosts) (sym h.made_so))
+      more_sends start (moment_in_step script stepping start (last_in_step stepping)) stepping.n stepping.host
+      (host_with_node stepping.host (last_in_step stepping).node) refl is.there refl rises
+  hosts_stay {before} {after} (moments.LossIsUntold event made happened h) =
+      same_hosts before after (ap (λ (m : EventOutcome). m.world.hosts) (sym h.made_so))
+  hosts_stay {before} {after} (moments.DeliveryIsUnread event made happened h) =
+      same_hosts before after (ap (λ (m : EventOutcome). m.world.hosts) (sym h.made_so))
   hosts_stay {before} {after} (moments.NodeIsLost event made happened h) =
-      more_sends before after h.n h.host (lost_host h.host) (ap (λ (m : EventOutcome). m.world.hosts) (sym h.made_so)) h.there refl (none_less h.host.node.sends)
-  hosts_stay {before} {after} (moments.NodeLeaves event made happened h) = same_hosts before after (ap (λ (m : EventOutcome). m.world.hosts) (sym h.made_so))
-  hosts_stay {before} {after} (moments.NodeIsReweighted event made happened h) = same_hosts before after (ap (λ (m : EventOutcome). m.world.hosts) (sym h.made_so))
+      more_sends before after h.n h.host (lost_host h.host) (ap (λ (m : EventOutcome). m.world.hosts) (sym h.made_so)) h.there refl
+      (none_less h.host.node.sends)
+  hosts_stay {before} {after} (moments.NodeLeaves event made happened h) =
+      same_hosts before after (ap (λ (m : EventOutcome). m.world.hosts) (sym h.made_so))
+  hosts_stay {before} {after} (moments.NodeIsReweighted event made happened h) =
+      same_hosts before after (ap (λ (m : EventOutcome). m.world.hosts) (sym h.made_so))
   hosts_stay {before} {after} (moments.NodeJoins event made happened h) =
       one_host before after h.n (joined_host script h.n) (ap (λ (m : EventOutcome). m.world.hosts) (sym h.made_so))
       (λ host there. none_there (tree.get start.world.hosts h.n) host
@@ -156,13 +168,15 @@ module _ (script : List Statement) (range : RunsAreInRange script) (start : Mome
         sends = rises;
         renewed = λ less name packet got. no_sender start.world h.n (ap not h.no_end) name packet got;
       }))
-  hosts_stay {before} {after} (moments.PhaseEnds event made happened h) = same_hosts before after (ap (λ (m : EventOutcome). m.world.hosts) (sym h.made_so))
+  hosts_stay {before} {after} (moments.PhaseEnds event made happened h) =
+      same_hosts before after (ap (λ (m : EventOutcome). m.world.hosts) (sym h.made_so))
 
 -- ---- the lost
 
 -- no reply to a node is in the wire
 abbrev pub GetsNoReply : ℕ → Wire → Type 0
-GetsNoReply n wire = (number : ℕ) (packet : Packet) → tree.get wire (message_name n number) ≡ Some packet → is_request_in_flight (Some packet) ≡ true
+GetsNoReply n wire =
+    (number : ℕ) (packet : Packet) → tree.get wire (message_name n number) ≡ Some packet → is_request_in_flight (Some packet) ≡ true
 
 -- a node was lost
 abbrev pub WasLostBefore : Hosts → ℕ → Type 0
@@ -180,9 +194,11 @@ one_lost : (before after : MomentWithPast) (k : ℕ) (new : Host) → after.worl
     → (new.is_lost ≡ true → WasLostBefore before.world.hosts k ⊎ GetsNoReply k after.world.wire) → TheLostWereLost before after
 one_lost before after k new hosts own n now there lost = ⊎_elim
     (λ (is : n ≡ k).
-    let at : tree.get after.world.hosts k ≡ Some new = ap (λ (held : Hosts). tree.get held k) hosts ∙ get-insert_same before.world.hosts k new in
+    let at : tree.get after.world.hosts k ≡ Some new = ap (λ (held : Hosts). tree.get held k) hosts
+    ∙ get-insert_same before.world.hosts k new in
     let same : new ≡ now = same_Some new now (sym at ∙ ap (tree.get after.world.hosts) (sym is) ∙ there) in
-    subst (λ (q : ℕ). WasLostBefore before.world.hosts q ⊎ GetsNoReply q after.world.wire) (sym is) (own (ap (λ (h : Host). h.is_lost) same ∙ lost)))
+    subst (λ (q : ℕ). WasLostBefore before.world.hosts q ⊎ GetsNoReply q after.world.wire) (sym is)
+    (own (ap (λ (h : Host). h.is_lost) same ∙ lost)))
     (λ (apart : n ≢ k).
     inl (now, sym (ap (λ (held : Hosts). tree.get held n) hosts ∙ get-insert_other before.world.hosts k new n apart) ∙ there, lost))
     (cases_eq n k)
@@ -200,33 +216,44 @@ none_to n wire number packet got = by_packet (tree.get wire (message_name n numb
         → tree.get (without_replies n wire) (message_name n number) ≡ Some packet → is_request_in_flight (Some packet) ≡ true
     by_packet None is packet got = let none = forgot n wire (message_name n number) None is in absurd (cc (got, none))
     by_packet (Some (Request to bytes)) is packet got =
-        let same : Request to bytes ≡ packet = same_Some (Request to bytes) packet (sym (forgot n wire (message_name n number) (Some (Request to bytes)) is) ∙ got) in
+        let same : Request to bytes ≡ packet = same_Some (Request to bytes) packet
+        (sym (forgot n wire (message_name n number) (Some (Request to bytes)) is) ∙ got) in
         ap (λ (p : Packet). is_request_in_flight (Some p)) (sym same)
     by_packet (Some (Reply from bytes)) is packet got =
         let none = forgot n wire (message_name n number) (Some (Reply from bytes)) is
         ∙ ap (λ (b : Bool). cond (not b) (Some (Reply from bytes)) None) (eq-eqb n n refl) in
         absurd (cc (got, none))
 
-pub lost_were_lost : (script : List Statement) {start before after : MomentWithPast} → MomentChange script start before after → TheLostWereLost before after
+pub lost_were_lost : (script : List Statement) {start before after : MomentWithPast} → MomentChange script start before after
+    → TheLostWereLost before after
 lost_were_lost script {start} (moments.StepBegins stepping is by) =
-    step_lost start (moment_in_step script stepping start (first_in_step stepping)) stepping.n stepping.host (host_with_node stepping.host (first_in_step stepping).node) refl is.there refl
+    step_lost start (moment_in_step script stepping start (first_in_step stepping)) stepping.n stepping.host
+    (host_with_node stepping.host (first_in_step stepping).node) refl is.there refl
 lost_were_lost script {start} (moments.StepGoesOn stepping so_far next is by within) =
     let was = host_with_node stepping.host so_far.node in
     let now = host_with_node stepping.host next.node in
     step_lost (moment_in_step script stepping start so_far) (moment_in_step script stepping start next) stepping.n was now
     (sym (insert-insert start.world.hosts stepping.n was now)) (get-insert_same start.world.hosts stepping.n was) refl
 lost_were_lost script {start} (moments.StepIsMade stepping is by) =
-    step_lost start (moment_in_step script stepping start (last_in_step stepping)) stepping.n stepping.host (host_with_node stepping.host (last_in_step stepping).node) refl is.there refl
-lost_were_lost script {start} {before} {after} (moments.LossIsUntold event made happened h) = same_lost before after (ap (λ (m : EventOutcome). m.world.hosts) (sym h.made_so))
-lost_were_lost script {start} {before} {after} (moments.DeliveryIsUnread event made happened h) = same_lost before after (ap (λ (m : EventOutcome). m.world.hosts) (sym h.made_so))
+    step_lost start (moment_in_step script stepping start (last_in_step stepping)) stepping.n stepping.host
+    (host_with_node stepping.host (last_in_step stepping).node) refl is.there refl
+lost_were_lost script {start} {before} {after} (moments.LossIsUntold event made happened h) =
+    same_lost before after (ap (λ (m : EventOutcome). m.world.hosts) (sym h.made_so))
+lost_were_lost script {start} {before} {after} (moments.DeliveryIsUnread event made happened h) =
+    same_lost before after (ap (λ (m : EventOutcome). m.world.hosts) (sym h.made_so))
 lost_were_lost script {start} {before} {after} (moments.NodeIsLost event made happened h) =
     one_lost before after h.n (lost_host h.host) (ap (λ (m : EventOutcome). m.world.hosts) (sym h.made_so))
     (λ lost. inr (subst (GetsNoReply h.n) (ap (λ (m : EventOutcome). m.world.wire) h.made_so) (none_to h.n start.world.wire)))
-lost_were_lost script {start} {before} {after} (moments.NodeLeaves event made happened h) = same_lost before after (ap (λ (m : EventOutcome). m.world.hosts) (sym h.made_so))
-lost_were_lost script {start} {before} {after} (moments.NodeIsReweighted event made happened h) = same_lost before after (ap (λ (m : EventOutcome). m.world.hosts) (sym h.made_so))
+lost_were_lost script {start} {before} {after} (moments.NodeLeaves event made happened h) =
+    same_lost before after (ap (λ (m : EventOutcome). m.world.hosts) (sym h.made_so))
+lost_were_lost script {start} {before} {after} (moments.NodeIsReweighted event made happened h) =
+    same_lost before after (ap (λ (m : EventOutcome). m.world.hosts) (sym h.made_so))
 lost_were_lost script {start} {before} {after} (moments.NodeJoins event made happened h) =
-    one_lost before after h.n (joined_host script h.n) (ap (λ (m : EventOutcome). m.world.hosts) (sym h.made_so)) (λ lost. absurd (cc (lost)))
-lost_were_lost script {start} {before} {after} (moments.NodeComesBack event made happened h) =
-    one_lost before after h.n (host_after_return (log_after_return script h.n start.world) h.host) (ap (λ (m : EventOutcome). m.world.hosts) (sym h.made_so))
+    one_lost before after h.n (joined_host script h.n) (ap (λ (m : EventOutcome). m.world.hosts) (sym h.made_so))
     (λ lost. absurd (cc (lost)))
-lost_were_lost script {start} {before} {after} (moments.PhaseEnds event made happened h) = same_lost before after (ap (λ (m : EventOutcome). m.world.hosts) (sym h.made_so))
+lost_were_lost script {start} {before} {after} (moments.NodeComesBack event made happened h) =
+    one_lost before after h.n (host_after_return (log_after_return script h.n start.world) h.host)
+    (ap (λ (m : EventOutcome). m.world.hosts) (sym h.made_so))
+    (λ lost. absurd (cc (lost)))
+lost_were_lost script {start} {before} {after} (moments.PhaseEnds event made happened h) =
+    same_lost before after (ap (λ (m : EventOutcome). m.world.hosts) (sym h.made_so))

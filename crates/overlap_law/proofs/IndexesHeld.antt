@@ -1,6 +1,7 @@
 -- Where a recovery can find an object at a level, the rows there are of as many different indexes as a read needs: each target of the level
 -- that is a member of the recovery's epoch has the row of its own index.
-use Rattle.std.proofs.Common.{◌≡◌, ◌≢◌, ⊎_elim, arith, ℕ, zero, suc, ◌+◌, ◌≤◌, ◌<◌, ◌==◌, ◌||◌, nat_lt, not, Bool, true, false, cond, List, [], ◌∷◌, ◌++◌, fold, length, filter, filter_map, get_or, Option, Some, None, refl, sym, ap, ◌∙◌, slice_get}
+use Rattle.std.proofs.Common.{◌≡◌, ◌≢◌, ⊎_elim, arith, ℕ, zero, suc, ◌+◌, ◌≤◌, ◌<◌, ◌==◌, ◌||◌, nat_lt, not, Bool, true, false, cond, List}
+use Rattle.std.proofs.Common.{[], ◌∷◌, ◌++◌, fold, length, filter, filter_map, get_or, Option, Some, None, refl, sym, ap, ◌∙◌, slice_get}
 use Rattle.std.specs.List.{find, list_any, position, prefix_len, cons_option}
 use Rattle.std.specs.Option.{option_map}
 use Rattle.std.specs.FinMap as tree
@@ -109,7 +110,8 @@ module _ (indexes : NodeId → Option ℕ) (member : NodeId → Bool) where
           let same : length (fold with_number numbers (cons_option (indexes node) (filter_map indexes (filter member nodes))))
           ≡ length (held (numbers ++ first ∷ []) nodes)
           = ap (λ (o : Option ℕ). length (fold with_number numbers (cons_option o (filter_map indexes (filter member nodes))))) own
-          ∙ ap (λ (ks : List ℕ). length (fold with_number ks (filter_map indexes (filter member nodes)))) (new_number numbers first below) in
+          ∙ ap (λ (ks : List ℕ). length (fold with_number ks (filter_map indexes (filter member nodes))))
+          (new_number numbers first below) in
           omega (arith, sum, rest, same)
       by_test false is counts = counts numbers (λ k among. (let less = below k among in omega (arith, less)))
 
@@ -187,7 +189,8 @@ unfolding targets_by
 targets_apart_in log epoch oid policy is begun i k node other at_i at_k less same =
     let nodes : List NodeId = targets_of (members_in log epoch) (hash_of_object oid) (wanted_of policy (kind_of oid)) in
     let within = slice_get_within (targets_of (members_in log epoch) (hash_of_object oid) (wanted_of policy (kind_of oid))) k other at_k in
-    let different = targets_different (members_in log epoch) (hash_of_object oid) (wanted_of policy (kind_of oid)) (weighted_in log epoch is begun)
+    let different = targets_different (members_in log epoch) (hash_of_object oid) (wanted_of policy (kind_of oid))
+    (weighted_in log epoch is begun)
     i k node less within in
     let first : get_or nodes i node ≡ node = get_or_from_slice_get nodes i node node at_i in
     let second : get_or nodes k node ≡ other = get_or_from_slice_get nodes k other node at_k in
@@ -209,11 +212,13 @@ any_found p (first ∷ rows) any = by_test (p first) refl any (λ later. any_fou
   where
     by_test : (b : Bool) → p first ≡ b → (b || list_any p rows) ≡ true
         → (list_any p rows ≡ true → (i : ℕ) × (row : SeenRow) × (slice_get rows i ≡ Some row) × (find p rows ≡ Some row) × (p row ≡ true))
-        → (i : ℕ) × (row : SeenRow) × (slice_get (first ∷ rows) i ≡ Some row) × (cond b (Some first) (find p rows) ≡ Some row) × (p row ≡ true)
+        → (i : ℕ) × (row : SeenRow) × (slice_get (first ∷ rows) i ≡ Some row) × (cond b (Some first) (find p rows) ≡ Some row)
+        × (p row ≡ true)
     by_test true is any rest = (zero, first, refl, refl, is)
     by_test false is any rest = let (i, row, at, found, passes) = rest any in (suc i, row, at, found, passes)
 
-module _ (log : List Entry) (effects : List Effect) (hosts : Hosts) (placed : RowsAreAtTargets (targets_by log) effects hosts) (oid level : ℕ)
+module _ (log : List Entry) (effects : List Effect) (hosts : Hosts) (placed : RowsAreAtTargets (targets_by log) effects hosts)
+    (oid level : ℕ)
     (policy : Policy) (policy_so : policy_in effects oid ≡ Some policy) where
   -- it is of the target's index
   pub index_of_target : (target : NodeId) → holds_level (tree.get hosts target.0) oid level ≡ true
@@ -227,7 +232,8 @@ module _ (log : List Entry) (effects : List Effect) (hosts : Hosts) (placed : Ro
           let (i, row, at, found, covers) = any_found (row_covers host.node.peer.epoch level) (rows_of host.node.peer.rows oid) holds in
           ap (option_map (λ (r : SeenRow). r.index)) found ∙ sym (placed.each target.0 host is oid i row at policy level policy_so covers)
 
-  module _ (is_log : IsLog log) (begun : level ≤ epoch_of log) (epoch : ℕ) (found : CanBeFoundAt (targets_by log) log hosts oid level epoch policy) where
+  module _ (is_log : IsLog log) (begun : level ≤ epoch_of log) (epoch : ℕ)
+      (found : CanBeFoundAt (targets_by log) log hosts oid level epoch policy) where
     abbrev targets : List NodeId
     targets = targets_by log level oid policy
 

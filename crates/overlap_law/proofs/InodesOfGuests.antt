@@ -7,10 +7,10 @@ use Rattle.proof_tools.proofs.FiniteMaps.{get-insert_same, get-insert_other, get
 use Rattle.object_id.specs.Oid.{inode_number}
 use Rattle.cluster_script.specs.declared.statement.Statement.{Statement}
 use Rattle.sheep_node.specs.StepState.{StepState}
-use Rattle.sheep_node.specs.declared.event.Event.{Event}
 use Rattle.sheep_node.proofs.OneWorkParts.{Requests, Sessions}
 use Rattle.sheep_world.specs.World.{Host}
 use Rattle.sheep_world.specs.NodeCauses.{host_with_node}
+use Rattle.sheep_world.specs.RunsWithAsks.{Move}
 use Rattle.overlap_law.specs.Each.{EachUp}
 use Rattle.overlap_law.specs.Fates.{IsCreated}
 use Rattle.overlap_law.specs.MomentChanges as moments
@@ -35,7 +35,7 @@ module _ (Has : Requests → Sessions → ℕ → ℕ → Type 0) where
   -- in the middle of a step there are only such as were there, and such as were created
   abbrev pub HaveCreatedNext : List Statement → Type 0
   HaveCreatedNext script =
-      (events : List Event) (start : MomentWithPast) → run_with_past script events ≡ Some start
+      (events : List Move) (start : MomentWithPast) → run_with_past script events ≡ Some start
       → (on : SteppingNode) (so_far next : StepState) → IsStepping script start.world on → StepsByChanges on.cause
       → IsWithinStep on so_far next
       → MomentTrail script start (moment_in_step script on start so_far) → (number vid : ℕ)
@@ -44,7 +44,7 @@ module _ (Has : Requests → Sessions → ℕ → ℕ → Type 0) where
 
   module _ (script : List Statement) (range : RunsAreInRange script) (none : (number vid : ℕ) → Has tree.empty tree.empty number vid → ⊥)
       (opens : TheirInodesAreCreated (first_moment script)) (comes : HaveCreatedNext script) where
-    module _ (events : List Event) (start before after : MomentWithPast) (ran : run_with_past script events ≡ Some start)
+    module _ (events : List Move) (start before after : MomentWithPast) (ran : run_with_past script events ≡ Some start)
         (trail : MomentTrail script start before) (change : MomentChange script start before after)
         (all : TheirInodesAreCreated before) where
       -- what was created is, for a host that was there
@@ -73,7 +73,7 @@ module _ (Has : Requests → Sessions → ℕ → ℕ → Type 0) where
           (subst (λ (r : Requests). Has r host.node.sessions number vid) requests has)))
 
     -- a node goes on in its step
-    module _ (events : List Event) (start : MomentWithPast) (ran : run_with_past script events ≡ Some start) (on : SteppingNode)
+    module _ (events : List Move) (start : MomentWithPast) (ran : run_with_past script events ≡ Some start) (on : SteppingNode)
         (so_far next : StepState) (steps : IsStepping script start.world on) (by : StepsByChanges on.cause)
         (within : IsWithinStep on so_far next) (trail : MomentTrail script start (moment_in_step script on start so_far))
         (all : TheirInodesAreCreated (moment_in_step script on start so_far)) where
@@ -112,7 +112,7 @@ module _ (Has : Requests → Sessions → ℕ → ℕ → Type 0) where
           number vid has)
           (get-insert_cases start.world.hosts on.n (host_with_node on.host next.node) n host at)
 
-    change_keeps : (events : List Event) (start before after : MomentWithPast) → run_with_past script events ≡ Some start
+    change_keeps : (events : List Move) (start before after : MomentWithPast) → run_with_past script events ≡ Some start
         → MomentTrail script start before → MomentChange script start before after → TheirInodesAreCreated before
         → TheirInodesAreCreated after
     change_keeps events start before after ran trail change all = ⊎_elim
@@ -125,6 +125,6 @@ module _ (Has : Requests → Sessions → ℕ → ℕ → Type 0) where
         still events start before after ran trail change all n host at up (b.0 n host at) number vid has)
         (between script start change)
 
-    pub inodes-on_the_way : (events : List Event) (start moment : MomentWithPast) → run_with_past script events ≡ Some start
+    pub inodes-on_the_way : (events : List Move) (start moment : MomentWithPast) → run_with_past script events ≡ Some start
         → MomentTrail script start moment → TheirInodesAreCreated moment
     inodes-on_the_way = kept_on_the_way script TheirInodesAreCreated opens change_keeps

@@ -14,13 +14,15 @@ use Rattle.sheep_node.specs.Step.{node_step}
 use Rattle.sheep_node.proofs.StepReplies.{back-silent}
 use Rattle.sheep_world.specs.World.{Host, World}
 use Rattle.sheep_world.specs.Began.{Began}
-use Rattle.sheep_world.specs.EventKinds.{log_after_return, EventKind, NodeStep, UntoldLoss, UnreadDelivery, NodeLoss, NodeLeave, NodeReweight, NodeJoin, NodeReturn, PhaseEnd}
+use Rattle.sheep_world.specs.EventKinds.{log_after_return, EventKind, NodeStep, UntoldLoss, UnreadDelivery, NodeLoss, NodeLeave}
+use Rattle.sheep_world.specs.EventKinds.{NodeReweight, NodeJoin, NodeReturn, PhaseEnd}
 use Rattle.sheep_world.specs.HistoryAdditions.{is_lost_write, writers_lost}
 use Rattle.sheep_world.specs.HostChanges.{joined_host, host_after_return}
 use Rattle.sheep_world.specs.MembershipChanges.{lost_host}
 use Rattle.sheep_world.specs.Opening.{initial_world}
 use Rattle.sheep_world.specs.Step.{EventOutcome}
-use Rattle.sheep_world.proofs.EventInversion.{happens}
+use Rattle.sheep_world.proofs.ClientReads.{goes_by_kind}
+use Rattle.sheep_world.specs.RunsWithAsks.{Move}
 use Rattle.overlap_law.specs.Headline.{ledger_of}
 use Rattle.overlap_law.specs.Holders.{is_object_among}
 use Rattle.overlap_law.specs.MomentChanges.{RunsAreInRange}
@@ -136,10 +138,10 @@ module _ (script : List Statement) (range : RunsAreInRange script) (req : ℕ) w
     subst (KnownIn made.world.hosts made.world.guests (before.past.refused ++ refused_in script made.world.outputs.replies))
         (sym (fold-append (may_have_after req) false before.past.history made.grown))
         (kind_known event before.world made before.past.refused (may_have_items req before.past.history) began
-        (happens script event before.world made is) both.0 both.1),
+        (goes_by_kind script event before.world made is) both.0 both.1),
   )
 
-  pub refused_none-in_run : (events : List Event) (moment : MomentWithPast) → run_with_past script events ≡ Some moment
+  pub refused_none-in_run : (events : List Move) (moment : MomentWithPast) → run_with_past script events ≡ Some moment
       → is_object_among req moment.past.refused ≡ true → HasNoItems req (ledger_of moment.past.history)
   refused_none-in_run events moment is refused =
       none_by_history req moment.past.history

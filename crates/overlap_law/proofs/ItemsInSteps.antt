@@ -1,12 +1,14 @@
 -- What a step of a node leaves of a request that may have items: it wasn't refused, was begun, and where it has no reply it began on a
 -- disk; and it is a write, or a check that has come to one at each node that has it.
-use Rattle.std.proofs.Common.{◌≡◌, ◌≢◌, ◌⊎◌, inl, inr, ⊎_elim, arith, ℕ, ◌<◌, Bool, true, false, List, [], ◌++◌, fold, Contains, Option, Some, None, is_some, option_map, refl, sym, ap, subst, ◌∙◌}
+use Rattle.std.proofs.Common.{◌≡◌, ◌≢◌, ◌⊎◌, inl, inr, ⊎_elim, arith, ℕ, ◌<◌, Bool, true, false, List, [], ◌++◌, fold, Contains, Option}
+use Rattle.std.proofs.Common.{Some, None, is_some, option_map, refl, sym, ap, subst, ◌∙◌}
 use Rattle.std.specs.List.{list_any}
 use Rattle.std.specs.Option.{option_map_or, option_and_then}
 use Rattle.std.specs.FinMap as tree
-use Rattle.std.proofs.lemmas.Bool.{eq-eqb, or_right}
+use Rattle.std.proofs.lemmas.Bool.{cases_eq, eq-eqb, or_right}
 use Rattle.std.proofs.lemmas.Option.{same_Some}
 use Rattle.disk_history.specs.declared.event.HistEvent.{HistEvent}
+use Rattle.cluster_script.specs.Statements.{is_check}
 use Rattle.cluster_script.specs.declared.statement.Statement.{Statement}
 use Rattle.cluster_script.specs.NumberedRequests.{request_at}
 use Rattle.cluster_script.specs.Sessions.{ScriptSession}
@@ -29,8 +31,11 @@ use Rattle.sheep_world.specs.Began.{Began}
 use Rattle.sheep_world.specs.BegunRequests.{WasBegun}
 use Rattle.sheep_world.specs.Effects.{open_disk_at, disk_open, request_started}
 use Rattle.sheep_world.specs.Granted.{entry_adds}
-use Rattle.sheep_world.specs.HistoryAdditions.{gateway_of, has_begun_check_write, is_write_of, request_grown, check_write_grown, check_write_by, replies_grown}
-use Rattle.sheep_world.specs.NodeCauses.{NodeCause, GuestAsks, RequestComes, ReplyComes, LossIsTold, EntryIsRead, EntryIsPut, RecoveryTicks, WorkIsRetried, input_of_cause, IsCause, progress_at_cause, world_after_cause, history_of_cause}
+use Rattle.sheep_world.specs.HistoryAdditions.{is_write, gateway_of, has_begun_check_write, is_write_of, request_grown, check_write_grown}
+use Rattle.sheep_world.specs.HistoryAdditions.{check_write_by, replies_grown}
+use Rattle.sheep_world.specs.NodeCauses.{NodeCause, GuestAsks, RequestComes, ReplyComes, LossIsTold, EntryIsRead, EntryIsPut, RecoveryTicks}
+use Rattle.sheep_world.specs.NodeCauses.{WorkIsRetried, ClientAsks, input_of_cause, IsCause, progress_at_cause, world_after_cause}
+use Rattle.sheep_world.specs.NodeCauses.{history_of_cause}
 use Rattle.sheep_world.specs.NodeSteps.{progress_after_reply}
 use Rattle.sheep_world.proofs.SessionNumbers.{once}
 use Rattle.overlap_law.specs.Holders.{is_object_among}
@@ -39,13 +44,17 @@ use Rattle.overlap_law.specs.PastWords.{refused_in}
 use Rattle.overlap_law.proofs.ComingWrites.{IsComing, coming}
 use Rattle.overlap_law.proofs.CoursesOfAsks.{IsPlacedIn}
 use Rattle.overlap_law.proofs.CoursesOfScript.{asked_by, BeganOn, requests_placed}
-use Rattle.overlap_law.proofs.ItemsAtBegin.{BeginsWrite, ComesToWrite, check_begins, entry_none, on_open_disk, request_begins, served_comes_to_none}
+use Rattle.overlap_law.proofs.ItemsAtBegin.{BeginsWrite, ComesToWrite, check_begins, entry_none, on_open_disk, request_begins}
+use Rattle.overlap_law.proofs.ItemsAtBegin.{served_comes_to_none}
 use Rattle.overlap_law.proofs.ItemsOfReplies.{is_write_at, is_check_at, check_does, IsKnown}
 use Rattle.overlap_law.proofs.ItemsOfRequests.{begins_write_of, may_have_after, none_behind, might_before, might_or_begins}
-use Rattle.overlap_law.proofs.ItemsOfWriters.{Writes, silent_known, replies_open, IsWritingIn, write_stays, stays_writing, IsLeft, told_known, plain_known}
+use Rattle.overlap_law.proofs.ItemsOfWriters.{Writes, silent_known, replies_open, IsWritingIn, write_stays, stays_writing, IsLeft}
+use Rattle.overlap_law.proofs.ItemsOfWriters.{told_known, plain_known}
 use Rattle.overlap_law.proofs.RefusedInRuns.{AreAnswered, begun_asking, found_brings, found_grows, new_or_was, node_begun, still_begun}
+use Rattle.overlap_law.proofs.SessionsOfRequests.{of_test}
 use Rattle.overlap_law.proofs.UnansweredRequests.{unanswered_in, requests_tied}
 use Rattle.overlap_law.proofs.WrittenInWorlds.{HaveWritten, reply_written}
+use Rattle.overlap_law.proofs.AsksInCauses.{no_such}
 
 module _ (script : List Statement) (range : RunsAreInRange script) (req : ℕ) where
   module _ (world : World) (began : Began script world) (n : ℕ) (host : Host) (there : tree.get world.hosts n ≡ Some host)
@@ -111,7 +120,8 @@ module _ (script : List Statement) (range : RunsAreInRange script) (req : ℕ) w
           (λ (begins : BeginsWrite req other (open_disk_at session world) (request_at script other)). (
             session.number,
             subst (λ (k : ℕ). WasBegun script found.guests session.number k) begins.0
-                (found_brings script world began n host there (GuestAsks session other ask) caused other session.number ask refl),
+                (found_brings script world began n host there (GuestAsks session other ask) caused other session.number ask refl
+                (ap (λ (o : Option Statement). is_some o) caused.stands)),
           ))
           (was_or_starts now)
 
@@ -212,14 +222,14 @@ module _ (script : List Statement) (range : RunsAreInRange script) (req : ℕ) w
         coming_unrefused : is_object_among req refused ≡ false
         coming_unrefused =
             let tied = requests_tied script range world began n host there req
-            (record { session = now.has.session; course = Checking now.has.check }) course_there in
+            (record { session = now.has.session; course = Checking now.has.check }) course_there (of_test script is_check req now.checks) in
             ap (λ (k : ℕ). is_object_among k refused) (sym tied.unanswered.number)
             ∙ are.answered now.has.session tied.unanswered.started tied.unanswered.there
 
         coming_begun : WasBegun script world.guests now.has.session req
         coming_begun =
             node_begun script world began n host there req (record { session = now.has.session; course = Checking now.has.check })
-            course_there
+            course_there (of_test script is_check req now.checks)
 
         coming_on_disk : (session : ℕ) (started : StartedRequest) → Contains (unanswered_in session world.guests) started
             → started.req ≡ req → is_some started.disk ≡ true
@@ -246,7 +256,7 @@ module _ (script : List Statement) (range : RunsAreInRange script) (req : ℕ) w
           left = inr (
             now.checks,
             subst (λ (k : ℕ). HaveWritten k (after cause).hosts) now.own
-                (reply_written script world began n host there rsp now.comes (sym write_is ∙ now.is)),
+                (reply_written script range.is_script world began n host there rsp now.comes (sym write_is ∙ now.is)),
           );
         }
 
@@ -297,6 +307,18 @@ module _ (script : List Statement) (range : RunsAreInRange script) (req : ℕ) w
         × Writes script range req (after cause).hosts (fold (may_have_after req) may (replies_grown script world None (after cause)))
     plain cause caused same old = plain_known script range req world began n host there refused may cause caused same old known writes
 
+    -- a client's read writes nothing
+    client_known : (number : ℕ) (asks : Ask) → IsCause script world n host (ClientAsks number asks) → number ≡ req
+        → IsLeft script range req world began n host there refused may (ClientAsks number asks)
+        (history_of_cause script (ClientAsks number asks) world (after (ClientAsks number asks)))
+    client_known number asks caused own =
+        told_known script range req world began n host there refused may (ClientAsks number asks) world None []
+        (replies_open script range req world began n host there (ClientAsks number asks) caused) known
+        (λ was. absurd (⊎_elim
+        (λ (is : is_write_at script req ≡ true). no_such caused is_write req own is)
+        (λ (is : (is_check_at script req ≡ true) × HaveWritten req world.hosts). no_such caused is_check req own is.0)
+        (writes was)))
+
     pub step_known : (cause : NodeCause) → IsCause script world n host cause
         → IsLeft script range req world began n host there refused may cause (history_of_cause script cause world (after cause))
     step_known (GuestAsks session other ask) caused =
@@ -328,3 +350,7 @@ module _ (script : List Statement) (range : RunsAreInRange script) (req : ℕ) w
     )
     step_known RecoveryTicks caused = plain RecoveryTicks caused refl (λ session ask is. absurd (cc (is)))
     step_known WorkIsRetried caused = plain WorkIsRetried caused refl (λ session ask is. absurd (cc (is)))
+    step_known (ClientAsks number asks) caused = ⊎_elim
+        (λ (own : number ≡ req). client_known number asks caused own)
+        (λ (apart : number ≢ req). plain (ClientAsks number asks) caused refl (λ session ask is. apart (cc (is))))
+        (cases_eq number req)

@@ -24,13 +24,14 @@ use Rattle.sheep_world.specs.Asking.{session_asking}
 use Rattle.sheep_world.specs.HistoryAdditions.{is_write, is_started_request, write_ended, added_by, disk_of, reply_grown}
 use Rattle.sheep_world.specs.HistoryAdditions.{has_begun_check_write, block_in, each_block}
 use Rattle.sheep_world.specs.NodeSteps.{progress_after_reply}
-use Rattle.sheep_world.specs.BegunRequests.{WasBegun}
+use Rattle.sheep_world.specs.BegunRequests.{WasBegun, IsOfScript}
 use Rattle.overlap_law.specs.Holders.{is_object_among}
 use Rattle.overlap_law.specs.PastWords.{is_refusal, refuses_request, refused_in}
 use Rattle.overlap_law.proofs.ClosedAdditions.{none_of, reply_add, end_so}
 use Rattle.overlap_law.proofs.ItemsOfRequests.{begins_write_of, may_have_after, BeginNone, might_before, none_behind, none_refused}
 use Rattle.overlap_law.proofs.ItemsOfRequests.{flat_none, map_none}
 use Rattle.overlap_law.proofs.RefusedInRuns.{still_begun, replies_grow, left_by}
+use Rattle.overlap_law.proofs.SessionsOfRequests.{of_test}
 use Rattle.overlap_law.proofs.UnansweredRequests.{Guests, unanswered_in, IsUnanswered}
 
 -- ---- what replies add
@@ -219,7 +220,8 @@ module _ (script : List Statement) where
 
   -- what the replies of a step add ends what they refuse
   module _ (req : ℕ) (found : World) (refused : List ℕ) (may : Bool) (known : IsKnown req found.guests refused may)
-      (replies : List (ℕ × GuestRsp)) (waits : (reply : ℕ × GuestRsp) → Contains replies reply → IsOpenRequest found.guests reply.0)
+      (replies : List (ℕ × GuestRsp))
+      (waits : (reply : ℕ × GuestRsp) → Contains replies reply → IsOfScript script reply.0 → IsOpenRequest found.guests reply.0)
       (write : Option CheckWrite)
       (writes : (reply : ℕ × GuestRsp) → Contains replies reply → reply.0 ≡ req → may ≡ true
       → does_write_at (has_begun_check_write script reply.0 found write) reply.0 ≡ true) where
@@ -246,4 +248,7 @@ module _ (script : List Statement) where
         (replies_none req found write replies)
         (λ reply among same refuses was.
         Contains-flat_map (reply_grown script found write) replies reply (WriteRefused req) among
-        (reply_ends reply (waits reply among) same refuses was (writes reply among same was)))
+        (reply_ends reply
+        (waits reply among
+        (of_test script (does_write (has_begun_check_write script reply.0 found write)) reply.0 (writes reply among same was)))
+        same refuses was (writes reply among same was)))

@@ -1,5 +1,6 @@
 -- Which requests may have items in a ledger: those that began a write, and weren't refused since.
-use Rattle.std.proofs.Common.{◌≡◌, ◌⊎◌, inl, inr, ⊎_elim, ℕ, ◌==◌, Bool, true, false, not, ◌||◌, cond, List, [], ◌∷◌, ◌++◌, map, filter, fold, Contains, Option, Some, None, refl, sym, ap, subst, ◌∙◌}
+use Rattle.std.proofs.Common.{◌≡◌, ◌⊎◌, inl, inr, ⊎_elim, ℕ, ◌==◌, Bool, true, false, not, ◌||◌, cond, List, [], ◌∷◌, ◌++◌, map, filter}
+use Rattle.std.proofs.Common.{fold, Contains, Option, Some, None, refl, sym, ap, subst, ◌∙◌}
 use Rattle.std.specs.Prelude.{flat_map}
 use Rattle.std.specs.List.{list_any}
 use Rattle.std.specs.Option.{option_map}
@@ -7,8 +8,10 @@ use Rattle.std.proofs.lemmas.Bool.{eqb-true, eq-eqb, or_parts}
 use Rattle.std.proofs.lemmas.List.Folds.{list_any-append}
 use Rattle.proof_tools.proofs.Lists.{Contains-nil, Contains-cons_cases}
 use Rattle.disk_history.specs.declared.event.HistEvent.{HistEvent}
-use Rattle.disk_history.specs.declared.event.HistEvent.TheVariants.{Create, Copy, Delete, WriteStart, WriteDone, WriteRefused, WriterLost, Read}
-use Rattle.disk_history.specs.Ledger.{Mark, Item, Disk, Ledger, Open, Acknowledged, Lost, zeros_item, is_item_of, item_with_mark, empty_ledger, ledger_after, changed_at, with_item, has_block}
+use Rattle.disk_history.specs.declared.event.HistEvent.TheVariants.{Create, Copy, Delete, WriteStart, WriteDone, WriteRefused, WriterLost}
+use Rattle.disk_history.specs.declared.event.HistEvent.TheVariants.{Read}
+use Rattle.disk_history.specs.Ledger.{Mark, Item, Disk, Ledger, Open, Acknowledged, Lost, zeros_item, is_item_of, item_with_mark}
+use Rattle.disk_history.specs.Ledger.{empty_ledger, ledger_after, changed_at, with_item, has_block}
 use Rattle.disk_history.specs.Changes.{items_in}
 
 -- ---- a request without items

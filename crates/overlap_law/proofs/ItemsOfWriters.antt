@@ -1,6 +1,7 @@
 -- A request that may have items is a write, or a check that has come to one at each node that has it. Where a step begins no write of it,
 -- it leaves it so, and what the step refuses ends its items.
-use Rattle.std.proofs.Common.{◌≡◌, ◌≢◌, ◌⊎◌, inl, inr, ℕ, Bool, true, false, ◌||◌, List, [], ◌++◌, fold, Contains, Option, Some, None, option_map, sym, ap, subst, ◌∙◌}
+use Rattle.std.proofs.Common.{◌≡◌, ◌≢◌, ◌⊎◌, inl, inr, ℕ, Bool, true, false, ◌||◌, List, [], ◌++◌, fold, Contains, Option, Some, None}
+use Rattle.std.proofs.Common.{option_map, sym, ap, subst, ◌∙◌}
 use Rattle.std.specs.Option.{option_map_or, option_and_then}
 use Rattle.std.specs.FinMap as tree
 use Rattle.std.proofs.lemmas.List.Sums.{fold-append}
@@ -8,6 +9,7 @@ use Rattle.proof_tools.proofs.Lists.{Contains-nil}
 use Rattle.disk_history.specs.declared.event.HistEvent.{HistEvent}
 use Rattle.cluster_script.specs.declared.statement.Statement.{Statement}
 use Rattle.cluster_script.specs.Sessions.{ScriptSession, session_numbered}
+use Rattle.cluster_script.specs.Statements.{is_check}
 use Rattle.peer_proto.specs.declared.guest.GuestRsp.{GuestRsp}
 use Rattle.sheep_node.specs.declared.ask.Ask.{Ask}
 use Rattle.sheep_node.specs.declared.check_write.CheckWrite.{CheckWrite}
@@ -21,16 +23,18 @@ use Rattle.sheep_node.specs.Step.{node_step}
 use Rattle.sheep_node.proofs.StepChain.{kept_by_chain, step_chain}
 use Rattle.sheep_world.specs.World.{Host, World, node_at}
 use Rattle.sheep_world.specs.Began.{Began}
+use Rattle.sheep_world.specs.BegunRequests.{IsOfScript}
 use Rattle.sheep_world.specs.HistoryAdditions.{gateway_of, has_begun_check_write, is_write_of, replies_grown}
 use Rattle.sheep_world.specs.NodeCauses.{NodeCause, input_of_cause, IsCause, progress_at_cause, world_after_cause}
 use Rattle.sheep_world.specs.NodeSteps.{progress_after_reply}
 use Rattle.overlap_law.specs.MomentChanges.{RunsAreInRange}
 use Rattle.overlap_law.specs.PastWords.{refused_in}
 use Rattle.overlap_law.specs.Words.{Hosts}
-use Rattle.overlap_law.proofs.ItemsOfReplies.{is_write_at, is_check_at, does_write_at, write_does, check_does, replies_none, IsKnown, IsOpenRequest, replied_known, ends_known}
+use Rattle.overlap_law.proofs.ItemsOfReplies.{is_write_at, is_check_at, does_write_at, write_does, check_does, replies_none, IsKnown}
+use Rattle.overlap_law.proofs.ItemsOfReplies.{IsOpenRequest, replied_known, ends_known}
 use Rattle.overlap_law.proofs.ItemsOfRequests.{may_have_after, BeginNone, might_before}
 use Rattle.overlap_law.proofs.RequestsInSteps.{received_replies, KnownIn, received_none, change_known}
-use Rattle.overlap_law.proofs.SessionsOfRequests.{IsAskedIn, brought, are_asked}
+use Rattle.overlap_law.proofs.SessionsOfRequests.{IsAskedIn, brought, are_asked_by_line, by_line, of_test}
 use Rattle.overlap_law.proofs.UnansweredRequests.{Guests, IsUnanswered, found_unanswered, brings_tied, requests_tied}
 use Rattle.overlap_law.proofs.WrittenInWorlds.{HaveWritten, stepped_written}
 
@@ -65,13 +69,13 @@ module _ (script : List Statement) (range : RunsAreInRange script) (req : ℕ) w
 
     -- ---- to whom a step replies
 
-    -- one who had no reply, whom the node had, or who is the guest's that begins
+    -- one who had no reply, whom the node had, or who is the guest's that begins; or a client's, of which the script has none
     abbrev pub IsHere : NodeCause → ℕ → Type 0
     IsHere cause q = ((request : Request) × (tree.get host.node.requests q ≡ Some request))
         ⊎ ((session : ℕ) × (ask : Ask) × (input_of_cause cause ≡ inputs.Guest q session ask))
 
     abbrev pub IsOpenAt : NodeCause → ℕ → ℕ → Bool → Type 0
-    IsOpenAt cause q session disk = IsUnanswered (progress_at_cause cause world) q session
+    IsOpenAt cause q session disk = IsOfScript script q → IsUnanswered (progress_at_cause cause world) q session
         × IsAskedIn script n host.incarnation q session × IsHere cause q
 
     -- so it is of each whom the node has so far, or replied to
@@ -80,21 +84,21 @@ module _ (script : List Statement) (range : RunsAreInRange script) (req : ℕ) w
         → KnownIn (IsOpenAt cause) so_far
     open_so_far cause caused leads =
         kept_by_chain (KnownIn (IsOpenAt cause)) (change_known (IsOpenAt cause) (input_of_cause cause) host.node
-        (λ q session ask from. (
-          (brings_tied script world n host cause caused q session ask from).unanswered,
-          brought script world n host cause caused q session ask from,
+        (λ q session ask from of_script. (
+          (brings_tied script world n host cause caused q session ask from of_script).unanswered,
+          by_line script n host.incarnation q session (brought script world n host cause caused q session ask from) of_script,
           inr (session, ask, from),
         )))
         leads
         (received_none (IsOpenAt cause) (input_of_cause cause) host.node (received_replies (input_of_cause cause) host.node)
-        (λ q request got.
-        let was = (requests_tied script range world began n host there q request got).unanswered in (
+        (λ q request got of_script.
+        let was = (requests_tied script range world began n host there q request got of_script).unanswered in (
           record {
             started = was.started;
             there = found_unanswered script world n host cause request.session was.started was.there;
             number = was.number;
           },
-          are_asked script world began n host there q request got,
+          are_asked_by_line script world began n host there q request got of_script,
           inl (request, got),
         )))
 
@@ -103,13 +107,15 @@ module _ (script : List Statement) (range : RunsAreInRange script) (req : ℕ) w
     replied_open cause caused = (open_so_far cause caused (step_chain (input_of_cause cause) host.node)).replied
 
     pub replies_open : (cause : NodeCause) → IsCause script world n host cause → (reply : ℕ × GuestRsp) → Contains (replies cause) reply
-        → IsOpenRequest script (progress_at_cause cause world) reply.0
-    replies_open cause caused reply among =
-        let (session, disk, (unanswered, asked, here)) = replied_open cause caused reply among in
+        → IsOfScript script reply.0 → IsOpenRequest script (progress_at_cause cause world) reply.0
+    replies_open cause caused reply among of_script =
+        let (session, disk, held) = replied_open cause caused reply among in
+        let (unanswered, asked, here) = held of_script in
         record { session = session; unanswered = unanswered; asking = asked.asking }
 
     -- its gateway is this node, in a world that has the same host for it
-    pub gateway_here : (found : World) → tree.get found.hosts n ≡ Some host → (q session : ℕ) → IsAskedIn script n host.incarnation q session
+    pub gateway_here : (found : World) → tree.get found.hosts n ≡ Some host → (q session : ℕ)
+        → IsAskedIn script n host.incarnation q session
         → gateway_of script q found ≡ Some host.node
     gateway_here found has q session asked =
         ap (λ (o : Option ℕ). option_and_then (λ (s : ScriptSession). node_at s.node found)
@@ -137,10 +143,11 @@ module _ (script : List Statement) (range : RunsAreInRange script) (req : ℕ) w
     module _ (cause : NodeCause) (caused : IsCause script world n host cause)
         (old : (session : ℕ) (ask : Ask) → input_of_cause cause ≢ inputs.Guest req session ask)
         (found : World) (has : tree.get found.hosts n ≡ Some host) (write : Option CheckWrite) where
-      had_written : HaveWritten req world.hosts → (reply : ℕ × GuestRsp) → Contains (replies cause) reply → reply.0 ≡ req
-          → has_begun_check_write script reply.0 found write ≡ true
-      had_written have reply among same =
-          let (session, disk, (unanswered, asked, here)) = replied_open cause caused reply among in
+      had_written : IsOfScript script req → HaveWritten req world.hosts → (reply : ℕ × GuestRsp) → Contains (replies cause) reply
+          → reply.0 ≡ req → has_begun_check_write script reply.0 found write ≡ true
+      had_written of_script have reply among same =
+          let (session, disk, held) = replied_open cause caused reply among in
+          let (unanswered, asked, here) = held (subst (IsOfScript script) (sym same) of_script) in
           let gateway = gateway_here found has reply.0 session asked in
           let by_host : has_check_written reply.0 host.node ≡ true = by_here here in
           let by_gateway : option_map_or (has_check_written reply.0) (gateway_of script reply.0 found) false ≡ true
@@ -160,7 +167,7 @@ module _ (script : List Statement) (range : RunsAreInRange script) (req : ℕ) w
       stays_writing (inr (checks, have)) = record {
         does = λ reply among same.
             check_does script (has_begun_check_write script reply.0 found write) reply.0 (ap (is_check_at script) same ∙ checks)
-            (had_written have reply among same);
+            (had_written (of_test script is_check req checks) have reply among same);
         left = inr (checks, stepped_written req world.hosts n host (input_of_cause cause) there old have);
       }
 
@@ -175,7 +182,8 @@ module _ (script : List Statement) (range : RunsAreInRange script) (req : ℕ) w
 
       -- the step begins with some events, and ends with what its replies add
       pub told_known : (cause : NodeCause) (found : World) (write : Option CheckWrite) (starts : List HistEvent)
-          → ((reply : ℕ × GuestRsp) → Contains (replies cause) reply → IsOpenRequest script found.guests reply.0)
+          → ((reply : ℕ × GuestRsp) → Contains (replies cause) reply → IsOfScript script reply.0
+          → IsOpenRequest script found.guests reply.0)
           → Known found.guests refused (fold (may_have_after req) may starts)
           → (fold (may_have_after req) may starts ≡ true → IsWritingIn cause found write)
           → Known (fold (progress_after_reply script) found.guests (replies cause)) (refused ++ refused_in script (replies cause))
@@ -202,5 +210,6 @@ module _ (script : List Statement) (range : RunsAreInRange script) (req : ℕ) w
           × Writes (after cause).hosts (fold (may_have_after req) may (replies_grown script world None (after cause)))
       plain_known cause caused same old known writes =
           told_known cause world None []
-          (λ reply among. subst (λ (guests : Guests). IsOpenRequest script guests reply.0) same (replies_open cause caused reply among))
+          (λ reply among of_script.
+          subst (λ (guests : Guests). IsOpenRequest script guests reply.0) same (replies_open cause caused reply among of_script))
           known (λ was. stays_writing cause caused old world there None (writes was))

@@ -1,15 +1,16 @@
 -- In every run of a script a node whose join is to come isn't there, and joins once: the controls to come fit the nodes.
-use Rattle.std.proofs.Common.{◌≡◌, ℕ, zero, suc, Bool, true, false, ◌||◌, List, [], ◌∷◌, Option, Some, None, is_some, slice_get, refl, ap, subst, ◌∙◌}
+use Rattle.std.proofs.Common.{◌≡◌, ℕ, zero, suc, Bool, true, false, ◌||◌, List, [], ◌∷◌, Option, Some, None, is_some, slice_get, refl, ap}
+use Rattle.std.proofs.Common.{subst, ◌∙◌}
 use Rattle.std.proofs.lemmas.Bool.{eq-eqb}
 use Rattle.std.proofs.lemmas.Option.{same_Some}
 use Rattle.cluster_script.specs.declared.statement.Statement.{Statement}
 use Rattle.cluster_script.specs.declared.statement.Statement.TheVariants as lines
 use Rattle.cluster_script.specs.Language.{IsScript}
-use Rattle.sheep_node.specs.declared.event.Event.{Event}
 use Rattle.sheep_world.specs.World.{Host, host_at, is_lost}
 use Rattle.sheep_world.specs.Conditions.{joins}
 use Rattle.sheep_world.specs.ControlsToCome.{FitsNodes, EachFits, used_after, failed_after, has_host, controls_to_come}
 use Rattle.sheep_world.proofs.ScriptControls.{controls-fit}
+use Rattle.sheep_world.specs.RunsWithAsks.{Move}
 use Rattle.overlap_law.specs.Past.{MomentWithPast, run_with_past}
 use Rattle.overlap_law.specs.RequestsOfScript.{JoinsAreNew}
 use Rattle.overlap_law.proofs.NoRecoveredDue.{began-with_past}
@@ -29,7 +30,8 @@ joins_new (s ∷ rest) used lost fit (suc place) node got =
     (not_used (used node) (joins node s) (joins_new rest (used_after s used) (failed_after s lost) fit.1 place node got)).0
 
 -- one that joins by a control joins by none behind it
-joined_before : (s : Statement) (rest : List Statement) (used lost : ℕ → Bool) → EachFits (used_after s used) (failed_after s lost) rest → (place node : ℕ)
+joined_before : (s : Statement) (rest : List Statement) (used lost : ℕ → Bool) → EachFits (used_after s used) (failed_after s lost) rest
+    → (place node : ℕ)
     → s ≡ lines.Join node → slice_get rest place ≡ Some (lines.Join node) → ⊥
 joined_before s rest used lost fit place node same got =
     let none = (not_used (used node) (joins node s) (joins_new rest (used_after s used) (failed_after s lost) fit place node got)).1 in
@@ -41,8 +43,10 @@ joins_once : (controls : List Statement) (used lost : ℕ → Bool) → EachFits
     → slice_get controls place ≡ Some (lines.Join node) → slice_get controls other ≡ Some (lines.Join node) → place ≡ other
 joins_once [] used lost fit place other node got again = absurd (cc (got))
 joins_once (s ∷ rest) used lost fit zero zero node got again = refl
-joins_once (s ∷ rest) used lost fit zero (suc other) node got again = absurd (joined_before s rest used lost fit.1 other node (same_Some s (lines.Join node) got) again)
-joins_once (s ∷ rest) used lost fit (suc place) zero node got again = absurd (joined_before s rest used lost fit.1 place node (same_Some s (lines.Join node) again) got)
+joins_once (s ∷ rest) used lost fit zero (suc other) node got again =
+    absurd (joined_before s rest used lost fit.1 other node (same_Some s (lines.Join node) got) again)
+joins_once (s ∷ rest) used lost fit (suc place) zero node got again =
+    absurd (joined_before s rest used lost fit.1 place node (same_Some s (lines.Join node) again) got)
 joins_once (s ∷ rest) used lost fit (suc place) (suc other) node got again =
     ap suc (joins_once rest (used_after s used) (failed_after s lost) fit.1 place other node got again)
 
@@ -50,7 +54,7 @@ none_there : (o : Option Host) → is_some o ≡ false → o ≡ None
 none_there None none = refl
 none_there (Some host) none = absurd (cc (none))
 
-pub joins_in_run : (script : List Statement) → IsScript script → (events : List Event) (moment : MomentWithPast)
+pub joins_in_run : (script : List Statement) → IsScript script → (events : List Move) (moment : MomentWithPast)
     → run_with_past script events ≡ Some moment → JoinsAreNew script moment.world
 joins_in_run script is_script events moment is =
     let world = moment.world in

@@ -1,5 +1,6 @@
 -- What a block may come to be read as may be read of it still after a history gets an event that keeps it so.
-use Rattle.std.proofs.Common.{◌≡◌, ◌≢◌, inl, inr, ⊎_elim, ℕ, zero, ◌+◌, ◌*◌, ◌<◌, ◌==◌, ◌&&◌, not, Bool, true, false, cond, List, [], ◌∷◌, ◌++◌, map, filter, fold, Option, Some, None, option_map, slice_get, refl, sym, ap, subst, ◌∙◌}
+use Rattle.std.proofs.Common.{◌≡◌, ◌≢◌, inl, inr, ⊎_elim, ℕ, zero, ◌+◌, ◌*◌, ◌<◌, ◌==◌, ◌&&◌, not, Bool, true, false, cond, List, [], ◌∷◌}
+use Rattle.std.proofs.Common.{◌++◌, map, filter, fold, Option, Some, None, option_map, slice_get, refl, sym, ap, subst, ◌∙◌}
 use Rattle.std.proofs.lemmas.Bool.{both_ways, eqb-true}
 use Rattle.std.proofs.lemmas.Option.{same_Some}
 use Rattle.object_id.specs.declared.entry.VdiSpec.{VdiSpec}
@@ -9,14 +10,17 @@ use Rattle.object_id.specs.Fields.{zeros}
 use Rattle.object_id.specs.Oid.{object_number}
 use Rattle.gf256.specs.Part.{is_in_strips}
 use Rattle.disk_history.specs.declared.event.HistEvent.{HistEvent}
-use Rattle.disk_history.specs.declared.event.HistEvent.TheVariants.{Create, Copy, Delete, WriteStart, WriteDone, WriteRefused, WriterLost, Read}
+use Rattle.disk_history.specs.declared.event.HistEvent.TheVariants.{Create, Copy, Delete, WriteStart, WriteDone, WriteRefused, WriterLost}
+use Rattle.disk_history.specs.declared.event.HistEvent.TheVariants.{Read}
 use Rattle.disk_history.specs.Changes.{items_in}
 use Rattle.disk_history.specs.Legal.{is_torn, standing}
-use Rattle.disk_history.specs.Ledger.{Open, Acknowledged, Lost, Item, Disk, Ledger, zeros_item, is_item_of, item_with_mark, changed_at, with_item, has_block, ledger_after}
+use Rattle.disk_history.specs.Ledger.{Open, Acknowledged, Lost, Item, Disk, Ledger, zeros_item, is_item_of, item_with_mark, changed_at}
+use Rattle.disk_history.specs.Ledger.{with_item, has_block, ledger_after}
 use Rattle.vdi_directory.specs.declared.effect.Effect.{Effect}
 use Rattle.overlap_law.specs.Attempts.{AttemptRecord}
 use Rattle.overlap_law.specs.Each.{spec_in}
-use Rattle.overlap_law.specs.StayingBlocks.{IsBlockOfAnyDisk, WasServed, MayStay, IsHomeToCome, ItemsAreOpen, IsMadeBlank, IsMadeLike, HasEntryOf, IsAloneWhereWritten, ComesToNothing, KeepsBlocks, AllKeepBlocks}
+use Rattle.overlap_law.specs.StayingBlocks.{IsBlockOfAnyDisk, WasServed, MayStay, IsHomeToCome, ItemsAreOpen, IsMadeBlank, IsMadeLike}
+use Rattle.overlap_law.specs.StayingBlocks.{HasEntryOf, IsAloneWhereWritten, ComesToNothing, KeepsBlocks, AllKeepBlocks}
 use Rattle.overlap_law.specs.Tables.{entry_by}
 use Rattle.overlap_law.specs.ToCome.{comes_to_nothing, IsToCome, IsEntryToCome}
 use Rattle.overlap_law.specs.Words.{Hosts, is_mute, bytes_by}
@@ -302,8 +306,8 @@ module _ (effects : List Effect) (good_id : ℕ → Bool) (hosts : Hosts) (attem
     refused_holds going nothing =
         all_go_on (λ (by : Option ℕ). by ≡ Some req → ⊥) ledger (ledger_after ledger (WriteRefused req))
         (filter (λ item. not (is_item_of req item))) (λ vid disk there. there)
-        (λ vid was there block. refused_go_on counted req (was.items block) (open_at going vid was there block) (λ was. unserved (known req was)))
-        (λ is. cc (is)) apart
+        (λ vid was there block. refused_go_on counted req (was.items block) (open_at going vid was there block)
+        (λ was. unserved (known req was))) (λ is. cc (is)) apart
       where
         unserved : WasServed attempts req → ⊥
         unserved was =

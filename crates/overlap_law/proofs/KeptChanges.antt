@@ -1,6 +1,7 @@
--- Each change of a moment on the way of an event keeps that a target which has recovered in an epoch has a row that covers it, of each object
--- made by then: rows stay, who is made late is served by all, and who recovers now has what isn't pending.
-use Rattle.std.proofs.Common.{◌≡◌, ◌⊎◌, inl, inr, ⊎_elim, arith, ℕ, ◌+◌, ◌≤◌, ◌<◌, ◌==◌, ◌||◌, nat_eq, not, Bool, true, false, cond, List, [], ◌∷◌, ◌++◌, length, map, Some, None, refl, sym, ap, subst, ◌∙◌}
+-- Each change of a moment on the way of an event keeps that a target which has recovered in an epoch has a row that covers it, of each
+-- object made by then: rows stay, who is made late is served by all, and who recovers now has what isn't pending.
+use Rattle.std.proofs.Common.{◌≡◌, ◌⊎◌, inl, inr, ⊎_elim, arith, ℕ, ◌+◌, ◌≤◌, ◌<◌, ◌==◌, ◌||◌, nat_eq, not, Bool, true, false, cond, List}
+use Rattle.std.proofs.Common.{[], ◌∷◌, ◌++◌, length, map, Some, None, refl, sym, ap, subst, ◌∙◌}
 use Rattle.std.specs.List.{find, list_any, list_all, position_or_len, prefix_len}
 use Rattle.std.specs.Option.{option_map}
 use Rattle.std.specs.FinMap as tree
@@ -23,11 +24,11 @@ use Rattle.peer_proto.specs.Work.{policy_of}
 use Rattle.peer_service.specs.State.{Peer}
 use Rattle.recovery.specs.Shown.{is_pending_object}
 use Rattle.gateway.specs.declared.message.Message.{Message}
-use Rattle.sheep_node.specs.declared.event.Event.{Event}
 use Rattle.sheep_node.specs.Changes.{attempt_in}
 use Rattle.sheep_node.proofs.StepResults.{step_reads}
 use Rattle.sheep_world.specs.World.{Host}
 use Rattle.sheep_world.specs.Began.{Began}
+use Rattle.sheep_world.specs.RunsWithAsks.{Move}
 use Rattle.overlap_law.specs.Attempts.{MessageFate, Flying, Served, Doomed, AttemptRecord, object_of}
 use Rattle.overlap_law.specs.Words.{is_served, is_made, is_one_in_vain, is_doomed}
 use Rattle.overlap_law.specs.Reached.{Hosts, is_beyond, has_finished}
@@ -59,7 +60,8 @@ use Rattle.overlap_law.proofs.StayingRows.{IsKeptAt, RowsHold, kept_rows, step_k
 -- ---- lists
 
 -- where one of some nodes is, there is a place of it, and an index under which it keeps its part
-prefix_less : (p : NodeId → Bool) (nodes : List NodeId) → list_any p nodes ≡ true → prefix_len (λ (node : NodeId). not (p node)) nodes < length nodes
+prefix_less : (p : NodeId → Bool) (nodes : List NodeId) → list_any p nodes ≡ true
+    → prefix_len (λ (node : NodeId). not (p node)) nodes < length nodes
 prefix_less p [] any = absurd (cc (any))
 prefix_less p (node ∷ nodes) any = by_test (p node) any (λ later. prefix_less p nodes later)
   where
@@ -141,9 +143,11 @@ module _ (script : List Statement) (range : RunsAreInRange script) (start before
   grows : LogGrows before.world.log after.world.log
   grows = log_grows script change
 
-  module _ (n : ℕ) (host : Host) (at : tree.get after.world.hosts n ≡ Some host) (oid epoch : ℕ) (policy : Policy) (is_good : good oid ≡ true)
+  module _ (n : ℕ) (host : Host) (at : tree.get after.world.hosts n ≡ Some host) (oid epoch : ℕ) (policy : Policy)
+      (is_good : good oid ≡ true)
       (policy_so : policy_in (log_effects after.world.log) oid ≡ Some policy) (settled : host.node.peer.settled ≤ epoch)
-      (placed : has_node (node_of n) (targets_by after.world.log epoch oid policy) ≡ true) (made : IsMadeBy after.past.attempts oid epoch) where
+      (placed : has_node (node_of n) (targets_by after.world.log epoch oid policy) ≡ true)
+      (made : IsMadeBy after.past.attempts oid epoch) where
     -- the node has a row that covers the epoch
     abbrev HasRow : Host → Type 0
     HasRow h = Covers epoch h.node.peer.epoch (rows_of h.node.peer.rows oid)
@@ -220,10 +224,11 @@ module _ (script : List Statement) (range : RunsAreInRange script) (start before
             ∙ ap (λ (p : Policy). Some p) was_policy
 
         -- what was made stays where it was
-        was_kept : is_made w.was ≡ true → (was : Host) → tree.get before.world.hosts n ≡ Some was → was.node.peer.settled ≤ epoch → HasRow was
+        was_kept : is_made w.was ≡ true → (was : Host) → tree.get before.world.hosts n ≡ Some was → was.node.peer.settled ≤ epoch
+            → HasRow was
         was_kept was_made was there below =
-            kept.each n was there oid epoch policy is_good policy_was was_finished below (ap (has_node (node_of n)) (sym same_targets) ∙ placed)
-            (record {
+            kept.each n was there oid epoch policy is_good policy_was was_finished below
+            (ap (has_node (node_of n)) (sym same_targets) ∙ placed) (record {
               place = made.place;
               attempt = w.was;
               there = w.at;
@@ -264,7 +269,8 @@ module _ (script : List Statement) (range : RunsAreInRange script) (start before
           where
             stands : (b : Bool) → is_doomed before.world.hosts w.was ≡ b → b ≡ false
             stands true doomed =
-                let later = doomed_later script range start before after began change terms rows.shaped rows.tied made.place w.was made.attempt w.at
+                let later = doomed_later script range start before after began change terms rows.shaped rows.tied made.place w.was
+                made.attempt w.at
                 made.there doomed in
                 let stands_now = made-not_doomed after.world.hosts made.attempt made.made in
                 absurd (cc (later, stands_now))
@@ -295,8 +301,10 @@ module _ (script : List Statement) (range : RunsAreInRange script) (start before
 
     -- ---- who recovers now
 
-    module _ (has : WhatIsNotPendingIsThere (targets_by after.world.log) (log_effects after.world.log) good after.world.hosts after.past.attempts)
-        (finished : has_finished after.world.hosts after.world.log epoch (node_of n) ≡ true) (ends : EndsNow after.world.hosts n epoch) where
+    module _ (has : WhatIsNotPendingIsThere (targets_by after.world.log) (log_effects after.world.log) good after.world.hosts
+        after.past.attempts)
+        (finished : has_finished after.world.hosts after.world.log epoch (node_of n) ≡ true)
+        (ends : EndsNow after.world.hosts n epoch) where
       abbrev own_host : Host
       own_host = ends.host
 
@@ -345,28 +353,33 @@ module _ (script : List Statement) (range : RunsAreInRange script) (start before
       ended : HasRow host
       ended = subst HasRow (same_Some own_host host (sym ends.there ∙ at)) ends_there
 
-    kept_there : WhatIsNotPendingIsThere (targets_by after.world.log) (log_effects after.world.log) good after.world.hosts after.past.attempts
+    kept_there : WhatIsNotPendingIsThere (targets_by after.world.log) (log_effects after.world.log) good after.world.hosts
+        after.past.attempts
         → has_finished after.world.hosts after.world.log epoch (node_of n) ≡ true → HasRow host
     kept_there has finished = ⊎_elim
         (λ (old : has_finished before.world.hosts before.world.log epoch (node_of n) ≡ true). had_finished old)
         (λ (ends : EndsNow after.world.hosts n epoch). ended has finished ends)
         (finished_before script range start began change n epoch finished)
 
-  pub kept_after : WhatIsNotPendingIsThere (targets_by after.world.log) (log_effects after.world.log) good after.world.hosts after.past.attempts
-      → RecoveredRowsAreKept (targets_by after.world.log) after.world.log (log_effects after.world.log) good after.world.hosts after.past.attempts
+  pub kept_after : WhatIsNotPendingIsThere (targets_by after.world.log) (log_effects after.world.log) good after.world.hosts
+      after.past.attempts
+      → RecoveredRowsAreKept (targets_by after.world.log) after.world.log (log_effects after.world.log) good after.world.hosts
+      after.past.attempts
   kept_after has = record {
     each = λ n host at oid epoch policy is_good policy_so finished settled placed made.
         kept_there n host at oid epoch policy is_good policy_so settled placed made has finished;
   }
 
-module _ (script : List Statement) (range : RunsAreInRange script) (events : List Event) (start before after : MomentWithPast)
-    (is : run_with_past script events ≡ Some start) (trail : MomentTrail script start before) (change : MomentChange script start before after) where
+module _ (script : List Statement) (range : RunsAreInRange script) (events : List Move) (start before after : MomentWithPast)
+    (is : run_with_past script events ≡ Some start) (trail : MomentTrail script start before)
+    (change : MomentChange script start before after) where
   pub kept-on_the_way : (good : ℕ → Bool)
       → ((oid : ℕ) → good oid ≡ true → is_dead_by_log after.world.log oid ≡ false)
       → WhatIsNotPendingIsThere (targets_by after.world.log) (log_effects after.world.log) good after.world.hosts after.past.attempts
       → RecoveredRowsAreKept (targets_by before.world.log) before.world.log (log_effects before.world.log) good before.world.hosts
       before.past.attempts
-      → RecoveredRowsAreKept (targets_by after.world.log) after.world.log (log_effects after.world.log) good after.world.hosts after.past.attempts
+      → RecoveredRowsAreKept (targets_by after.world.log) after.world.log (log_effects after.world.log) good after.world.hosts
+      after.past.attempts
   kept-on_the_way good alive has kept =
       kept_after script range start before after (began-with_past script events start is) change
       (on_the_way script RowsHold (kept_rows script range) events start before is trail)

@@ -1,8 +1,7 @@
--- The groups of the attempts, of the rows, of the recoveries, of the tables and of requests and commands, what of writes, and the six facts,
--- of each moment that a run in range leads to.
+-- The groups of the attempts, of the rows, of the recoveries, of the tables and of requests and commands, what of writes, and the six
+-- facts, of each moment that a run in range leads to.
 use Rattle.std.proofs.Common.{◌≡◌, List, Some}
 use Rattle.cluster_script.specs.declared.statement.Statement.{Statement}
-use Rattle.sheep_node.specs.declared.event.Event.{Event}
 use Rattle.overlap_law.specs.Holders.{is_available_disk}
 use Rattle.overlap_law.specs.KeptSoFar.{IsKeptSoFar, KeepsFacts}
 use Rattle.overlap_law.specs.MomentChanges.{RunsAreInRange, Still}
@@ -17,8 +16,9 @@ use Rattle.overlap_law.proofs.NothingLacked.{lacked-in_run}
 use Rattle.overlap_law.proofs.PlacesInRuns.{courses_kept-in_run}
 use Rattle.overlap_law.proofs.StandingPieces.{written-in_run}
 use Rattle.overlap_law.proofs.TablesKept.{tables_kept, table-in_run}
+use Rattle.sheep_world.specs.RunsWithAsks.{Move}
 
-pub facts_kept : (script : List Statement) → RunsAreInRange script → (events : List Event) (moment : MomentWithPast)
+pub facts_kept : (script : List Statement) → RunsAreInRange script → (events : List Move) (moment : MomentWithPast)
     → run_with_past script events ≡ Some moment → KeepsFacts moment
 facts_kept script range events moment is =
     let so_far : IsKeptSoFar script moment = kept_so_far script range events moment is in

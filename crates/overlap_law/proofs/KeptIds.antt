@@ -50,10 +50,12 @@ module _ (log : List Entry) (entry : Entry) where
 
   -- what doesn't take an id gives it to nobody else
   pub granted_same : (vid : ℕ) (writer : Holder) → writer_of (log_effects log) vid ≡ Some writer
-      → takes_writer vid writer.node (outcome (log_effects log) entry).effect ≡ false → granted_in (log ++ entry ∷ []) vid ≡ granted_in log vid
+      → takes_writer vid writer.node (outcome (log_effects log) entry).effect ≡ false
+      → granted_in (log ++ entry ∷ []) vid ≡ granted_in log vid
   granted_same vid writer is other = by_test (gives vid effect) refl
     where
-      by_test : (b : Bool) → gives vid (outcome (log_effects log) entry).effect ≡ b → granted_in (log ++ entry ∷ []) vid ≡ granted_in log vid
+      by_test : (b : Bool) → gives vid (outcome (log_effects log) entry).effect ≡ b
+          → granted_in (log ++ entry ∷ []) vid ≡ granted_in log vid
       by_test true given =
           absurd (both_ways (takes_writer vid writer.node effect) other (entry_gives_taken log entry vid given writer is))
       by_test false apart =
@@ -118,10 +120,12 @@ module _ (log outbox : List Entry) (me : NodeId) (session epoch vid : ℕ) where
               (ap (λ (h : Holder). takes_writer vid h.node effect) has.own ∙ kept);
           own = has.own;
           kept = has.kept;
-          since = subst (λ (k : ℕ). k ≤ epoch) (sym (granted_same log entry vid (holder_at me session) (reservation-writer has) kept)) has.since;
+          since = subst (λ (k : ℕ). k ≤ epoch) (sym (granted_same log entry vid (holder_at me session) (reservation-writer has) kept))
+              has.since;
         }
 
-    pub place_stays : (old : ℕ) → HasPlace log outbox me session epoch vid old → HasPlace (log ++ entry ∷ []) outbox me session epoch vid old
+    pub place_stays : (old : ℕ) → HasPlace log outbox me session epoch vid old
+        → HasPlace (log ++ entry ∷ []) outbox me session epoch vid old
     unfolding reserved_stays
     place_stays old has = record { has = reserved_stays has.has; place = has.place }
 
@@ -164,7 +168,8 @@ module _ (log : List Entry) (me : NodeId) (session epoch vid : ℕ) (has : HasLo
   pub yet-writer : writer_of (log_effects log) vid ≡ Some (holder_at me session)
   yet-writer = held-writer log vid (holder_at me session) has.held
 
-  pub yet_stays : (entry : Entry) → may_take_writer vid (holder_at me session) entry ≡ false → HasLockYet (log ++ entry ∷ []) me session epoch vid
+  pub yet_stays : (entry : Entry) → may_take_writer vid (holder_at me session) entry ≡ false
+      → HasLockYet (log ++ entry ∷ []) me session epoch vid
   yet_stays entry other =
       let kept = not_taken log entry vid (holder_at me session) yet-writer other in
       record {

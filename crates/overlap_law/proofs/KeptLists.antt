@@ -1,6 +1,7 @@
 -- Each change of a moment keeps that finished lists are complete: a list that was finished names what it named, and with it stands what was
 -- noted of it; what is made late is of its epoch or a later one. And a list that is finished now has what the nodes hold.
-use Rattle.std.proofs.Common.{◌≡◌, ◌≢◌, ◌⊎◌, inl, inr, ⊎_elim, arith, ℕ, ◌≤◌, ◌<◌, ◌==◌, ◌&&◌, not, Bool, true, false, cond, List, [], ◌∷◌, length, map, Option, Some, None, is_some, refl, sym, ap, subst, ◌∙◌}
+use Rattle.std.proofs.Common.{◌≡◌, ◌≢◌, ◌⊎◌, inl, inr, ⊎_elim, arith, ℕ, ◌≤◌, ◌<◌, ◌==◌, ◌&&◌, not, Bool, true, false, cond, List, [], ◌∷◌}
+use Rattle.std.proofs.Common.{length, map, Option, Some, None, is_some, refl, sym, ap, subst, ◌∙◌}
 use Rattle.std.specs.List.{find, list_all}
 use Rattle.std.specs.Option.{option_map, option_map_or, option_or}
 use Rattle.std.specs.FinMap as tree
@@ -31,11 +32,11 @@ use Rattle.peer_service.specs.State.{Peer}
 use Rattle.gateway.specs.declared.message.Message.{Message}
 use Rattle.recovery.specs.State.{Recovery, is_listed}
 use Rattle.recovery.proofs.TakenParts.{need-some}
-use Rattle.sheep_node.specs.declared.event.Event.{Event}
 use Rattle.sheep_node.specs.Changes.{attempt_in}
 use Rattle.sheep_world.specs.Began.{Began}
 use Rattle.sheep_world.specs.World.{Host}
 use Rattle.sheep_world.proofs.ValidNodes.{log_reservable}
+use Rattle.sheep_world.specs.RunsWithAsks.{Move}
 use Rattle.overlap_law.specs.Attempts.{AttemptRecord, Flying, object_of}
 use Rattle.overlap_law.specs.Words.{is_served, is_made, is_doomed}
 use Rattle.overlap_law.specs.Reached.{has_finished}
@@ -84,7 +85,8 @@ wanted_some (Coded d p) Block is = let some = need-some (Coded d p) Block is in 
 wanted_some (Coded d p) Inode is = omega arith
 
 -- the policy of an object of the log is one
-policy_valid : (log : List Entry) → IsLog log → (oid : ℕ) (policy : Policy) → policy_in (log_effects log) oid ≡ Some policy → IsPolicy policy
+policy_valid : (log : List Entry) → IsLog log → (oid : ℕ) (policy : Policy) → policy_in (log_effects log) oid ≡ Some policy
+    → IsPolicy policy
 policy_valid log is_log oid policy is = by_header (header_of (log_effects log) (vid_of oid)) refl is
   where
     by_header : (o : Option Header) → header_of (log_effects log) (vid_of oid) ≡ o
@@ -102,8 +104,9 @@ none_fly (message ∷ messages) made = absurd (cc (made))
 
 -- ---- a change
 
-module _ (script : List Statement) (range : RunsAreInRange script) (events : List Event) (start before after : MomentWithPast)
-    (is : run_with_past script events ≡ Some start) (trail : MomentTrail script start before) (change : MomentChange script start before after)
+module _ (script : List Statement) (range : RunsAreInRange script) (events : List Move) (start before after : MomentWithPast)
+    (is : run_with_past script events ≡ Some start) (trail : MomentTrail script start before)
+    (change : MomentChange script start before after)
     (good : ℕ → Bool) (has : HasMade good after)
     (complete : ListsAreComplete good before.past.listed before.world.hosts before.past.attempts) where
   began : Began script start.world
@@ -185,7 +188,8 @@ module _ (script : List Statement) (range : RunsAreInRange script) (events : Lis
         where
           stands : (b : Bool) → is_doomed before.world.hosts w.was ≡ b → b ≡ false
           stands true doomed =
-              let then = doomed_later script range start before after began change terms rows.shaped rows.tied made.place w.was made.attempt w.at
+              let then = doomed_later script range start before after began change terms rows.shaped rows.tied made.place w.was made.attempt
+              w.at
               made.there doomed in
               let stands_now = made-not_doomed after.world.hosts made.attempt made.made in
               absurd (cc (then, stands_now))
@@ -293,7 +297,8 @@ module _ (script : List Statement) (range : RunsAreInRange script) (events : Lis
       own_rows : own_at after.past.listed n now.node.recovery.epoch ≡ tree.keys now.node.peer.rows
       own_rows =
           let number : now.node.me.0 ≡ n = (has.terms.sound.each n now at).read.own in
-          let passes : is_list_of n now.node.recovery.epoch (record { node = now.node.me; epoch = now.node.recovery.epoch; own = tree.keys now.node.peer.rows }) ≡ true
+          let passes : is_list_of n now.node.recovery.epoch
+          (record { node = now.node.me; epoch = now.node.recovery.epoch; own = tree.keys now.node.peer.rows }) ≡ true
           = (λ i. eq-eqb now.node.me.0 n number i && now.node.recovery.epoch == now.node.recovery.epoch)
           ∙ eq-eqb now.node.recovery.epoch now.node.recovery.epoch refl in
           ap (λ (all : List FinishedList). own_at all n now.node.recovery.epoch) (notes script change)
@@ -303,18 +308,21 @@ module _ (script : List Statement) (range : RunsAreInRange script) (events : Lis
           (option_or o (passed (is_list_of n now.node.recovery.epoch)
           (listed_with (tree.get start.world.hosts n) now.node.me now.node.recovery now.node.peer.rows))) []) none_before
           ∙ ap (λ (o : Option Host). option_map_or (λ (l : FinishedList). l.own)
-          (passed (is_list_of n now.node.recovery.epoch) (listed_with o now.node.me now.node.recovery now.node.peer.rows)) []) moved.at_start
+          (passed (is_list_of n now.node.recovery.epoch) (listed_with o now.node.me now.node.recovery now.node.peer.rows)) [])
+          moved.at_start
           ∙ ap (λ (b : Bool). option_map_or (λ (l : FinishedList). l.own)
           (passed (is_list_of n now.node.recovery.epoch)
-          (cond b (Some (record { node = now.node.me; epoch = now.node.recovery.epoch; own = tree.keys now.node.peer.rows })) None)) []) is_new
+          (cond b (Some (record { node = now.node.me; epoch = now.node.recovery.epoch; own = tree.keys now.node.peer.rows })) None)) [])
+          is_new
           ∙ ap (λ (b : Bool). option_map_or (λ (l : FinishedList). l.own)
-          (cond b (Some (record { node = now.node.me; epoch = now.node.recovery.epoch; own = tree.keys now.node.peer.rows })) None) []) passes
+          (cond b (Some (record { node = now.node.me; epoch = now.node.recovery.epoch; own = tree.keys now.node.peer.rows })) None) [])
+          passes
 
       at_hand : (is_object_among (object_of made.attempt) now.node.recovery.lists.objects ≡ true)
           ⊎ (has_row_at now.node.peer.epoch now.node.peer.rows (object_of made.attempt) (level_of after.world.log made.attempt) ≡ true)
       at_hand =
-          (gives-listed good after has (lists_whole-on_the_way script range events start after is later_trail (lives_by after.world.log))).each
-          n now at moved.up made.place made.attempt made.there (policy_of made.attempt.work)
+          (gives-listed good after has (lists_whole-on_the_way script range events start after is later_trail
+          (lives_by after.world.log))).each n now at moved.up made.place made.attempt made.there (policy_of made.attempt.work)
           (own script range events start after is later_trail n now at) listed settled within_now (ap good made.object ∙ good_so) policy_so
           (need-some (policy_of made.attempt.work) (kind_of (object_of made.attempt)) valid) made.made
           (let most = made.before in omega (arith, most, below))
@@ -329,7 +337,8 @@ module _ (script : List Statement) (range : RunsAreInRange script) (events : Lis
           (λ (named : is_object_among (object_of made.attempt) now.node.recovery.lists.objects ≡ true). inl (is_named named))
           (λ row. inr (
             level_of after.world.log made.attempt,
-            ap (λ (o : ℕ). has_row_at now.node.peer.epoch now.node.peer.rows o (level_of after.world.log made.attempt)) (sym made.object) ∙ row,
+            ap (λ (o : ℕ). has_row_at now.node.peer.epoch now.node.peer.rows o (level_of after.world.log made.attempt)) (sym made.object)
+                ∙ row,
           ))
           at_hand
 
@@ -337,8 +346,8 @@ module _ (script : List Statement) (range : RunsAreInRange script) (events : Lis
       either = ⊎_elim
           (λ (named : is_object_among (object_of made.attempt) now.node.recovery.lists.objects ≡ true). inl (is_named named))
           (λ row. inr (ap (λ (o : ℕ). is_object_among o (tree.keys now.node.peer.rows)) (sym made.object)
-          ∙ row_among now.node.peer.rows (object_of made.attempt) (row_covers now.node.peer.epoch (level_of after.world.log made.attempt)) row))
-          at_hand
+          ∙ row_among now.node.peer.rows (object_of made.attempt) (row_covers now.node.peer.epoch (level_of after.world.log made.attempt))
+          row)) at_hand
 
       new_list : is_in_list after.past.listed n now.node.recovery oid ≡ true
       new_list =
@@ -369,7 +378,8 @@ module _ (script : List Statement) (range : RunsAreInRange script) (events : Lis
       by_host was there =
           let (same_now, at_now, goes) = lists_go script range start began change n was there in
           let one : same_now ≡ now = same_Some same_now now (sym at_now ∙ at) in
-          by_goes (subst (λ (h : Host). ListGoes was.node.recovery h.node.recovery) one goes) (moves script range start began change n was now there at)
+          by_goes (subst (λ (h : Host). ListGoes was.node.recovery h.node.recovery) one goes)
+          (moves script range start began change n was now there at)
         where
           by_moved : (ahead : (was.node.recovery.epoch < now.node.recovery.epoch)
               ⊎ ((now.node.recovery.epoch ≡ was.node.recovery.epoch) × (is_listed was.node.recovery ≡ false)))
@@ -404,8 +414,9 @@ module _ (script : List Statement) (range : RunsAreInRange script) (events : Lis
                   let epochs : g.host.node.peer.epoch ≡ was.node.peer.epoch = ap (λ (h : Host). h.node.peer.epoch) same in
                   ⊎_elim
                   (λ (on : (g.host.is_lost ≡ false) × RecoveryGoes g.host.node now.node). ⊎_elim
-                  (λ (goes : (now.node.recovery.epoch ≡ g.host.node.recovery.epoch) × (g.host.node.recovered ≡ true → now.node.recovered ≡ true)).
-                  had_list finished (ap (λ (h : Host). h.is_lost) (sym same) ∙ on.0)
+                  (λ (goes : (now.node.recovery.epoch ≡ g.host.node.recovery.epoch)
+                  × (g.host.node.recovered ≡ true → now.node.recovered ≡ true)). had_list finished
+                  (ap (λ (h : Host). h.is_lost) (sym same) ∙ on.0)
                   (goes.0 ∙ ap (λ (h : Host). h.node.recovery.epoch) same) ahead)
                   (λ (beyond : g.host.node.peer.epoch < now.node.recovery.epoch). omega (arith, reached, epochs, beyond))
                   on.1)

@@ -1,7 +1,6 @@
 -- What has been proved of each run in range, together.
 use Rattle.std.proofs.Common.{◌≡◌, List, Some}
 use Rattle.cluster_script.specs.declared.statement.Statement.{Statement}
-use Rattle.sheep_node.specs.declared.event.Event.{Event}
 use Rattle.overlap_law.specs.Past.{MomentWithPast, run_with_past}
 use Rattle.overlap_law.specs.MomentChanges as moments
 use Rattle.overlap_law.specs.MomentChanges.{RunsAreInRange}
@@ -53,8 +52,9 @@ use Rattle.overlap_law.proofs.PassedInRuns.{passed-on_the_way}
 use Rattle.overlap_law.proofs.NoRowsStand.{no_rows_true-on_the_way}
 use Rattle.overlap_law.proofs.ToldCopies.{copies-on_the_way, told_copies-on_the_way}
 use Rattle.overlap_law.proofs.TrueRows.{rows_true-on_the_way}
+use Rattle.sheep_world.specs.RunsWithAsks.{Move}
 
-pub flight-in_run : (script : List Statement) → RunsAreInRange script → (events : List Event) (moment : MomentWithPast)
+pub flight-in_run : (script : List Statement) → RunsAreInRange script → (events : List Move) (moment : MomentWithPast)
     → run_with_past script events ≡ Some moment
     → FlightIsKept moment.world.log moment.world.hosts moment.world.wire moment.past.attempts
 flight-in_run script range events moment is =
@@ -69,7 +69,7 @@ flight-in_run script range events moment is =
       fenced = fenced-in_run script range events moment is;
     }
 
-pub writers-in_run : (script : List Statement) → RunsAreInRange script → (events : List Event) (moment : MomentWithPast)
+pub writers-in_run : (script : List Statement) → RunsAreInRange script → (events : List Move) (moment : MomentWithPast)
     → run_with_past script events ≡ Some moment
     → WritersAreKept moment.world.log moment.world.hosts moment.world.wire moment.past.attempts
 writers-in_run script range events moment is = record {
@@ -80,7 +80,7 @@ writers-in_run script range events moment is = record {
   read_last = last_reads-in_run script range events moment moment is moments.Still;
 }
 
-pub kept_so_far : (script : List Statement) → RunsAreInRange script → (events : List Event) (moment : MomentWithPast)
+pub kept_so_far : (script : List Statement) → RunsAreInRange script → (events : List Move) (moment : MomentWithPast)
     → run_with_past script events ≡ Some moment → IsKeptSoFar script moment
 kept_so_far script range events moment is = record {
   wire = flight-in_run script range events moment is;

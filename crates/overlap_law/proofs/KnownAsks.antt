@@ -1,5 +1,6 @@
 -- What a recovery waits for it has asked so: lists, and rows of objects whose disks its node knows, of so many indexes as those have.
-use Rattle.std.proofs.Common.{◌≡◌, ℕ, ◌+◌, Bool, true, false, not, cond, map, List, [], ◌∷◌, ◌++◌, filter, All, Option, Some, None, refl, sym, ap, subst, ◌∙◌}
+use Rattle.std.proofs.Common.{◌≡◌, ℕ, ◌+◌, Bool, true, false, not, cond, map, List, [], ◌∷◌, ◌++◌, filter, All, Option, Some, None, refl}
+use Rattle.std.proofs.Common.{sym, ap, subst, ◌∙◌}
 use Rattle.std.specs.Option.{option_map, option_map_or}
 use Rattle.std.specs.FinMap as tree
 use Rattle.std.proofs.lemmas.List.Elements.{All-nil, All-cons, All-head, All-tail, All-filter, All-append, All-weaker}
@@ -25,7 +26,8 @@ use Rattle.recovery.specs.State.{Message, Search, Recovery, RecoveryState, is_li
 use Rattle.recovery.specs.Frame.{Frame}
 use Rattle.recovery.specs.Steps as recovery_steps
 use Rattle.recovery.specs.Steps.{to_recover, at_start, recovery_from_epoch, message_end}
-use Rattle.recovery.specs.Tick.{request_message, messages_to, lists_asked, asked_of, level_asked, next_search, level_messages, tick_messages, state_after_tick}
+use Rattle.recovery.specs.Tick.{request_message, messages_to, lists_asked, asked_of, level_asked, next_search, level_messages}
+use Rattle.recovery.specs.Tick.{tick_messages, state_after_tick}
 use Rattle.recovery.proofs.StepLemmas.{frame_of_end, frame_of_tick}
 use Rattle.sheep_node.specs.declared.input.Input.{Input}
 use Rattle.sheep_node.specs.declared.input.Input.TheVariants as inputs
@@ -34,7 +36,8 @@ use Rattle.sheep_node.specs.State.{Node}
 use Rattle.sheep_node.specs.RecoveryView.{recovery_state_of}
 use Rattle.sheep_node.specs.StepState.{StepState, at_first}
 use Rattle.sheep_node.specs.StepFacts.{read_after}
-use Rattle.sheep_node.specs.LogReading.{epoch_members, node_with_entry, recovery_in_epoch, begins_recovery, entry_read, come_back_with, on_back}
+use Rattle.sheep_node.specs.LogReading.{epoch_members, node_with_entry, recovery_in_epoch, begins_recovery, entry_read, come_back_with}
+use Rattle.sheep_node.specs.LogReading.{on_back}
 use Rattle.sheep_node.specs.Step.{on_request, recovery_stepped, on_put, on_recover_tick, node_step}
 use Rattle.sheep_node.specs.Changes.{input_received}
 use Rattle.sheep_node.proofs.StepResults.{step_reads, step_recovery}

@@ -1,5 +1,6 @@
 -- Each change of a node leaves what it has at work on disks that it knows: so it is in the middle of a step, and at its end.
-use Rattle.std.proofs.Common.{◌≡◌, ◌≢◌, ⊎_elim, arith, ℕ, ◌+◌, ◌*◌, List, [], ◌∷◌, length, All, Option, Some, None, IfSome, IsTrue, refl, sym, ap, subst, ◌∙◌}
+use Rattle.std.proofs.Common.{◌≡◌, ◌≢◌, ⊎_elim, arith, ℕ, ◌+◌, ◌*◌, List, [], ◌∷◌, length, All, Option, Some, None, IfSome, IsTrue, refl}
+use Rattle.std.proofs.Common.{sym, ap, subst, ◌∙◌}
 use Rattle.std.specs.FinMap as tree
 use Rattle.std.proofs.lemmas.Bool.{cases_eq}
 use Rattle.std.proofs.lemmas.List.Elements.{All-weaker}
@@ -26,7 +27,8 @@ use Rattle.guest_driver.specs.Driver.{begin_driver}
 use Rattle.guest_driver.specs.InodeQueue as lines
 use Rattle.guest_driver.specs.Pieces.{is_ask}
 use Rattle.vdi_ops.specs.Steps.{on_decision}
-use Rattle.vdi_ops.specs.Op.{Task, Opening, WritingBack, Tagging, Copying, Making, DiskChange, Stays, Opens, Closes, OpStage, Asked, Working, Publishing, Answered, OpStep}
+use Rattle.vdi_ops.specs.Op.{Task, Opening, WritingBack, Tagging, Copying, Making, DiskChange, Stays, Opens, Closes, OpStage, Asked}
+use Rattle.vdi_ops.specs.Op.{Working, Publishing, Answered, OpStep}
 use Rattle.disk_check.specs.Check.{begin_check}
 use Rattle.recovery.specs.Steps as recovery_steps
 use Rattle.sheep_node.specs.declared.ask.Ask.{Ask}
@@ -45,7 +47,9 @@ use Rattle.sheep_node.specs.Step.{on_request, recovery_stepped, on_put, on_recov
 use Rattle.sheep_node.specs.StepFacts.{read_after}
 use Rattle.sheep_node.specs.Courses.{inode_open, after_command_step}
 use Rattle.sheep_node.specs.Validity.{IsValidSessionBy, AreValidBy}
-use Rattle.sheep_node.specs.Changes.{input_received, without_ended_work, Outcome, outcome_of_command, RequestSteps, DiskBegins, DiskGoesOn, CommandBegins, CommandGoesOn, CommandDecided, CheckBegins, CheckGoesOn, ObjectBegins, ObjectIsDone, EntryBegins, EntryDecided, WorkIsNext, Leads}
+use Rattle.sheep_node.specs.Changes.{input_received, without_ended_work, Outcome, outcome_of_command, RequestSteps, DiskBegins, DiskGoesOn}
+use Rattle.sheep_node.specs.Changes.{CommandBegins, CommandGoesOn, CommandDecided, CheckBegins, CheckGoesOn, ObjectBegins, ObjectIsDone}
+use Rattle.sheep_node.specs.Changes.{EntryBegins, EntryDecided, WorkIsNext, Leads}
 use Rattle.sheep_node.proofs.KnownChains.{headers_are_sound}
 use Rattle.sheep_node.proofs.MessageCounts.{attempt_few}
 use Rattle.sheep_node.proofs.PeerLog.{entries_reading}
@@ -54,10 +58,14 @@ use Rattle.sheep_node.proofs.SoundCommands.{HeadersAreSound}
 use Rattle.sheep_node.proofs.StepChain.{step_chain}
 use Rattle.sheep_node.proofs.StepResults.{step_reads}
 use Rattle.sheep_node.proofs.ValidityChanges as walk
-use Rattle.sheep_node.proofs.ValidityChanges.{AnySent, none_is, IsValidStepBy, IsKeptBy, session_valid, disk_valid, inode_valid, course_valid, sole_put, freed_valid, driven_valid, commanded_valid}
+use Rattle.sheep_node.proofs.ValidityChanges.{AnySent, none_is, IsValidStepBy, IsKeptBy, session_valid, disk_valid, inode_valid}
+use Rattle.sheep_node.proofs.ValidityChanges.{course_valid, sole_put, freed_valid, driven_valid, commanded_valid}
 use Rattle.overlap_law.proofs.GrantedEpochs.{spec_known, spec_stays}
-use Rattle.overlap_law.proofs.KnownDisks.{IsKnownDisk, IsKnownInode, IsOnKnownDisk, CreatesWhole, IsKnownWork, IsKnownTask, IsKnownChange, IsKnownStage, IsKnownCourse, known_validity, IsKnownOutcome, driver_begins-known, driver_goes_on-known, check_begins-known, check_goes_on-known}
-use Rattle.overlap_law.proofs.KnownCommands.{IsKnownCommandStep, command_begins-known, command_goes_on-known, command_decided-known, left_open}
+use Rattle.overlap_law.proofs.KnownDisks.{IsKnownDisk, IsKnownInode, IsOnKnownDisk, CreatesWhole, IsKnownWork, IsKnownTask, IsKnownChange}
+use Rattle.overlap_law.proofs.KnownDisks.{IsKnownStage, IsKnownCourse, known_validity, IsKnownOutcome, driver_begins-known}
+use Rattle.overlap_law.proofs.KnownDisks.{driver_goes_on-known, check_begins-known, check_goes_on-known}
+use Rattle.overlap_law.proofs.KnownCommands.{IsKnownCommandStep, command_begins-known, command_goes_on-known, command_decided-known}
+use Rattle.overlap_law.proofs.KnownCommands.{left_open}
 
 -- a node's works, requests and sessions are on disks that are known
 abbrev pub AreOnKnown : List Effect → Node → Type 0
@@ -79,15 +87,18 @@ IsKnownInput known _ = Unit {0}
 
 -- ---- a change of a node
 
-commanded : (known : List Effect) {most : ℕ} (session req : ℕ) (step : OpStep) (so_far : StepState) → IsKnownCommandStep known step → IsKnownSoFar known most so_far
+commanded : (known : List Effect) {most : ℕ} (session req : ℕ) (step : OpStep) (so_far : StepState) → IsKnownCommandStep known step
+    → IsKnownSoFar known most so_far
     → IsKnownSoFar known most (after_command_step session req step so_far) × IsKnownOutcome known (outcome_of_command step.act)
 commanded known session req step so_far so all = (
   commanded_valid (known_validity known) AnySent session req step so_far so.stage
-      (left_open known step.op.stage (session_in session so_far).disk so.stage (session_valid (known_validity known) AnySent session so_far all).disk) all,
+      (left_open known step.op.stage (session_in session so_far).disk so.stage
+      (session_valid (known_validity known) AnySent session so_far all).disk) all,
   so.outcome,
 )
 
-module _ (known : List Effect) {input : Input} {node : Node} (read : (entry : Entry) → input ≡ inputs.LogEntry entry → effects_of (entry_read entry node).peer ≡ known)
+module _ (known : List Effect) {input : Input} {node : Node}
+    (read : (entry : Entry) → input ≡ inputs.LogEntry entry → effects_of (entry_read entry node).peer ≡ known)
     (headers : HeadersAreSound known) (asked : IsKnownInput known input) where
   steps_known : (most : ℕ) (so_far : StepState) (session req : ℕ) (next : Outcome) (moved : StepState)
       → RequestSteps input node so_far session req next moved → Unit {0} → IsKnownSoFar known most so_far
@@ -99,7 +110,8 @@ module _ (known : List Effect) {input : Input} {node : Node} (read : (entry : En
   steps_known most so_far session req next moved (DiskGoesOn number work attempt status bytes driver disk step ends on is) nothing all =
       let freed : StepState = without_ended_work session req work status so_far in
       let now = freed_valid (known_validity known) AnySent session req work status so_far all in
-      let so = driver_goes_on-known known disk.inode bytes driver step is (disk_valid (known_validity known) AnySent session freed disk on now)
+      let so = driver_goes_on-known known disk.inode bytes driver step is
+      (disk_valid (known_validity known) AnySent session freed disk on now)
       (course_valid (known_validity known) AnySent session req (Driving driver) so_far ends.ends.request all) in
       (driven_valid (known_validity known) AnySent session req disk step freed so.inode so.few now, so.outcome)
   steps_known most so_far session req next moved (CommandBegins ask step arrival is) nothing all =
@@ -107,22 +119,24 @@ module _ (known : List Effect) {input : Input} {node : Node} (read : (entry : En
       (command_begins-known known so_far.node.me session ask (inode_open (session_in session so_far).disk) step is) all
   steps_known most so_far session req next moved (CommandGoesOn number work attempt status bytes op step ends is) nothing all =
       commanded known session req step (without_ended_work session req work status so_far)
-      (command_goes_on-known known bytes op step is (course_valid (known_validity known) AnySent session req (Commanding op) so_far ends.ends.request all))
-      (freed_valid (known_validity known) AnySent session req work status so_far all)
+      (command_goes_on-known known bytes op step is (course_valid (known_validity known) AnySent session req (Commanding op) so_far
+      ends.ends.request all)) (freed_valid (known_validity known) AnySent session req work status so_far all)
   steps_known most so_far session req next moved (CommandDecided entry op step from reading there waits is) nothing all =
       let same : effects_of so_far.node.peer ≡ known = ap effects_of reading ∙ read entry from in
       commanded known session req step so_far
-      (command_decided-known known (inode_open (session_in session so_far).disk) op step headers (inode_valid (known_validity known) AnySent session so_far all)
-      (decision_on entry node.peer)
-      (subst (λ (effects : List Effect). on_decision effects (inode_open (session_in session so_far).disk) (decision_on entry node.peer) op ≡ Some step) same is)
-      (course_valid (known_validity known) AnySent session req (Commanding op) so_far there all)) all
+      (command_decided-known known (inode_open (session_in session so_far).disk) op step headers
+      (inode_valid (known_validity known) AnySent session so_far all) (decision_on entry node.peer)
+      (subst (λ (effects : List Effect). on_decision effects (inode_open (session_in session so_far).disk) (decision_on entry node.peer) op
+      ≡ Some step) same is) (course_valid (known_validity known) AnySent session req (Commanding op) so_far there all)) all
   steps_known most so_far session req next moved (CheckBegins inode arrival on) nothing all =
       let so = check_begins-known known inode
       (subst (λ (o : Option Content). IfSome o (IsKnownInode known)) on (inode_valid (known_validity known) AnySent session so_far all)) in
       (sole_put (known_validity known) AnySent session req (Checking (begin_check inode).check) so_far so.check all, so.outcome)
   steps_known most so_far session req next moved (CheckGoesOn number work attempt status bytes check step ends is) nothing all =
-      let so = check_goes_on-known known bytes check step is (course_valid (known_validity known) AnySent session req (Checking check) so_far ends.ends.request all) in (
-        sole_put (known_validity known) AnySent session req (Checking step.check) (without_ended_work session req work status so_far) so.check
+      let so = check_goes_on-known known bytes check step is (course_valid (known_validity known) AnySent session req (Checking check)
+      so_far ends.ends.request all) in (
+        sole_put (known_validity known) AnySent session req (Checking step.check) (without_ended_work session req work status so_far)
+            so.check
             (freed_valid (known_validity known) AnySent session req work status so_far all),
         so.outcome,
       )
@@ -159,18 +173,20 @@ module _ (known : List Effect) {input : Input} {node : Node} (read : (entry : En
   pub known_in_chain : {first so_far : StepState} → (leads : Leads input node first so_far) → AreOnKnown known first.node
       → IsKnownSoFar known (31 * changes_in leads + length first.outputs.sends) so_far
   known_in_chain {first} {so_far} leads all =
-      walk.chain_valid (known_validity known) AnySent (length first.outputs.sends) (changes_in leads) works_are_kept (λ here before short. tt) leads (omega arith)
-      (all, record { few = omega arith; sent = λ k d within. tt; to_put = λ k d within. tt })
+      walk.chain_valid (known_validity known) AnySent (length first.outputs.sends) (changes_in leads) works_are_kept
+      (λ here before short. tt) leads (omega arith) (all, record { few = omega arith; sent = λ k d within. tt; to_put = λ k d within. tt })
 
   -- and a work whose turn has come
-  pub next_known : {most : ℕ} (so_far : StepState) (session req : ℕ) (asked : Work) (lined : StepState) → WorkIsNext input node so_far session req asked lined
+  pub next_known : {most : ℕ} (so_far : StepState) (session req : ℕ) (asked : Work) (lined : StepState)
+      → WorkIsNext input node so_far session req asked lined
       → IsKnownSoFar known most so_far → IsKnownWork known asked.work
   next_known so_far session req asked lined comes all =
       (walk.next_valid (known_validity known) AnySent works_are_kept so_far session req asked lined comes tt all).1
 
 -- ---- what is known grows
 
-module _ (old new : List Effect) (grows : (vid : ℕ) (spec : VdiSpec) → spec_known old vid ≡ Some spec → spec_known new vid ≡ Some spec) where
+module _ (old new : List Effect) (grows : (vid : ℕ) (spec : VdiSpec) → spec_known old vid ≡ Some spec → spec_known new vid
+    ≡ Some spec) where
   disk_grows : (vid : ℕ) (spec : VdiSpec) → IsKnownDisk old vid spec → IsKnownDisk new vid spec
   disk_grows vid spec is = record { id = is.id; spec_valid = is.spec_valid; made = grows vid spec is.made }
 
@@ -229,11 +245,13 @@ module _ (old new : List Effect) (grows : (vid : ℕ) (spec : VdiSpec) → spec_
   session_grows : (session : Session) → IsValidSessionBy (known_validity old) session → IsValidSessionBy (known_validity new) session
   session_grows session is = record {
     disk = by_disk session.disk is.disk;
-    waiting = All-weaker (λ (waiting : lines.Waiting). IsKnownWork old waiting.work) (λ (waiting : lines.Waiting). IsKnownWork new waiting.work)
+    waiting =
+        All-weaker (λ (waiting : lines.Waiting). IsKnownWork old waiting.work) (λ (waiting : lines.Waiting). IsKnownWork new waiting.work)
         (λ waiting so. work_grows waiting.work so) session.inode_queue.waiting is.waiting;
   }
     where
-      by_disk : (o : Option Disk) → IfSome o (λ (disk : Disk). IsKnownInode old disk.inode) → IfSome o (λ (disk : Disk). IsKnownInode new disk.inode)
+      by_disk : (o : Option Disk) → IfSome o (λ (disk : Disk). IsKnownInode old disk.inode)
+          → IfSome o (λ (disk : Disk). IsKnownInode new disk.inode)
       by_disk None is = tt
       by_disk (Some disk) is = inode_grows disk.inode is
 
@@ -257,16 +275,17 @@ none_known known = record {
 abbrev pub effects_after : Input → Node → List Effect
 effects_after input node = log_effects (read_after input node.peer.entries)
 
-pub received_known : (input : Input) (node : Node) → AreOnKnown (effects_of node.peer) node → AreOnKnown (effects_after input node) (input_received input (at_first node)).node
+pub received_known : (input : Input) (node : Node) → AreOnKnown (effects_of node.peer) node
+    → AreOnKnown (effects_after input node) (input_received input (at_first node)).node
 unfolding entry_read on_request on_recover_tick on_back
 received_known (inputs.Guest req session ask) node all = all
 received_known (inputs.Request request) node all = all
 received_known (inputs.Reply rsp) node all =
-    cond_either (λ (start : StepState). AreOnKnown (effects_of node.peer) start.node) (gateways.gateway_awaits rsp.number node.gateway) (at_first node)
-    (recovery_stepped (recovery_steps.recovery_on_reply rsp (recovery_state_of node)) (at_first node)) all all
+    cond_either (λ (start : StepState). AreOnKnown (effects_of node.peer) start.node) (gateways.gateway_awaits rsp.number node.gateway)
+    (at_first node) (recovery_stepped (recovery_steps.recovery_on_reply rsp (recovery_state_of node)) (at_first node)) all all
 received_known (inputs.Lost number) node all =
-    cond_either (λ (start : StepState). AreOnKnown (effects_of node.peer) start.node) (gateways.gateway_awaits number node.gateway) (at_first node)
-    (recovery_stepped (recovery_steps.recovery_on_loss number (recovery_state_of node)) (at_first node)) all all
+    cond_either (λ (start : StepState). AreOnKnown (effects_of node.peer) start.node) (gateways.gateway_awaits number node.gateway)
+    (at_first node) (recovery_stepped (recovery_steps.recovery_on_loss number (recovery_state_of node)) (at_first node)) all all
 received_known (inputs.LogEntry entry) node all =
     all_grow (effects_of node.peer) (effects_after (inputs.LogEntry entry) node)
     (λ vid spec is. spec_stays node.peer.entries (entry ∷ []) vid spec is) node all
@@ -279,7 +298,8 @@ received_known inputs.RecoverTick node all = all
 received_known inputs.RetryTick node all = all
 received_known (inputs.Back entries) node all = none_known (effects_after (inputs.Back entries) node)
 
-module _ (input : Input) (node : Node) (reservable : All IsReservable (read_after input node.peer.entries)) (asked : IsKnownInput (effects_after input node) input) where
+module _ (input : Input) (node : Node) (reservable : All IsReservable (read_after input node.peer.entries))
+    (asked : IsKnownInput (effects_after input node) input) where
   read_so : (entry : Entry) → input ≡ inputs.LogEntry entry → effects_of (entry_read entry node).peer ≡ effects_after input node
   read_so entry from =
       ap log_effects (entries_reading entry node ∙ sym (ap (λ (input : Input). read_after input node.peer.entries) from))
@@ -290,11 +310,13 @@ module _ (input : Input) (node : Node) (reservable : All IsReservable (read_afte
   module _ (all : AreOnKnown (effects_of node.peer) node) where
     -- in the middle of a step
     pub step_known : (so_far : StepState) (leads : Leads input node (input_received input (at_first node)) so_far)
-        → IsKnownSoFar (effects_after input node) (31 * changes_in leads + length (input_received input (at_first node)).outputs.sends) so_far
+        → IsKnownSoFar (effects_after input node) (31 * changes_in leads + length (input_received input (at_first node)).outputs.sends)
+        so_far
     step_known so_far leads = known_in_chain (effects_after input node) read_so headers asked leads (received_known input node all)
 
     -- a work whose turn has come then
-    pub work_known : (so_far : StepState) → Leads input node (input_received input (at_first node)) so_far → (session req : ℕ) (work : Work) (lined : StepState)
+    pub work_known : (so_far : StepState) → Leads input node (input_received input (at_first node)) so_far
+        → (session req : ℕ) (work : Work) (lined : StepState)
         → WorkIsNext input node so_far session req work lined → IsKnownWork (effects_after input node) work.work
     work_known so_far leads session req work lined comes =
         next_known (effects_after input node) read_so headers asked so_far session req work lined comes (step_known so_far leads)

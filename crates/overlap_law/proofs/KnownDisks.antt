@@ -1,6 +1,7 @@
--- What a node has at work is on disks that it knows: the inodes that sessions have open, the commands, the checks, and each create or write.
--- What a read or write, a check or a command comes to is so too.
-use Rattle.std.proofs.Common.{◌≡◌, arith, ℕ, ◌+◌, ◌*◌, ◌%◌, ◌^◌, ◌<◌, ◌≤◌, ◌==◌, ◌++◌, Bool, true, false, cond, List, [], ◌∷◌, length, All, Option, Some, None, IfSome, IsTrue, refl, sym, ap, subst, ◌∙◌}
+-- What a node has at work is on disks that it knows: the inodes that sessions have open, the commands, the checks, and each create or
+-- write. What a read or write, a check or a command comes to is so too.
+use Rattle.std.proofs.Common.{◌≡◌, arith, ℕ, ◌+◌, ◌*◌, ◌%◌, ◌^◌, ◌<◌, ◌≤◌, ◌==◌, ◌++◌, Bool, true, false, cond, List, [], ◌∷◌, length, All}
+use Rattle.std.proofs.Common.{Option, Some, None, IfSome, IsTrue, refl, sym, ap, subst, ◌∙◌}
 use Rattle.std.proofs.Math.Nat.{div-eq_of_lt}
 use Rattle.std.proofs.lemmas.List.{length-set}
 use Rattle.std.proofs.lemmas.List.Elements.{All-nil, All-head, All-tail, All-weaker}
@@ -31,18 +32,22 @@ use Rattle.gateway.specs.Work.{is_making}
 use Rattle.gateway.specs.State.{Work}
 use Rattle.guest_driver.specs.declared.disk.Disk.{Disk}
 use Rattle.guest_driver.specs.Pieces.{Piece, pieces, is_ask}
-use Rattle.guest_driver.specs.PieceWorks.{Backing, Hole, Own, Inherited, entry_of, backing_of, read_piece, write_piece, create_piece, read_object, create_copy, write_entry, table_with_entry}
+use Rattle.guest_driver.specs.PieceWorks.{Backing, Hole, Own, Inherited, entry_of, backing_of, read_piece, write_piece, create_piece}
+use Rattle.guest_driver.specs.PieceWorks.{read_object, create_copy, write_entry, table_with_entry}
 use Rattle.guest_driver.specs.Refusals.{refusal_on}
 use Rattle.guest_driver.specs.OnDisk.{pieces_left, IsPieceOf}
 use Rattle.guest_driver.specs.Driver as drivers
-use Rattle.guest_driver.specs.Driver.{DriverStage, InPlace, Fetching, Creating, Entering, Driver, Reads, Writes, DriverStep, work_step, read_on, write_piece_on, write_on, begin_unless_refused, begin_driver, write_done, driver_on_done}
+use Rattle.guest_driver.specs.Driver.{DriverStage, InPlace, Fetching, Creating, Entering, Driver, Reads, Writes, DriverStep, work_step}
+use Rattle.guest_driver.specs.Driver.{read_on, write_piece_on, write_on, begin_unless_refused, begin_driver, write_done, driver_on_done}
 use Rattle.guest_driver.proofs.BeginLemmas.{ends-inside, asks-some, pieces-are}
 use Rattle.guest_driver.proofs.ExtentLemmas.{objects_most}
-use Rattle.vdi_ops.specs.Op.{Task, Opening, WritingBack, Tagging, Copying, Making, DiskChange, Stays, Opens, Closes, OpStage, Asked, Working, Publishing, Answered}
+use Rattle.vdi_ops.specs.Op.{Task, Opening, WritingBack, Tagging, Copying, Making, DiskChange, Stays, Opens, Closes, OpStage, Asked}
+use Rattle.vdi_ops.specs.Op.{Working, Publishing, Answered}
 use Rattle.disk_check.specs.Table.{own_indexes}
 use Rattle.disk_check.specs.Value.{pieces_in, value_of}
 use Rattle.disk_check.specs.Check as checks
-use Rattle.disk_check.specs.Check.{Check, CheckStage, CheckStep, Comparing, WritingBack as Rewriting, check_on, begun_check, begin_check, check_done_at, check_on_done, left_of}
+use Rattle.disk_check.specs.Check.{Check, CheckStage, CheckStep, Comparing, WritingBack as Rewriting, check_on, begun_check, begin_check}
+use Rattle.disk_check.specs.Check.{check_done_at, check_on_done, left_of}
 use Rattle.disk_check.proofs.TableLemmas.{own_indexes-own}
 use Rattle.sheep_node.specs.declared.course.Course.{Course}
 use Rattle.sheep_node.specs.declared.course.Course.TheVariants as courses
@@ -178,7 +183,8 @@ module _ (known : List Effect) where
   creates_whole vid spec kind (works.ReadAll oid policy size) disk of_disk of_kind whole = tt
 
   -- a work on an object of a disk, and one on its inode
-  object_known : (vid index : ℕ) (spec : VdiSpec) (work : ObjWork) → IsKnownDisk vid spec → Few index → oid_of work ≡ object_number vid index
+  object_known : (vid index : ℕ) (spec : VdiSpec) (work : ObjWork) → IsKnownDisk vid spec → Few index
+      → oid_of work ≡ object_number vid index
       → policy_of work ≡ spec.policy → MakesWhole (2 ^ spec.shift) work → IsKnownWork work
   object_known vid index spec work disk few oid policy whole = record {
     policy = subst IsPolicy (sym policy) disk.spec_valid.policy;
@@ -188,13 +194,15 @@ module _ (known : List Effect) where
         (ap kind_of oid ∙ kind-of_object vid index disk.id few) whole;
   }
 
-  pub inode_known : (vid : ℕ) (spec : VdiSpec) (work : ObjWork) → IsKnownDisk vid spec → oid_of work ≡ inode_number vid → policy_of work ≡ spec.policy
+  pub inode_known : (vid : ℕ) (spec : VdiSpec) (work : ObjWork) → IsKnownDisk vid spec → oid_of work ≡ inode_number vid
+      → policy_of work ≡ spec.policy
       → MakesWhole INODE_BYTES work → IsKnownWork work
   inode_known vid spec work disk oid policy whole = record {
     policy = subst IsPolicy (sym policy) disk.spec_valid.policy;
     making = λ making. subst (IsOnKnownDisk (oid_of work)) (sym policy)
         (on_disk vid (oid_of work) spec disk (ap vid_of oid ∙ vid-of_inode vid disk.id));
-    whole = creates_whole vid spec Inode work disk (ap vid_of oid ∙ vid-of_inode vid disk.id) (ap kind_of oid ∙ kind-of_inode vid disk.id) whole;
+    whole = creates_whole vid spec Inode work disk (ap vid_of oid ∙ vid-of_inode vid disk.id) (ap kind_of oid ∙ kind-of_inode vid disk.id)
+        whole;
   }
 
   -- ---- a read or write
@@ -211,20 +219,32 @@ module _ (known : List Effect) where
     reads_known : (told : List ℕ) (rest : List Piece) → All FewAt rest → IsKnownDriverStep (read_on inode told rest)
     unfolding read_on
     reads_known told [] few = record { inode = is; few = few; outcome = tt }
-    reads_known told (piece ∷ rest) few = by_hole (entry_of inode piece == 0) (reads_known (told ++ zeros piece.size) rest (All-tail FewAt piece rest few))
+    reads_known told (piece ∷ rest) few =
+        by_hole (entry_of inode piece == 0) (reads_known (told ++ zeros piece.size) rest (All-tail FewAt piece rest few))
       where
         by_hole : (b : Bool) → IsKnownDriverStep (read_on inode (told ++ zeros piece.size) rest)
             → IsKnownDriverStep (cond b (read_on inode (told ++ zeros piece.size) rest)
             (work_step inode (Reads told piece rest) (read_piece inode piece (entry_of inode piece))))
         by_hole true later = later
-        by_hole false later = record { inode = is; few = few; outcome = read_known (read_piece inode piece (entry_of inode piece)) policy_valid refl }
+        by_hole false later =
+            record { inode = is; few = few; outcome = read_known (read_piece inode piece (entry_of inode piece)) policy_valid refl }
 
     piece_known : (payload : List ℕ) (piece : Piece) (rest : List Piece) (backing : Backing) → All FewAt (piece ∷ rest)
         → IsKnownDriverStep (write_piece_on inode payload piece rest backing)
     piece_known payload piece rest Hole few =
-        record { inode = is; few = few; outcome = object_known inode.vid piece.index inode.spec (create_piece inode payload piece) is.disk (All-head FewAt piece rest few) refl refl refl }
+        record {
+          inode = is;
+          few = few;
+          outcome = object_known inode.vid piece.index inode.spec (create_piece inode payload piece) is.disk (All-head FewAt piece rest few)
+              refl refl refl;
+        }
     piece_known payload piece rest Own few =
-        record { inode = is; few = few; outcome = object_known inode.vid piece.index inode.spec (write_piece inode payload piece) is.disk (All-head FewAt piece rest few) refl refl tt }
+        record {
+          inode = is;
+          few = few;
+          outcome = object_known inode.vid piece.index inode.spec (write_piece inode payload piece) is.disk (All-head FewAt piece rest few)
+              refl refl tt;
+        }
     piece_known payload piece rest (Inherited vid) few =
         record { inode = is; few = few; outcome = read_known (read_object inode piece vid) policy_valid refl }
 
@@ -235,8 +255,8 @@ module _ (known : List Effect) where
     pub all_few : (offset size : ℕ) → 1 ≤ size → offset + size ≤ inode.spec.size → All FewAt (pieces inode.spec.shift offset size)
     all_few offset size some within =
         let most : objects_of inode.spec ≤ OBJECTS_MAX = objects_most inode.spec is.disk.spec_valid in
-        All-weaker (IsPieceOf inode.spec) FewAt (λ piece of. let here = of.object in omega (arith, most, here)) (pieces inode.spec.shift offset size)
-        (pieces-are inode.spec offset size some within)
+        All-weaker (IsPieceOf inode.spec) FewAt (λ piece of. let here = of.object in omega (arith, most, here))
+        (pieces inode.spec.shift offset size) (pieces-are inode.spec offset size some within)
 
     pub with_entry : (piece : Piece) → IsKnownInode (table_with_entry inode piece)
     with_entry piece =
@@ -252,9 +272,11 @@ module _ (known : List Effect) where
       (all_few disk.inode is offset size (asks-some (disk_asks.Read offset size) whole) (ends-inside disk (disk_asks.Read offset size) e))
   begun_known disk (disk_asks.Write offset payload) None is whole e =
       writes_known disk.inode is payload (pieces disk.inode.spec.shift offset (length payload))
-      (all_few disk.inode is offset (length payload) (asks-some (disk_asks.Write offset payload) whole) (ends-inside disk (disk_asks.Write offset payload) e))
+      (all_few disk.inode is offset (length payload) (asks-some (disk_asks.Write offset payload) whole)
+      (ends-inside disk (disk_asks.Write offset payload) e))
 
-  pub driver_begins-known : (disk : Disk) (ask : DiskAsk) → IsKnownInode disk.inode → IsTrue (is_ask ask) → IsKnownDriverStep (begin_driver disk ask)
+  pub driver_begins-known : (disk : Disk) (ask : DiskAsk) → IsKnownInode disk.inode → IsTrue (is_ask ask)
+      → IsKnownDriverStep (begin_driver disk ask)
   unfolding begin_driver
   driver_begins-known disk ask is whole = begun_known disk ask (refusal_on disk false ask) is whole refl
 
@@ -262,13 +284,19 @@ module _ (known : List Effect) where
       → All FewAt (piece ∷ rest) → IsKnownDriverStep (write_done inode bytes payload piece rest stage)
   done_known inode bytes payload piece rest InPlace is few = writes_known inode is payload rest (All-tail FewAt piece rest few)
   done_known inode bytes payload piece rest Fetching is few =
-      record { inode = is; few = few; outcome = object_known inode.vid piece.index inode.spec (create_copy inode payload piece bytes) is.disk (All-head FewAt piece rest few) refl refl refl }
+      record {
+        inode = is;
+        few = few;
+        outcome = object_known inode.vid piece.index inode.spec (create_copy inode payload piece bytes) is.disk
+            (All-head FewAt piece rest few) refl refl refl;
+      }
   done_known inode bytes payload piece rest Creating is few =
       record { inode = is; few = few; outcome = inode_known inode.vid inode.spec (write_entry inode piece) is.disk refl refl tt }
   done_known inode bytes payload piece rest Entering is few =
       writes_known (table_with_entry inode piece) (with_entry inode is piece) payload rest (All-tail FewAt piece rest few)
 
-  pub driver_goes_on-known : (inode : Content) (bytes : List ℕ) (driver : Driver) (step : DriverStep) → driver_on_done inode bytes driver ≡ Some step
+  pub driver_goes_on-known : (inode : Content) (bytes : List ℕ) (driver : Driver) (step : DriverStep)
+      → driver_on_done inode bytes driver ≡ Some step
       → IsKnownInode inode → All FewAt (pieces_left driver) → IsKnownDriverStep step
   unfolding driver_on_done
   driver_goes_on-known inode bytes (Reads told piece rest) step next is few =
@@ -283,7 +311,8 @@ module _ (known : List Effect) where
     pub check : IsKnownCheck step.check
     pub outcome : IsKnownOutcome (outcome_of_check step.act)
 
-  check_on-known : (check : Check) (left : List ℕ) → IsKnownDisk check.vid check.spec → All Few left → IsKnownCheckStep (check_on check left)
+  check_on-known : (check : Check) (left : List ℕ) → IsKnownDisk check.vid check.spec → All Few left
+      → IsKnownCheckStep (check_on check left)
   check_on-known check [] disk few = record { check = record { disk = disk; within = All-nil Few }; outcome = tt }
   check_on-known check (index ∷ later) disk few = record {
     check = record { disk = disk; within = few };
@@ -306,7 +335,8 @@ module _ (known : List Effect) where
       by_stage (Comparing index later) next few = given IsKnownCheckStep next (record {
         check = record { disk = is.disk; within = All-tail Few index later few };
         outcome = object_known check.vid index check.spec
-            (checks.write_value check index (value_of check.spec.policy (pieces_in check.spec bytes))) is.disk (All-head Few index later few) refl refl tt;
+            (checks.write_value check index (value_of check.spec.policy (pieces_in check.spec bytes))) is.disk
+            (All-head Few index later few) refl refl tt;
       })
       by_stage (Rewriting later) next few = given IsKnownCheckStep next (check_on-known check later is.disk few)
       by_stage checks.Answered next few = absurd (cc (next))

@@ -1,5 +1,6 @@
 -- What is known of a message of an open create or write fits its fate: kept by each step of a node, and by what is told of a message.
-use Rattle.std.proofs.Common.{◌≡◌, ◌≢◌, ◌⊎◌, inl, inr, ⊎_elim, arith, ℕ, zero, suc, ◌+◌, ◌-◌, ◌≤◌, ◌&&◌, Bool, true, false, cond, List, [], ◌∷◌, ◌++◌, Option, Some, None, option_map, option_and_then, slice_get, refl, sym, ap, subst, ◌∙◌}
+use Rattle.std.proofs.Common.{◌≡◌, ◌≢◌, ◌⊎◌, inl, inr, ⊎_elim, arith, ℕ, zero, suc, ◌+◌, ◌-◌, ◌≤◌, ◌&&◌, Bool, true, false, cond, List, []}
+use Rattle.std.proofs.Common.{◌∷◌, ◌++◌, Option, Some, None, option_map, option_and_then, slice_get, refl, sym, ap, subst, ◌∙◌}
 use Rattle.std.specs.List.{cons_option, filter_map, range_with_len}
 use Rattle.std.specs.FinMap as tree
 use Rattle.std.proofs.lemmas.Option.{same_Some, slice_get-map}
@@ -10,12 +11,15 @@ use Rattle.gateway.specs.declared.message.Status.{Status}
 use Rattle.gateway.specs.declared.message.Status.TheVariants.{Unanswered, Succeeded, Refused, Lost}
 use Rattle.gateway.specs.Work.{is_making}
 use Rattle.gateway.specs.Attempt as gateways
-use Rattle.gateway.specs.State.{WorkStage, Work, Open, Ended, WaitsForMembers, asker}
+use Rattle.gateway.specs.State.{WorkStage, Work, Open, Ended, WaitsForMembers, asker, is_awaited_in}
 use Rattle.sheep_node.specs.declared.course.Request.{Request}
 use Rattle.sheep_node.specs.State.{Node}
 use Rattle.sheep_node.proofs.AwaitedWorks.{Works}
 use Rattle.sheep_world.specs.World.{Host}
-use Rattle.overlap_law.specs.Attempts.{AttemptRecord, MessageFate, Flying, Served, Doomed, known_fate, fates_with, receivers, is_first, has_message, beginning, beginning_with, attempt_begun_with, attempts_begun_by}
+use Rattle.proof_tools.proofs.FiniteMaps.{get-entry}
+use Rattle.proof_tools.proofs.Lists.{find-contains}
+use Rattle.overlap_law.specs.Attempts.{AttemptRecord, MessageFate, Flying, Served, Doomed, known_fate, fates_with, receivers, is_first}
+use Rattle.overlap_law.specs.Attempts.{has_message, beginning, beginning_with, attempt_begun_with, attempts_begun_by}
 use Rattle.overlap_law.specs.OpenWorks.{IsTheSame}
 use Rattle.overlap_law.proofs.AttemptLists.{got_map, fates_told}
 use Rattle.overlap_law.proofs.OpenAttempts.{WasOpen}
@@ -56,7 +60,8 @@ fate_told told sender number place now attempt = by_has (has_message sender numb
     by_has true got = fate_with place (number - attempt.first) told now attempt.fates got
     by_has false got = (now, got, inl refl)
 
-pub fits_later : (status : Status) (told was now : MessageFate) → (now ≡ was) ⊎ (now ≡ known_fate told was) → FitsFate status was → FitsFate status now
+pub fits_later : (status : Status) (told was now : MessageFate) → (now ≡ was) ⊎ (now ≡ known_fate told was) → FitsFate status was
+    → FitsFate status now
 fits_later status told was now either is = ⊎_elim
     (λ (same : now ≡ was). subst (FitsFate status) (sym same) is)
     (λ (later : now ≡ known_fate told was). subst (FitsFate status) (sym later) (fits_told status told was is))
@@ -65,7 +70,8 @@ fits_later status told was now either is = ⊎_elim
 -- ---- the record of an attempt that was open
 
 -- what is at a place of one list of nodes is at that of messages to these
-message_at : (messages others : List Message) → receivers messages ≡ receivers others → (place : ℕ) (m : Message) → slice_get others place ≡ Some m
+message_at : (messages others : List Message) → receivers messages ≡ receivers others → (place : ℕ) (m : Message)
+    → slice_get others place ≡ Some m
     → (message : Message) × (slice_get messages place ≡ Some message)
 message_at messages others same place m got =
     let at : slice_get (receivers messages) place ≡ Some m.node
@@ -75,7 +81,8 @@ message_at messages others same place m got =
     (message, found)
 
 -- the record of an open attempt was that of what was open
-pub was_same : (old new : Node) (works : Works) (req : ℕ) (work : Work) (current : gateways.Attempt) (attempt : AttemptRecord) → new.me ≡ old.me
+pub was_same : (old new : Node) (works : Works) (req : ℕ) (work : Work) (current : gateways.Attempt) (attempt : AttemptRecord)
+    → new.me ≡ old.me
     → (w : WasOpen works req work current) → IsTheSame new req work.work current attempt → IsTheSame old req w.was.work w.before attempt
 was_same old new works req work current attempt me w same = record {
   gateway = same.gateway ∙ me;
@@ -91,15 +98,24 @@ was_same old new works req work current attempt me w same = record {
 }
 
 -- whatever its fates are
-pub refated_same : (node : Node) (req : ℕ) (asked : ObjWork) (current : gateways.Attempt) (attempt : AttemptRecord) (fates : List MessageFate)
+pub refated_same : (node : Node) (req : ℕ) (asked : ObjWork) (current : gateways.Attempt) (attempt : AttemptRecord)
+    (fates : List MessageFate)
     → IsTheSame node req asked current (record attempt { fates = fates }) → IsTheSame node req asked current attempt
 refated_same node req asked current attempt fates same =
-    record { gateway = same.gateway; request = same.request; work = same.work; epoch = same.epoch; targets = same.targets; numbers = same.numbers }
+    record {
+      gateway = same.gateway;
+      request = same.request;
+      work = same.work;
+      epoch = same.epoch;
+      targets = same.targets;
+      numbers = same.numbers;
+    }
 
 -- ---- the attempts that a step began
 
 -- what is at a place of two lists one behind the other
-pub got_either : {X : Type 0} (xs ys : List X) (j : ℕ) (x : X) → slice_get (xs ++ ys) j ≡ Some x → (slice_get xs j ≡ Some x) ⊎ ((k : ℕ) × (slice_get ys k ≡ Some x))
+pub got_either : {X : Type 0} (xs ys : List X) (j : ℕ) (x : X) → slice_get (xs ++ ys) j ≡ Some x
+    → (slice_get xs j ≡ Some x) ⊎ ((k : ℕ) × (slice_get ys k ≡ Some x))
 got_either [] ys j x got = inr (j, got)
 got_either (y ∷ xs) ys zero x got = inl got
 got_either (y ∷ xs) ys (suc j) x got = got_either xs ys j x got
@@ -110,6 +126,9 @@ pub record IsBegunOf (host : Host) (low : ℕ) (attempt : AttemptRecord) : Type 
   pub gateway : attempt.gateway ≡ host.node.me
   pub request : Request
   pub asked : tree.get host.node.requests attempt.req ≡ Some request
+  pub work : Work
+  pub at_gateway : tree.get host.node.gateway.works attempt.req ≡ Some work
+  pub making : is_making work.work ≡ true
 
 -- by a number
 record IsBegunWith (host : Host) (number : ℕ) (attempt : AttemptRecord) : Type 0 where
@@ -117,35 +136,52 @@ record IsBegunWith (host : Host) (number : ℕ) (attempt : AttemptRecord) : Type
   gateway : attempt.gateway ≡ host.node.me
   request : Request
   asked : tree.get host.node.requests attempt.req ≡ Some request
+  work : Work
+  at_gateway : tree.get host.node.gateway.works attempt.req ≡ Some work
+  making : is_making work.work ≡ true
 
-begun_with : (host : Host) (number : ℕ) (attempt : AttemptRecord) → attempt_begun_with host number ≡ Some attempt → IsBegunWith host number attempt
-begun_with host number attempt = by_found (asker number host.node.gateway)
+begun_with : (host : Host) (number : ℕ) (attempt : AttemptRecord) → attempt_begun_with host number ≡ Some attempt
+    → IsBegunWith host number attempt
+begun_with host number attempt = by_found (asker number host.node.gateway) refl
   where
-    by_request : (req : ℕ) (work : ObjWork) (current : gateways.Attempt) (making first : Bool) (o : Option Request) → tree.get host.node.requests req ≡ o
-        → cond (making && first) (option_map (beginning host number req work current) o) None ≡ Some attempt → IsBegunWith host number attempt
-    by_request req work current true true None got is = absurd (cc (is))
-    by_request req work current true true (Some request) got is =
-        let same = same_Some (beginning host number req work current request) attempt is in
+    by_request : (req : ℕ) (work : Work) → tree.get host.node.gateway.works req ≡ Some work
+        → (current : gateways.Attempt) (making first : Bool)
+        → is_making work.work ≡ making → (o : Option Request) → tree.get host.node.requests req ≡ o
+        → cond (making && first) (option_map (beginning host number req work.work current) o) None ≡ Some attempt
+        → IsBegunWith host number attempt
+    by_request req work there current true true makes None got is = absurd (cc (is))
+    by_request req work there current true true makes (Some request) got is =
+        let same = same_Some (beginning host number req work.work current request) attempt is in
         record {
           first_so = sym (ap (λ (a : AttemptRecord). a.first) same);
           gateway = sym (ap (λ (a : AttemptRecord). a.gateway) same);
           request = request;
           asked = sym (ap (λ (a : AttemptRecord). tree.get host.node.requests a.req) same) ∙ got;
+          work = work;
+          at_gateway = sym (ap (λ (a : AttemptRecord). tree.get host.node.gateway.works a.req) same) ∙ there;
+          making = makes;
         }
-    by_request req work current true false o got is = absurd (cc (is))
-    by_request req work current false first o got is = absurd (cc (is))
+    by_request req work there current true false makes o got is = absurd (cc (is))
+    by_request req work there current false first makes o got is = absurd (cc (is))
 
-    by_stage : (req : ℕ) (work : ObjWork) (stage : WorkStage) → beginning_with host number req work stage ≡ Some attempt → IsBegunWith host number attempt
-    by_stage req work (Open current) is = by_request req work current (is_making work) (is_first number current.messages) (tree.get host.node.requests req) refl is
-    by_stage req work Ended is = absurd (cc (is))
-    by_stage req work (WaitsForMembers epoch) is = absurd (cc (is))
+    by_stage : (req : ℕ) (work : Work) → tree.get host.node.gateway.works req ≡ Some work → (stage : WorkStage)
+        → beginning_with host number req work.work stage ≡ Some attempt → IsBegunWith host number attempt
+    by_stage req work there (Open current) is =
+        by_request req work there current (is_making work.work) (is_first number current.messages) refl (tree.get host.node.requests req)
+        refl is
+    by_stage req work there Ended is = absurd (cc (is))
+    by_stage req work there (WaitsForMembers epoch) is = absurd (cc (is))
 
-    by_found : (o : Option (ℕ × Work)) → option_and_then (λ (found : ℕ × Work). beginning_with host number found.0 found.1.work found.1.stage) o ≡ Some attempt
+    by_found : (o : Option (ℕ × Work)) → asker number host.node.gateway ≡ o
+        → option_and_then (λ (found : ℕ × Work). beginning_with host number found.0 found.1.work found.1.stage) o ≡ Some attempt
         → IsBegunWith host number attempt
-    by_found None is = absurd (cc (is))
-    by_found (Some found) is = by_stage found.0 found.1.work found.1.stage is
+    by_found None at is = absurd (cc (is))
+    by_found (Some found) at is =
+        let there = find-contains (λ (entry : ℕ × Work). is_awaited_in number entry.1) (tree.entries host.node.gateway.works) found at in
+        by_stage found.0 found.1 (get-entry host.node.gateway.works found there.0) found.1.stage is
 
-first_begun : (host : Host) (low : ℕ) (attempt : AttemptRecord) (rest : List AttemptRecord) (o : Option AttemptRecord) → attempt_begun_with host low ≡ o
+first_begun : (host : Host) (low : ℕ) (attempt : AttemptRecord) (rest : List AttemptRecord) (o : Option AttemptRecord)
+    → attempt_begun_with host low ≡ o
     → ((k : ℕ) → slice_get rest k ≡ Some attempt → IsBegunOf host low attempt) → (k : ℕ) → slice_get (cons_option o rest) k ≡ Some attempt
     → IsBegunOf host low attempt
 first_begun host low attempt rest None is later k got = later k got
@@ -153,7 +189,15 @@ first_begun host low attempt rest (Some first) is later zero got =
     let same = same_Some first attempt got in
     let own = begun_with host low attempt (is ∙ ap Some same) in
     let at = own.first_so in
-    record { above = omega (arith, at); gateway = own.gateway; request = own.request; asked = own.asked }
+    record {
+      above = omega (arith, at);
+      gateway = own.gateway;
+      request = own.request;
+      asked = own.asked;
+      work = own.work;
+      at_gateway = own.at_gateway;
+      making = own.making;
+    }
 first_begun host low attempt rest (Some first) is later (suc k) got = later k got
 
 got_begun : (host : Host) (low count k : ℕ) (attempt : AttemptRecord)
@@ -164,7 +208,15 @@ got_begun host low (suc count) k attempt got =
     (λ place here.
     let is = got_begun host (low + 1) count place attempt here in
     let above = is.above in
-    record { above = omega (arith, above); gateway = is.gateway; request = is.request; asked = is.asked }) k got
+    record {
+      above = omega (arith, above);
+      gateway = is.gateway;
+      request = is.request;
+      asked = is.asked;
+      work = is.work;
+      at_gateway = is.at_gateway;
+      making = is.making;
+    }) k got
 
 -- an attempt that a step began has numbers that were given in it
 pub begun_above : (old new : Host) (k : ℕ) (attempt : AttemptRecord) → slice_get (attempts_begun_by old new) k ≡ Some attempt
@@ -181,3 +233,11 @@ unfolding attempts_begun_by
 begun_asked old new k attempt got =
     let is = got_begun new old.node.sends (new.node.sends - old.node.sends) k attempt got in
     (is.request, is.asked)
+
+-- with a work that makes something
+pub begun_makes : (old new : Host) (k : ℕ) (attempt : AttemptRecord) → slice_get (attempts_begun_by old new) k ≡ Some attempt
+    → (work : Work) × (tree.get new.node.gateway.works attempt.req ≡ Some work) × (is_making work.work ≡ true)
+unfolding attempts_begun_by
+begun_makes old new k attempt got =
+    let is = got_begun new old.node.sends (new.node.sends - old.node.sends) k attempt got in
+    (is.work, is.at_gateway, is.making)

@@ -11,7 +11,8 @@ use Rattle.gateway.specs.Attempt as gateways
 use Rattle.gateway.specs.State.{Work}
 use Rattle.sheep_node.specs.State.{Node}
 use Rattle.sheep_world.specs.World.{Host}
-use Rattle.sheep_world.specs.NodeCauses.{NodeCause, GuestAsks, RequestComes, ReplyComes, LossIsTold, EntryIsRead, EntryIsPut, RecoveryTicks, WorkIsRetried}
+use Rattle.sheep_world.specs.NodeCauses.{NodeCause, GuestAsks, RequestComes, ReplyComes, LossIsTold, EntryIsRead, EntryIsPut, RecoveryTicks}
+use Rattle.sheep_world.specs.NodeCauses.{WorkIsRetried, ClientAsks}
 use Rattle.overlap_law.specs.Attempts.{AttemptRecord, MessageFate, Doomed, known_fate, attempts_with_fate, fate_of_say}
 use Rattle.overlap_law.specs.OpenWorks.{IsTheSame, IsOpenAs}
 use Rattle.overlap_law.specs.Reached.{Hosts}
@@ -73,6 +74,7 @@ caused_was node (EntryIsRead entry) attempts j now got = as_it_was attempts j no
 caused_was node (EntryIsPut entry) attempts j now got = as_it_was attempts j now got
 caused_was node RecoveryTicks attempts j now got = as_it_was attempts j now got
 caused_was node WorkIsRetried attempts j now got = as_it_was attempts j now got
+caused_was node (ClientAsks req ask) attempts j now got = as_it_was attempts j now got
 
 -- what was known by a node that is as it was
 pub one_fits : (node : Node) (before : List AttemptRecord) (j : ℕ) (now : AttemptRecord) → WasMarked before j now → NodeFits node before
@@ -81,9 +83,11 @@ pub one_fits : (node : Node) (before : List AttemptRecord) (j : ℕ) (now : Atte
     → FitsFate message.status fate
 one_fits node before j now w fit req work current place message fate opened got has =
     let (f, was_at, either) = w.fates_so place fate (ap (λ (a : AttemptRecord). slice_get a.fates place) w.same ∙ has) in
-    let same = refated_same node req work.work current w.was w.fates (subst (IsTheSame node req work.work current) (sym w.same) opened.same) in
+    let same = refated_same node req work.work current w.was w.fates
+    (subst (IsTheSame node req work.work current) (sym w.same) opened.same) in
     fits_later message.status w.told f fate either
-    (fit j w.was w.at req work current place message f (record { there = opened.there; making = opened.making; stage = opened.stage; same = same }) got was_at)
+    (fit j w.was w.at req work current place message f
+    (record { there = opened.there; making = opened.making; stage = opened.stage; same = same }) got was_at)
 
 pub still_fits : (node : Node) (before after : List AttemptRecord)
     → ((j : ℕ) (now : AttemptRecord) → slice_get after j ≡ Some now → WasMarked before j now) → NodeFits node before → NodeFits node after

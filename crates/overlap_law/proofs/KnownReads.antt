@@ -1,7 +1,8 @@
 -- Each open read of a session is on an id that the session may write, or on a disk that became a snapshot by what the node has read: for
 -- a read or write reads what an entry of the open disk's table names, a check its own disk, and a command what it was granted or what
 -- that is made from.
-use Rattle.std.proofs.Common.{◌≡◌, ◌⊎◌, inl, inr, ⊎_elim, arith, ℕ, zero, suc, ◌<◌, Bool, true, false, List, [], ◌∷◌, All, length, Option, Some, None, IfSome, unwrap_or, refl, sym, ap, subst, ◌∙◌}
+use Rattle.std.proofs.Common.{◌≡◌, ◌⊎◌, inl, inr, ⊎_elim, arith, ℕ, zero, suc, ◌<◌, Bool, true, false, List, [], ◌∷◌, All, length, Option}
+use Rattle.std.proofs.Common.{Some, None, IfSome, unwrap_or, refl, sym, ap, subst, ◌∙◌}
 use Rattle.std.specs.FinMap as tree
 use Rattle.std.specs.List.{slice_index}
 use Rattle.std.proofs.lemmas.List.Elements.{All-head, All-tail}
@@ -52,6 +53,7 @@ use Rattle.overlap_law.proofs.SharedTables.{IsSharedEntry, IsSharedDisk, IsShare
 use Rattle.overlap_law.proofs.WaitedSteps.{no_id, Waits}
 use Rattle.overlap_law.proofs.WorksAtCourses.{HaveAt, IsAt}
 use Rattle.overlap_law.proofs.WritersOfWorks.{its_course, locked_open, on_locked}
+use Rattle.overlap_law.specs.RequestsOfScript.{is_of_client}
 
 -- ---- numbers
 
@@ -77,6 +79,7 @@ module _ (log : List Entry) (n : ℕ) (node : Node) (own : node.me.0 ≡ n) (epo
     → IsOpenAtCourse (opened_in request.session node.sessions) request.course)
     (well : HasWellWorks node) (req : ℕ) (work : Work) (got : tree.get node.gateway.works req ≡ Some work)
     (request : Request) (there : tree.get node.requests req ≡ Some request) (reading : is_making work.work ≡ false)
+    (own_course : is_of_client request.course ≡ false)
     (shared : IsSharing node)
     (waiting : HaveAt Waits node.gateway.works node.requests node.sessions) (sound : HasSoundWorks node) where
   abbrev pub IsKnownRead : Type 0
@@ -262,7 +265,8 @@ module _ (log : List Entry) (n : ℕ) (node : Node) (own : node.me.0 ≡ n) (epo
       waits.disk waits.there driver known waits.awaited
   by_course (Commanding op) at waits allowed known = staged op at op.stage refl waits
   by_course (Checking check) at waits allowed known = checked check check.stage refl at waits.disk waits.is allowed known
-  by_course (DoingWork asked) at waits allowed known = absurd allowed
+  by_course (DoingWork asked) at waits allowed known =
+      let clients : is_of_client request.course ≡ true = ap is_of_client at in absurd (cc (clients, own_course))
   by_course (AwaitingDecision entry) at waits allowed known = absurd waits
 
   pub read_known : IsMayWriteOf log n req work node ⊎ (was_snapped node.peer.entries (vid_of (oid_of work.work)) ≡ true)

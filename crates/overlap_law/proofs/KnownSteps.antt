@@ -7,7 +7,8 @@ use Rattle.sheep_world.specs.World.{Host, World, host_at, is_host_up}
 use Rattle.sheep_world.specs.OneWork.{IsSentInRange}
 use Rattle.sheep_world.specs.Began.{Began}
 use Rattle.sheep_world.specs.HoldsTogether.{HoldsTogether}
-use Rattle.sheep_world.specs.NodeCauses.{NodeCause, GuestAsks, RequestComes, ReplyComes, LossIsTold, EntryIsRead, EntryIsPut, RecoveryTicks, WorkIsRetried, input_of_cause, event_of_cause, IsCause, world_after_cause}
+use Rattle.sheep_world.specs.NodeCauses.{NodeCause, GuestAsks, RequestComes, ReplyComes, LossIsTold, EntryIsRead, EntryIsPut, RecoveryTicks}
+use Rattle.sheep_world.specs.NodeCauses.{WorkIsRetried, ClientAsks, input_of_cause, event_of_cause, IsCause, world_after_cause}
 use Rattle.sheep_world.specs.EventKinds.{outcome_of_step}
 use Rattle.sheep_world.proofs.AskedWorks.{ToldIsBelow}
 use Rattle.sheep_world.proofs.BegunWorlds.{goes_on}
@@ -22,7 +23,8 @@ use Rattle.overlap_law.specs.StepMoments.{SteppingNode, IsStepping, last_in_step
 use Rattle.overlap_law.specs.MomentChanges.{RunsAreInRange}
 
 -- what a node is told of in a step is a message that it sent
-pub told_below : (script : List Statement) (world : World) (n : ℕ) (host : Host) (cause : NodeCause) → IsCause script world n host cause → IsReady script world n host
+pub told_below : (script : List Statement) (world : World) (n : ℕ) (host : Host) (cause : NodeCause) → IsCause script world n host cause
+    → IsReady script world n host
     → ToldIsBelow (input_of_cause cause) host.node.sends
 told_below script world n host (GuestAsks session req ask) so ready number status told = absurd told
 told_below script world n host (RequestComes name to request) so ready number status told = absurd told
@@ -37,6 +39,7 @@ told_below script world n host (EntryIsRead entry) so ready number status told =
 told_below script world n host (EntryIsPut entry) so ready number status told = absurd told
 told_below script world n host RecoveryTicks so ready number status told = absurd told
 told_below script world n host WorkIsRetried so ready number status told = absurd told
+told_below script world n host (ClientAsks req ask) so ready number status told = absurd told
 
 -- what holds of a step in a world of a run, and what it sends
 pub record IsKnownStep (script : List Statement) (world : World) (stepping : SteppingNode) : Type 0 where
@@ -52,18 +55,29 @@ module _ (script : List Statement) (range : RunsAreInRange script) (world : Worl
   together = holds_together script range.is_script range.room range.messages world began
 
   -- what a step sends can be spelled
-  sent_in_range : (n : ℕ) (host : Host) (there : host_at n world ≡ Some host) (up : is_host_up host ≡ true) (cause : NodeCause) → IsCause script world n host cause
+  sent_in_range : (n : ℕ) (host : Host) (there : host_at n world ≡ Some host) (up : is_host_up host ≡ true) (cause : NodeCause)
+      → IsCause script world n host cause
       → Began script (world_after_cause script n host cause world) → IsSentInRange (world_after_cause script n host cause world)
-  sent_in_range n host there up (GuestAsks session req ask) so next = (range.messages (world_after_cause script n host (GuestAsks session req ask) world) next).sent (λ same. absurd (cc (same)))
-  sent_in_range n host there up (RequestComes name to request) so next = (range.messages (world_after_cause script n host (RequestComes name to request) world) next).sent (λ same. absurd (cc (same)))
-  sent_in_range n host there up (ReplyComes name from rsp) so next = (range.messages (world_after_cause script n host (ReplyComes name from rsp) world) next).sent (λ same. absurd (cc (same)))
-  sent_in_range n host there up (LossIsTold name packet) so next = (range.messages (world_after_cause script n host (LossIsTold name packet) world) next).sent (λ same. absurd (cc (same)))
-  sent_in_range n host there up (EntryIsRead entry) so next = (range.messages (world_after_cause script n host (EntryIsRead entry) world) next).sent (λ same. absurd (cc (same)))
-  sent_in_range n host there up (EntryIsPut entry) so next = (range.messages (world_after_cause script n host (EntryIsPut entry) world) next).sent (λ same. absurd (cc (same)))
+  sent_in_range n host there up (GuestAsks session req ask) so next =
+      (range.messages (world_after_cause script n host (GuestAsks session req ask) world) next).sent (λ same. absurd (cc (same)))
+  sent_in_range n host there up (RequestComes name to request) so next =
+      (range.messages (world_after_cause script n host (RequestComes name to request) world) next).sent (λ same. absurd (cc (same)))
+  sent_in_range n host there up (ReplyComes name from rsp) so next =
+      (range.messages (world_after_cause script n host (ReplyComes name from rsp) world) next).sent (λ same. absurd (cc (same)))
+  sent_in_range n host there up (LossIsTold name packet) so next =
+      (range.messages (world_after_cause script n host (LossIsTold name packet) world) next).sent (λ same. absurd (cc (same)))
+  sent_in_range n host there up (EntryIsRead entry) so next =
+      (range.messages (world_after_cause script n host (EntryIsRead entry) world) next).sent (λ same. absurd (cc (same)))
+  sent_in_range n host there up (EntryIsPut entry) so next =
+      (range.messages (world_after_cause script n host (EntryIsPut entry) world) next).sent (λ same. absurd (cc (same)))
   sent_in_range n host there up RecoveryTicks so next = ticks_in_range script range.is_script range.room world began n host there up so
-  sent_in_range n host there up WorkIsRetried so next = (range.messages (world_after_cause script n host WorkIsRetried world) next).sent (λ same. absurd (cc (same)))
+  sent_in_range n host there up WorkIsRetried so next =
+      (range.messages (world_after_cause script n host WorkIsRetried world) next).sent (λ same. absurd (cc (same)))
+  sent_in_range n host there up (ClientAsks req ask) so next =
+      (range.messages (world_after_cause script n host (ClientAsks req ask) world) next).sent (λ same. absurd (cc (same)))
 
-  pub known_at : (n : ℕ) (host : Host) (cause : NodeCause) → host_at n world ≡ Some host → is_host_up host ≡ true → IsCause script world n host cause
+  pub known_at : (n : ℕ) (host : Host) (cause : NodeCause) → host_at n world ≡ Some host → is_host_up host ≡ true
+      → IsCause script world n host cause
       → Began script (world_after_cause script n host cause world) → IsKnownStep script world (record { n = n; host = host; cause = cause })
   known_at n host cause there up so next =
       let ready = is_ready script world together n host there up in
@@ -79,4 +93,5 @@ module _ (script : List Statement) (range : RunsAreInRange script) (world : Worl
   pub known_step : (stepping : SteppingNode) → IsStepping script world stepping → IsKnownStep script world stepping
   known_step stepping is =
       known_at stepping.n stepping.host stepping.cause is.there is.up is.caused
-      (goes_on script (event_of_cause stepping.n stepping.cause) world (outcome_of_step script stepping.n stepping.host stepping.cause world) began is.made)
+      (goes_on script (event_of_cause stepping.n stepping.cause) world
+      (outcome_of_step script stepping.n stepping.host stepping.cause world) began is.made)

@@ -35,12 +35,13 @@ use Rattle.sheep_world.specs.MembershipChanges.{lost_host}
 use Rattle.sheep_world.specs.Messages.{wire_with_reply}
 use Rattle.sheep_world.specs.NodeSteps.{wire_with_request}
 use Rattle.sheep_world.specs.NodeCauses.{NodeCause, GuestAsks, RequestComes, ReplyComes, LossIsTold, EntryIsRead, EntryIsPut, RecoveryTicks}
-use Rattle.sheep_world.specs.NodeCauses.{WorkIsRetried, input_of_cause, host_with_node, is_up_among, log_after_cause}
+use Rattle.sheep_world.specs.NodeCauses.{WorkIsRetried, ClientAsks, input_of_cause, host_with_node, is_up_among, log_after_cause}
 use Rattle.sheep_world.specs.Step.{EventOutcome}
 use Rattle.sheep_world.specs.World.{Host, host_at}
 use Rattle.sheep_world.proofs.LostReplies.{got_before}
 use Rattle.sheep_world.proofs.RecoveryMessages.{same_said}
 use Rattle.sheep_world.proofs.ReturningNodes.{stepped_renewed}
+use Rattle.sheep_world.specs.RunsWithAsks.{Move}
 use Rattle.overlap_law.specs.Fates.{CreatesComeFirst}
 use Rattle.overlap_law.specs.Holders.{targets_by, is_good, is_available_disk}
 use Rattle.overlap_law.specs.Lists.{WhatIsNotPendingIsThere}
@@ -91,7 +92,7 @@ pub record StartsWell (start : MomentWithPast) (good_id : ℕ → Bool) : Type 0
   pub fewer : (vid : ℕ) → good_id vid ≡ true → id_at start vid ≡ true
   pub lacked : NothingIsLacked (log_effects start.world.log) good_id start.world.hosts start.world.wire
 
-module _ (script : List Statement) (range : RunsAreInRange script) (events : List Event) (start : MomentWithPast)
+module _ (script : List Statement) (range : RunsAreInRange script) (events : List Move) (start : MomentWithPast)
     (ran : run_with_past script events ≡ Some start) (good_id : ℕ → Bool) (well : StartsWell start good_id) where
   began : Began script start.world
   began = began-with_past script events start ran
@@ -264,6 +265,7 @@ module _ (script : List Statement) (range : RunsAreInRange script) (events : Lis
         inl (sent_replies script range events start ran good_id well.lacked start.world.wire
         (node_step (input_of_cause RecoveryTicks) host.node).outputs.sends name from reply answering)
     replies_come WorkIsRetried is by = absurd by
+    replies_come (ClientAsks req ask) is by = absurd by
 
     at_once : (cause : NodeCause) (is : IsStepping script start.world (by_cause cause)) (by : StepsAtOnce cause)
         → NothingIsLacked (log_effects (ended cause).world.log) good_id (ended cause).world.hosts (ended cause).world.wire
@@ -368,7 +370,7 @@ lacked_of_fewer moment few many fewer lacked = record {
       lacked.told n host there up vid message from reply meant new stands (fewer vid good);
 }
 
-pub lacked_on_the_way : (script : List Statement) → RunsAreInRange script → (events : List Event) (event : Event)
+pub lacked_on_the_way : (script : List Statement) → RunsAreInRange script → (events : List Move) (event : Move)
     (start end before after : MomentWithPast) → run_with_past script events ≡ Some start → next_moment script event start ≡ Some end
     → MomentChange script start before after
     → CreatesComeFirst start.past.attempts

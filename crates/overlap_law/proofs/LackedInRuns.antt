@@ -44,7 +44,7 @@ use Rattle.sheep_node.specs.Step.{node_step}
 use Rattle.sheep_world.specs.World.{Host, World}
 use Rattle.sheep_world.specs.Opening.{format_entry, initial_world}
 use Rattle.sheep_world.specs.NodeCauses.{NodeCause, GuestAsks, RequestComes, ReplyComes, LossIsTold, EntryIsRead, EntryIsPut, RecoveryTicks}
-use Rattle.sheep_world.specs.NodeCauses.{WorkIsRetried, IsCause, input_of_cause}
+use Rattle.sheep_world.specs.NodeCauses.{WorkIsRetried, ClientAsks, IsCause, input_of_cause}
 use Rattle.sheep_world.specs.EventKinds.{log_after_return}
 use Rattle.sheep_world.specs.HostChanges.{HostsKeep}
 use Rattle.sheep_world.specs.Began.{Began}
@@ -253,6 +253,7 @@ module _ (script : List Statement) (range : RunsAreInRange script)
     reads_may (EntryIsPut told) so entry is = absurd (cc (is))
     reads_may RecoveryTicks so entry is = absurd (cc (is))
     reads_may WorkIsRetried so entry is = absurd (cc (is))
+    reads_may (ClientAsks req ask) so entry is = absurd (cc (is))
 
   -- before the first entry nothing is pending
   first_lacks : (me : NodeId) (tries : ℕ) → NodeLacks (nodes.initial_node me tries)

@@ -1,7 +1,8 @@
 -- Over each change of a moment no message for a disk comes to be refused for want of its object, if the disk was available, and is neither
 -- deleted nor given back. For a message that was there is for the same disk as before; a reply that comes was on its way; one that is sent
 -- says nothing of the kind; and of a message that is sent nothing came yet.
-use Rattle.std.proofs.Common.{◌≡◌, ◌≢◌, ◌⊎◌, inl, inr, ⊎_elim, arith, ℕ, zero, suc, ◌==◌, ◌||◌, not, Bool, true, false, cond, List, [], ◌∷◌, fold, Option, Some, is_some, slice_get, refl, sym, ap, subst, ◌∙◌}
+use Rattle.std.proofs.Common.{◌≡◌, ◌≢◌, ◌⊎◌, inl, inr, ⊎_elim, arith, ℕ, zero, suc, ◌==◌, ◌||◌, not, Bool, true, false, cond, List, [], ◌∷◌}
+use Rattle.std.proofs.Common.{fold, Option, Some, is_some, slice_get, refl, sym, ap, subst, ◌∙◌}
 use Rattle.std.specs.List.{list_any}
 use Rattle.std.specs.FinMap as tree
 use Rattle.std.proofs.lemmas.Bool.{and_parts, eqb-true, not-true}
@@ -26,18 +27,20 @@ use Rattle.message_wire.specs.declared.name.MessageName.{MessageName}
 use Rattle.message_wire.specs.declared.packet.Packet.{Packet}
 use Rattle.message_wire.specs.declared.packet.Packet.TheVariants.{Reply}
 use Rattle.message_wire.specs.Message.{message_name}
-use Rattle.sheep_node.specs.declared.event.Event.{Event}
 use Rattle.sheep_node.specs.May.{has_numbers}
 use Rattle.sheep_node.specs.State.{Node}
 use Rattle.sheep_node.specs.StepState.{StepState}
 use Rattle.sheep_node.specs.Changes.{IsTold}
 use Rattle.sheep_world.specs.Began.{Began}
 use Rattle.sheep_world.specs.NodeSteps.{wire_with_request}
-use Rattle.sheep_world.specs.NodeCauses.{NodeCause, GuestAsks, RequestComes, ReplyComes, LossIsTold, EntryIsRead, EntryIsPut, RecoveryTicks, WorkIsRetried, input_of_cause, IsCause, host_with_node, progress_at_cause, wire_at_cause}
+use Rattle.sheep_world.specs.NodeCauses.{NodeCause, GuestAsks, RequestComes, ReplyComes, LossIsTold, EntryIsRead, EntryIsPut, RecoveryTicks}
+use Rattle.sheep_world.specs.NodeCauses.{WorkIsRetried, ClientAsks, input_of_cause, IsCause, host_with_node, progress_at_cause}
+use Rattle.sheep_world.specs.NodeCauses.{wire_at_cause}
 use Rattle.sheep_world.specs.World.{Host}
 use Rattle.sheep_world.proofs.SenderMatch.{packets_of}
 use Rattle.sheep_world.proofs.NodeConditions.{reply_numbered}
 use Rattle.sheep_world.proofs.WireAfterSends.{IsSent, got_sent}
+use Rattle.sheep_world.specs.RunsWithAsks.{Move}
 use Rattle.overlap_law.specs.MomentChanges.{RunsAreInRange}
 use Rattle.overlap_law.specs.NoObjects.{IsMessageFor, NothingIsLacked}
 use Rattle.overlap_law.specs.Packets.{Wire, IsAnswering}
@@ -171,7 +174,7 @@ module _ (start : MomentWithPast) (good_id : ℕ → Bool)
 
 -- ---- a node's step that goes by changes
 
-module _ (script : List Statement) (range : RunsAreInRange script) (events : List Event) (start : MomentWithPast)
+module _ (script : List Statement) (range : RunsAreInRange script) (events : List Move) (start : MomentWithPast)
     (ran : run_with_past script events ≡ Some start) (good_id : ℕ → Bool)
     (lacked : NothingIsLacked (log_effects start.world.log) good_id start.world.hosts start.world.wire) where
   began : Began script start.world
@@ -208,6 +211,7 @@ module _ (script : List Statement) (range : RunsAreInRange script) (events : Lis
   caused_replies (EntryIsPut entry) name from reply answering = answering
   caused_replies RecoveryTicks name from reply answering = answering
   caused_replies WorkIsRetried name from reply answering = answering
+  caused_replies (ClientAsks req ask) name from reply answering = answering
 
   module _ (stepping : SteppingNode) (is : IsStepping script start.world stepping) (by : StepsByChanges stepping.cause) (so_far : StepState)
       (leads : LeadsInStep stepping (first_in_step stepping) so_far) where
@@ -258,6 +262,7 @@ module _ (script : List Statement) (range : RunsAreInRange script) (events : Lis
       heard_one vid one meant stands good number status same new (EntryIsPut entry) caused told refused = absurd told
       heard_one vid one meant stands good number status same new RecoveryTicks caused told refused = absurd told
       heard_one vid one meant stands good number status same new WorkIsRetried caused told refused = absurd told
+      heard_one vid one meant stands good number status same new (ClientAsks req ask) caused told refused = absurd told
 
       pub heard : (vid : ℕ) (m : Message) (meant : IsMessageFor node vid m) → is_gone (state_of (log_effects moment.world.log) vid) ≡ false
           → good_id vid ≡ true → (number : ℕ) (status : Status) → is_awaited_in number meant.work ≡ true

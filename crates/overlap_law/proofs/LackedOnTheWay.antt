@@ -20,13 +20,13 @@ use Rattle.vnode_table.specs.Epochs.{EpochMembers, is_entered, members_at}
 use Rattle.vnode_table.specs.Targets.{targets_in}
 use Rattle.vdi_directory.specs.Decisions.{log_effects}
 use Rattle.recovery.specs.State.{Recovery}
-use Rattle.sheep_node.specs.declared.event.Event.{Event}
 use Rattle.sheep_node.specs.State.{Node}
 use Rattle.sheep_node.specs.StepFacts.{epochs_of}
 use Rattle.sheep_world.specs.World.{Host, World}
 use Rattle.sheep_world.specs.Run.{Moment}
 use Rattle.sheep_world.specs.Began.{Began}
 use Rattle.sheep_world.proofs.NodesByTheLog.{by_the_log}
+use Rattle.sheep_world.specs.RunsWithAsks.{Move}
 use Rattle.overlap_law.specs.Each.{policy_in}
 use Rattle.overlap_law.specs.Holders.{targets_by}
 use Rattle.overlap_law.specs.Lists.{PendingIsLacked}
@@ -46,17 +46,17 @@ use Rattle.overlap_law.proofs.StandingRows.{stands_at}
 
 -- what holds of the world of each run holds of each world that a run reaches
 pub of_each_run : (script : List Statement) (P : World → Type 0)
-    → ((events : List Event) (moment : MomentWithPast) → run_with_past script events ≡ Some moment → P moment.world)
+    → ((events : List Move) (moment : MomentWithPast) → run_with_past script events ≡ Some moment → P moment.world)
     → (world : World) → Began script world → P world
 of_each_run script P holds world began =
     subst P began.world_so
-    (by_past (run_with_past script began.events) refl (past-follows script began.events ∙ began.runs))
+    (by_past (run_with_past script began.moves) refl (past-follows script began.moves ∙ began.runs))
   where
-    by_past : (o : Option MomentWithPast) → run_with_past script began.events ≡ o → option_map without_past o ≡ Some began.moment
+    by_past : (o : Option MomentWithPast) → run_with_past script began.moves ≡ o → option_map without_past o ≡ Some began.moment
         → P began.moment.world
     by_past None is same = absurd (cc (same))
     by_past (Some moment) is same =
-        subst (λ (m : Moment). P m.world) (same_Some (without_past moment) began.moment same) (holds began.events moment is)
+        subst (λ (m : Moment). P m.world) (same_Some (without_past moment) began.moment same) (holds began.moves moment is)
 
 -- what is pending at a node of this number is lacked, its recovery is in its name, and its epochs are by what it has read
 record LacksAt (n : ℕ) (node : Node) : Type 0 where
@@ -112,7 +112,7 @@ module _ (script : List Statement) (range : RunsAreInRange script)
     epochs_so = (by_the_log script range.is_script range.room world began n host there).epochs_so;
   }
 
-  module _ (events : List Event) (start moment : MomentWithPast) (is : run_with_past script events ≡ Some start)
+  module _ (events : List Move) (start moment : MomentWithPast) (is : run_with_past script events ≡ Some start)
       (trail : MomentTrail script start moment) where
     lacking : (n : ℕ) (host : Host) → tree.get moment.world.hosts n ≡ Some host → LacksAt n host.node
     lacking = nodes-on_the_way script LacksAt same_lacks lacks_at events start moment is trail

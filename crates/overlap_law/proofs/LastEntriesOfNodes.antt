@@ -36,15 +36,16 @@ use Rattle.sheep_world.specs.EventKinds.{NodeReweight, NodeJoin, NodeReturn, Pha
 use Rattle.sheep_world.specs.HostChanges.{joined_host, host_after_return}
 use Rattle.sheep_world.specs.MembershipChanges.{lost_host, join_of, last_weight}
 use Rattle.sheep_world.specs.NodeCauses.{NodeCause, GuestAsks, RequestComes, ReplyComes, LossIsTold, EntryIsRead, EntryIsPut, RecoveryTicks}
-use Rattle.sheep_world.specs.NodeCauses.{WorkIsRetried, input_of_cause, IsCause, log_after_cause, host_with_node}
+use Rattle.sheep_world.specs.NodeCauses.{WorkIsRetried, ClientAsks, input_of_cause, IsCause, log_after_cause, host_with_node}
 use Rattle.sheep_world.specs.Opening.{format_entry, initial_world}
 use Rattle.sheep_world.specs.Step.{EventOutcome}
 use Rattle.sheep_world.specs.World.{Host, World}
 use Rattle.sheep_world.proofs.BegunWorlds.{by_induction}
-use Rattle.sheep_world.proofs.EventInversion.{happens}
+use Rattle.sheep_world.proofs.ClientReads.{goes_by_kind}
 use Rattle.sheep_world.proofs.LogFrontLaws.{all_read}
 use Rattle.sheep_world.proofs.NodesByTheLog.{knows_its_number}
 use Rattle.sheep_world.proofs.WireAtOpening.{opening_found}
+use Rattle.sheep_world.specs.RunsWithAsks.{Move}
 use Rattle.overlap_law.specs.CommandDisks.{opened_in, IsOpenAtLast, IsOpenAtStage, IsOpenAtCourse}
 use Rattle.overlap_law.specs.Grants.{writer_of}
 use Rattle.overlap_law.specs.MomentChanges.{RunsAreInRange}
@@ -106,6 +107,7 @@ module _ (script : List Statement) (range : RunsAreInRange script) where
     other_step (EntryIsPut entry) n host there up = each_more entry n host there up
     other_step RecoveryTicks n host there up = all.each n host there up
     other_step WorkIsRetried n host there up = all.each n host there up
+    other_step (ClientAsks req ask) n host there up = all.each n host there up
 
     -- a node that is there anew
     one_comes : (last : Entry) (n : ℕ) (new : Host)
@@ -190,7 +192,7 @@ module _ (script : List Statement) (range : RunsAreInRange script) where
   on_way_in_worlds : (world : World) → Began script world → AreOnWayAmong world.log world.hosts
   on_way_in_worlds = by_induction script (λ (world : World). AreOnWayAmong world.log world.hosts) (record {
     opens = opens;
-    keeps = λ event world made began is all. kept event world made began (happens script event world made is) all;
+    keeps = λ event world made began is all. kept event world made began (goes_by_kind script event world made is) all;
   })
 
 -- ---- so it may write what it publishes
@@ -215,7 +217,7 @@ behind_front (x ∷ front) rest p =
     let same : length (x ∷ front) + p ≡ suc (length front + p) = omega arith in
     ap (slice_get (x ∷ (front ++ rest))) same ∙ behind_front front rest p
 
-module _ (script : List Statement) (range : RunsAreInRange script) (events : List Event) (moment : MomentWithPast)
+module _ (script : List Statement) (range : RunsAreInRange script) (events : List Move) (moment : MomentWithPast)
     (is : run_with_past script events ≡ Some moment) where
   began : Began script moment.world
   began = began-with_past script events moment is

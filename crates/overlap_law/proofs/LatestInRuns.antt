@@ -1,7 +1,6 @@
 -- The attempt that a create or write has open is the last on its object, in every run in range.
 use Rattle.std.proofs.Common.{◌≡◌, List, Some}
 use Rattle.cluster_script.specs.declared.statement.Statement.{Statement}
-use Rattle.sheep_node.specs.declared.event.Event.{Event}
 use Rattle.overlap_law.specs.MomentChanges.{MomentTrail, RunsAreInRange, KeptByChanges}
 use Rattle.overlap_law.specs.OpenWorks.{OpenAttemptsAreLatest}
 use Rattle.overlap_law.specs.Past.{MomentWithPast, run_with_past}
@@ -13,6 +12,7 @@ use Rattle.overlap_law.proofs.MessagesInMoments.{no_works, opening_has, change_h
 use Rattle.overlap_law.proofs.RunsByChanges.{on_the_way}
 use Rattle.overlap_law.proofs.TiedInRuns.{opening_tied, change_tied}
 use Rattle.overlap_law.proofs.WritersOfWorks.{works_may-after}
+use Rattle.sheep_world.specs.RunsWithAsks.{Move}
 
 record HasLatest (moment : MomentWithPast) : Type 0 where
   tied : IsTied moment
@@ -32,11 +32,12 @@ module _ (script : List Statement) (range : RunsAreInRange script) where
         record {
           tied = change_tied script range start before after began change has.tied;
           messages = messages;
-          latest = keeps_latest script range start before after began change has.tied.incarnations messages (makers_apart-after script range start began change)
-              (works_may-after script range start began change) has.latest;
+          latest =
+              keeps_latest script range start before after began change has.tied.incarnations messages
+              (makers_apart-after script range start began change) (works_may-after script range start began change) has.latest;
         };
   }
 
-  pub latest-in_run : (events : List Event) (start moment : MomentWithPast) → run_with_past script events ≡ Some start
+  pub latest-in_run : (events : List Move) (start moment : MomentWithPast) → run_with_past script events ≡ Some start
       → MomentTrail script start moment → OpenAttemptsAreLatest moment.world.hosts moment.past.attempts
   latest-in_run events start moment is trail = (on_the_way script HasLatest kept_latest events start moment is trail).latest

@@ -1,5 +1,7 @@
 -- What an event adds to the history may come next, reads aside, in each run in range.
-use Rattle.std.proofs.Common.{◌≡◌, ◌≢◌, ⊎_elim, ℕ, ◌||◌, Bool, true, false, List, [], ◌++◌, filter, Option, Some, None, refl, sym, ap, subst, ◌∙◌, append_assoc, append-nil}
+use Rattle.std.proofs.Common.{is_some}
+use Rattle.std.proofs.Common.{◌≡◌, ◌≢◌, ⊎_elim, ℕ, ◌||◌, Bool, true, false, List, [], ◌++◌, filter, Option, Some, None, refl, sym, ap}
+use Rattle.std.proofs.Common.{subst, ◌∙◌, append_assoc, append-nil}
 use Rattle.std.specs.List.{list_any}
 use Rattle.std.specs.Option.{option_map_or}
 use Rattle.std.specs.Ordering.{nat_cmp}
@@ -21,19 +23,25 @@ use Rattle.sheep_node.specs.declared.course.Request.{Request}
 use Rattle.sheep_node.specs.declared.event.Event.{Event}
 use Rattle.sheep_node.specs.declared.input.Input.TheVariants as inputs
 use Rattle.sheep_node.specs.Step.{node_step}
+use Rattle.sheep_world.specs.BegunRequests.{IsOfScript}
 use Rattle.sheep_world.specs.World.{Host, World, is_host_up, node_at}
 use Rattle.sheep_world.specs.Began.{Began}
 use Rattle.sheep_world.specs.BegunRequests.{WasBegun}
 use Rattle.sheep_world.specs.Effects.{open_disk_at, request_started}
-use Rattle.sheep_world.specs.EventKinds.{log_after_return, EventKind, NodeStep, UntoldLoss, UnreadDelivery, NodeLoss, NodeLeave, NodeReweight, NodeJoin, NodeReturn, PhaseEnd}
-use Rattle.sheep_world.specs.HistoryAdditions.{check_write_grown, check_write_by, is_lost_write, is_write_of, replies_grown, request_grown, writers_lost}
+use Rattle.sheep_world.specs.EventKinds.{log_after_return, EventKind, NodeStep, UntoldLoss, UnreadDelivery, NodeLoss, NodeLeave}
+use Rattle.sheep_world.specs.EventKinds.{NodeReweight, NodeJoin, NodeReturn, PhaseEnd}
+use Rattle.sheep_world.specs.HistoryAdditions.{check_write_grown, check_write_by, is_lost_write, is_write_of, replies_grown, request_grown}
+use Rattle.sheep_world.specs.HistoryAdditions.{writers_lost}
 use Rattle.sheep_world.specs.HostChanges.{joined_host, host_after_return}
 use Rattle.sheep_world.specs.MembershipChanges.{lost_host}
-use Rattle.sheep_world.specs.NodeCauses.{NodeCause, GuestAsks, RequestComes, ReplyComes, LossIsTold, EntryIsRead, EntryIsPut, RecoveryTicks, WorkIsRetried, input_of_cause, IsCause, host_with_node, history_of_cause, world_after_cause}
+use Rattle.sheep_world.specs.NodeCauses.{NodeCause, GuestAsks, RequestComes, ReplyComes, LossIsTold, EntryIsRead, EntryIsPut, RecoveryTicks}
+use Rattle.sheep_world.specs.NodeCauses.{WorkIsRetried, ClientAsks, input_of_cause, IsCause, host_with_node, history_of_cause}
+use Rattle.sheep_world.specs.NodeCauses.{world_after_cause}
 use Rattle.sheep_world.specs.Step.{EventOutcome}
 use Rattle.sheep_world.proofs.BegunRequestLaws.{new-begun, were_begun}
 use Rattle.sheep_world.proofs.StepsByCause.{sound_step}
 use Rattle.sheep_world.proofs.WireAtEvents.{is_ready}
+use Rattle.sheep_world.specs.RunsWithAsks.{Move}
 use Rattle.overlap_law.specs.DiskBlocks.{DisksHaveTheirBlocks}
 use Rattle.overlap_law.specs.DiskEvents.{ends_write_of}
 use Rattle.overlap_law.specs.Headline.{ledger_of}
@@ -42,6 +50,8 @@ use Rattle.overlap_law.specs.MomentChanges.{RunsAreInRange}
 use Rattle.overlap_law.specs.Past.{MomentWithPast, run_with_past}
 use Rattle.overlap_law.specs.ToldReads.{AllElseMayFollow}
 use Rattle.overlap_law.proofs.AnswersInMoments.{not_lost}
+use Rattle.overlap_law.proofs.AsksInCauses.{not_begun}
+use Rattle.overlap_law.proofs.AsksUntold.{read_tells_nothing}
 use Rattle.overlap_law.proofs.BeginningWrites.{begins_there}
 use Rattle.overlap_law.proofs.BlocksInRuns.{blocks-in_run}
 use Rattle.overlap_law.proofs.FoundInRuns.{found-in_run}
@@ -65,10 +75,11 @@ use Rattle.overlap_law.proofs.StartsOfChecks.{checks_begin, checks_follow, check
 use Rattle.overlap_law.proofs.StartedOnce.{UnansweredAreOnce, caused_once, once-in_run}
 use Rattle.overlap_law.proofs.UnansweredRequests.{back_empty}
 use Rattle.overlap_law.proofs.UnderWayInRuns.{begun-in_run}
-use Rattle.overlap_law.proofs.WritesTold.{IsOnDisks}
+use Rattle.overlap_law.proofs.WritesTold.{IsOnDisks, on_along}
+use Rattle.sheep_world.proofs.AsksNumbers.{next_is_new}
 
 module _ (script : List Statement) (range : RunsAreInRange script) where
-  module _ (events : List Event) (before : MomentWithPast) (run : run_with_past script events ≡ Some before)
+  module _ (events : List Move) (before : MomentWithPast) (run : run_with_past script events ≡ Some before)
       (began : Began script before.world) (legal : AllElseMayFollow empty_ledger before.past.history)
       (standing : AreStanding script before.world.hosts before.world.guests before.past.history)
       (placed : WritersAreOnDisks before.world.hosts before.past.history) where
@@ -224,6 +235,8 @@ module _ (script : List Statement) (range : RunsAreInRange script) where
       step_follows (EntryIsPut entry) caused = entries_follow before are_shown entry
       step_follows RecoveryTicks caused = told_follow RecoveryTicks caused (λ req session ask is. absurd (cc (is)))
       step_follows WorkIsRetried caused = told_follow WorkIsRetried caused (λ req session ask is. absurd (cc (is)))
+      step_follows (ClientAsks number asks) caused =
+          subst (AllElseMayFollow (ledger_of history)) (sym (read_tells_nothing script world host number asks caused)) tt
 
       -- ---- what it begins, but for a check by a reply, is of the guest's request alone
 
@@ -270,6 +283,8 @@ module _ (script : List Statement) (range : RunsAreInRange script) where
       begins_on req (EntryIsPut entry) caused old on = still_on req history (grown (EntryIsPut entry)) (entry_none req world.log entry) on
       begins_on req RecoveryTicks caused old on = still_on req history (grown RecoveryTicks) (told_none req world None RecoveryTicks) on
       begins_on req WorkIsRetried caused old on = still_on req history (grown WorkIsRetried) (told_none req world None WorkIsRetried) on
+      begins_on req (ClientAsks number asks) caused old on =
+          still_on req history (grown (ClientAsks number asks)) (told_none req world None (ClientAsks number asks)) on
 
       -- a request that a node has isn't the one that begins
       had_apart : (cause : NodeCause) → IsCause script world n host cause → (m : ℕ) (other : Host) → tree.get world.hosts m ≡ Some other
@@ -277,7 +292,9 @@ module _ (script : List Statement) (range : RunsAreInRange script) where
           → (session : ℕ) (ask : Ask) → input_of_cause cause ≢ inputs.Guest req session ask
       had_apart (GuestAsks session begins asks) caused m other at req was got number ask is =
           unbegun session begins asks caused was.session
-          (subst (WasBegun script world.guests was.session) (sym (cc (is))) (node_begun script world began m other at req was got))
+          (subst (WasBegun script world.guests was.session) (sym (cc (is)))
+          (node_begun script world began m other at req was got
+          (subst (IsOfScript script) (let same : begins ≡ req = cc (is) in same) (ap (λ (o : Option Statement). is_some o) caused.stands))))
       had_apart (RequestComes name to request) caused m other at req was got number ask is = cc (is)
       had_apart (ReplyComes name from rsp) caused m other at req was got number ask is = cc (is)
       had_apart (LossIsTold name packet) caused m other at req was got number ask is = cc (is)
@@ -285,6 +302,13 @@ module _ (script : List Statement) (range : RunsAreInRange script) where
       had_apart (EntryIsPut entry) caused m other at req was got number ask is = cc (is)
       had_apart RecoveryTicks caused m other at req was got number ask is = cc (is)
       had_apart WorkIsRetried caused m other at req was got number ask is = cc (is)
+      had_apart (ClientAsks begins what) caused m other at req was got number ask is =
+          let same : begins ≡ req = cc (is) in
+          let free : tree.get other.node.requests begins ≡ None
+          = subst (λ (k : ℕ). tree.get other.node.requests k ≡ None) caused.number
+          (next_is_new script range.is_script world began m other at) in
+          let both : None ≡ Some was = sym free ∙ ap (tree.get other.node.requests) same ∙ got in
+          cc (both)
 
       -- a guest's request that isn't refused as it comes
       own_on : (cause : NodeCause) → IsCause script world n host cause → (req number : ℕ) (ask : Ask)
@@ -316,6 +340,12 @@ module _ (script : List Statement) (range : RunsAreInRange script) where
       own_on (EntryIsPut entry) caused req number ask is had got = absurd (cc (is))
       own_on RecoveryTicks caused req number ask is had got = absurd (cc (is))
       own_on WorkIsRetried caused req number ask is had got = absurd (cc (is))
+      own_on (ClientAsks begins what) caused req number ask is had got =
+          let same : begins ≡ req = cc (is) in
+          let none : list_any (begins_write_of req) history ≡ false
+          = none_begun req (λ session was. not_begun caused session req same was) in
+          still_on req history (grown (ClientAsks begins what)) (told_none req world None (ClientAsks begins what))
+          (on_along req history empty_ledger none refl)
 
       step_placed : (cause : NodeCause) → IsCause script world n host cause
           → WritersAreOnDisks (tree.insert world.hosts n (stepped cause)) (history ++ grown cause)

@@ -1,6 +1,7 @@
 -- The history without the reads of disks that weren't available stays legal, where each other read is told what may be read, and all else
 -- may come next.
-use Rattle.std.proofs.Common.{◌≡◌, ◌⊎◌, inl, inr, ℕ, ◌==◌, ◌&&◌, ◌||◌, Bool, true, false, cond, List, [], ◌∷◌, ◌++◌, filter, fold, length, Option, Some, None, refl, sym, ap, subst, ◌∙◌, rules}
+use Rattle.std.proofs.Common.{◌≡◌, ◌⊎◌, inl, inr, ℕ, ◌==◌, ◌&&◌, ◌||◌, Bool, true, false, cond, List, [], ◌∷◌, ◌++◌, filter, fold, length}
+use Rattle.std.proofs.Common.{Option, Some, None, refl, sym, ap, subst, ◌∙◌, rules}
 use Rattle.std.specs.Prelude.{IsSome}
 use Rattle.std.specs.List.{list_any}
 use Rattle.std.specs.Option.{option_and_then}
@@ -11,13 +12,15 @@ use Rattle.std.proofs.lemmas.Option.{same_Some}
 use Rattle.object_id.specs.declared.entry.Entry.{Entry}
 use Rattle.object_id.specs.declared.limits.TheConstants.{BLOCK_BYTES}
 use Rattle.disk_history.specs.declared.event.HistEvent.{HistEvent}
-use Rattle.disk_history.specs.declared.event.HistEvent.TheVariants.{Create, Copy, Delete, WriteStart, WriteDone, WriteRefused, WriterLost, Read}
+use Rattle.disk_history.specs.declared.event.HistEvent.TheVariants.{Create, Copy, Delete, WriteStart, WriteDone, WriteRefused, WriterLost}
+use Rattle.disk_history.specs.declared.event.HistEvent.TheVariants.{Read}
 use Rattle.disk_history.specs.Ledger.{Disk, Ledger, empty_ledger, has_block, ledger_after}
 use Rattle.disk_history.specs.Legal.{IsLegal, is_torn, may_follow, may_read, ledger_from, standing}
 use Rattle.disk_history.proofs.LegalLemmas.{ledger_from-append}
 use Rattle.cluster_script.specs.declared.statement.Statement.{Statement}
 use Rattle.sheep_node.specs.declared.event.Event.{Event}
 use Rattle.sheep_world.specs.Step.{EventOutcome}
+use Rattle.sheep_world.specs.RunsWithAsks.{Move}
 use Rattle.overlap_law.specs.Headline.{ledger_of, IsLegalWhereAvailable}
 use Rattle.overlap_law.specs.Holders.{is_available_disk}
 use Rattle.overlap_law.specs.Past.{MomentWithPast, past_after_event, moment_after, run_with_past}
@@ -162,11 +165,11 @@ module _ (script : List Statement) where
       ∙ counted_ledger made.world.log before.past.unavailable made.grown (ledger_of before.past.history)
       ∙ sym (fold-append ledger_after empty_ledger before.past.history made.grown)
 
-  pub same_ledger-in_run : (events : List Event) (moment : MomentWithPast) → run_with_past script events ≡ Some moment
+  pub same_ledger-in_run : (events : List Move) (moment : MomentWithPast) → run_with_past script events ≡ Some moment
       → ledger_of moment.past.available_history ≡ ledger_of moment.past.history
   same_ledger-in_run events moment is = run-kept_by_events script SameLedger refl same_kept events moment is
 
-  pub stays_legal : (events : List Event) (event : Event) (before : MomentWithPast) (made : EventOutcome)
+  pub stays_legal : (events : List Move) (event : Event) (before : MomentWithPast) (made : EventOutcome)
       → run_with_past script events ≡ Some before → AllElseMayFollow (ledger_of before.past.history) made.grown
       → WhatIsToldMayBeRead (is_available_disk made.world.log before.past.unavailable) (ledger_of before.past.history) made.grown
       → IsLegalWhereAvailable before.past → IsLegalWhereAvailable (moment_after script event before made).past

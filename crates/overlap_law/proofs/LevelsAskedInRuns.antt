@@ -1,6 +1,7 @@
 -- In each moment on the way of an event of a run in range, while answers of a search's level are awaited and none was refused or lost,
 -- those awaited and those kept are all that the level is asked of.
-use Rattle.std.proofs.Common.{◌≡◌, arith, ℕ, ◌-◌, ◌≤◌, ◌<◌, ◌==◌, ◌&&◌, not, Bool, true, false, cond, List, [], ◌∷◌, map, filter, Option, Some, None, refl, sym, ap, subst, ◌∙◌}
+use Rattle.std.proofs.Common.{◌≡◌, arith, ℕ, ◌-◌, ◌≤◌, ◌<◌, ◌==◌, ◌&&◌, not, Bool, true, false, cond, List, [], ◌∷◌, map, filter, Option}
+use Rattle.std.proofs.Common.{Some, None, refl, sym, ap, subst, ◌∙◌}
 use Rattle.std.specs.Option.{IfSome}
 use Rattle.std.specs.FinMap as tree
 use Rattle.std.proofs.lemmas.Option.{same_Some}
@@ -27,10 +28,10 @@ use Rattle.recovery.specs.Steps as recovery_steps
 use Rattle.recovery.specs.Steps.{message_end}
 use Rattle.recovery.specs.Tick.{or_next, next_search}
 use Rattle.recovery.proofs.RangeLemmas.{above_1}
-use Rattle.sheep_node.specs.declared.event.Event.{Event}
 use Rattle.sheep_node.specs.declared.input.Input.{Input}
 use Rattle.sheep_node.specs.declared.input.Input.TheVariants as inputs
-use Rattle.sheep_node.specs.LogReading.{epoch_members, peer_with_entry, node_with_entry, recovery_in_epoch, begins_recovery, recovery_with_entry, entry_read, come_back_with, on_back}
+use Rattle.sheep_node.specs.LogReading.{epoch_members, peer_with_entry, node_with_entry, recovery_in_epoch, begins_recovery}
+use Rattle.sheep_node.specs.LogReading.{recovery_with_entry, entry_read, come_back_with, on_back}
 use Rattle.sheep_node.specs.RecoveryView.{recovery_state_of, with_recovered_rows}
 use Rattle.sheep_node.specs.State.{Node}
 use Rattle.sheep_node.specs.Step.{on_request, recovery_stepped, on_put, on_recover_tick}
@@ -39,9 +40,11 @@ use Rattle.sheep_node.specs.Changes.{input_received}
 use Rattle.sheep_node.proofs.RecoverySteps.{fits_what_recovery_asked}
 use Rattle.sheep_world.specs.Began.{Began}
 use Rattle.sheep_world.specs.EventKinds.{log_after_return}
-use Rattle.sheep_world.specs.NodeCauses.{NodeCause, GuestAsks, RequestComes, ReplyComes, LossIsTold, EntryIsRead, EntryIsPut, RecoveryTicks, WorkIsRetried, input_of_cause, IsCause}
+use Rattle.sheep_world.specs.NodeCauses.{NodeCause, GuestAsks, RequestComes, ReplyComes, LossIsTold, EntryIsRead, EntryIsPut, RecoveryTicks}
+use Rattle.sheep_world.specs.NodeCauses.{WorkIsRetried, ClientAsks, input_of_cause, IsCause}
 use Rattle.sheep_world.specs.World.{Host, World, is_host_up}
 use Rattle.sheep_world.proofs.NodesByTheLog.{by_the_log, knows_its_number}
+use Rattle.sheep_world.specs.RunsWithAsks.{Move}
 use Rattle.overlap_law.specs.Each.{Placing, policy_in}
 use Rattle.overlap_law.specs.Holders.{targets_by}
 use Rattle.overlap_law.specs.Past.{MomentWithPast, run_with_past}
@@ -231,6 +234,7 @@ module _ (script : List Statement) (range : RunsAreInRange script) where
     may_ask (EntryIsPut entry) up caused = tt
     may_ask RecoveryTicks up caused = caused
     may_ask WorkIsRetried up caused = tt
+    may_ask (ClientAsks req ask) up caused = tt
 
     stepped_asked : (input : Input) → MayAsk input was.node
         → HasAsked moment.world.log (input_received input (at_first was.node)).node.recovery
@@ -317,7 +321,7 @@ module _ (script : List Statement) (range : RunsAreInRange script) where
       (nodes_sound script range.is_script range.room (λ w b. (range.messages w b).replies) world began n host there).recovery.own
       ∙ (λ i. record { 0 = knows_its_number script world began n host there i })
 
-  module _ (events : List Event) (start moment : MomentWithPast) (is : run_with_past script events ≡ Some start)
+  module _ (events : List Move) (start moment : MomentWithPast) (is : run_with_past script events ≡ Some start)
       (trail : MomentTrail script start moment) where
     pub own_recovery : (n : ℕ) (host : Host) → tree.get moment.world.hosts n ≡ Some host → host.node.recovery.me ≡ record { 0 = n }
     own_recovery = recoveries-on_the_way script IsOwn own-in_world events start moment is trail

@@ -4,10 +4,7 @@ pub mod UnitLemmas
 pub mod BaseLemmas
 pub mod FatesOfAttempts
 pub mod NoRecoveredDue
-pub mod AskedRuns
 pub mod AskedReads
-pub mod AskedMoments
-pub mod AskedScripts
 pub mod EpochLemmas
 pub mod WorkedCases
 pub mod OverlapLemmas
@@ -217,6 +214,7 @@ pub mod ObjectsInRuns
 pub mod RangeOfFewObjects
 pub mod AskedMakers
 pub mod MakersInTraffic
+pub mod MakersOfScript
 pub mod CoveredPieces
 pub mod ChangeWalk
 pub mod RequestWalk
@@ -284,6 +282,8 @@ pub mod PendingInRuns
 pub mod DistinctTargets
 pub mod RowSteps
 pub mod AskedKeys
+pub mod PlacedAnew
+pub mod PlacedOfScript
 pub mod PlacedRows
 pub mod PlacedInMoments
 pub mod ServedCreates
@@ -297,6 +297,7 @@ pub mod ClosedSnapshots
 pub mod OpenInSteps
 pub mod GatewayEpochs
 pub mod ReadsApart
+pub mod ClientsInMoments
 pub mod LastReads
 pub mod MadeEffects
 pub mod SnapshotChains
@@ -492,6 +493,10 @@ pub mod ReadsGoOn
 pub mod ToldBlocks
 pub mod PiecesRead
 pub mod ReadsStay
+pub mod GoingOn
+pub mod AsksInCauses
+pub mod RepliesElsewhere
+pub mod AsksUntold
 pub mod KeptInRuns
 pub mod KeptToTheEnd
 pub mod TableWalk
@@ -774,10 +779,10 @@ pub mod CheckedBehind
 pub mod CheckedInRuns
 pub mod CheckedStanding
 pub mod CheckedOnTheWay
-pub mod AsksOwed
 pub mod HeadlineInRuns
 pub mod OverlapInRuns
 pub mod InputRange
+pub mod AskedPast
 mod CopiedFetches
 mod CopiedServed
 mod CopiedBlocks

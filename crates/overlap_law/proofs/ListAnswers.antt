@@ -1,6 +1,7 @@
--- What an input makes of what a recovery waits for: a node that it doesn't wait for any more has named its objects, and what it asks anew it
--- asks in a tick; or it begins anew, and waits for every other member.
-use Rattle.std.proofs.Common.{◌≡◌, ◌⊎◌, inl, inr, ⊎_elim, ℕ, ◌==◌, ◌&&◌, Bool, true, false, not, cond, List, [], ◌∷◌, Contains, Option, Some, None, refl, sym, ap, subst, ◌∙◌}
+-- What an input makes of what a recovery waits for: a node that it doesn't wait for any more has named its objects, and what it asks anew
+-- it asks in a tick; or it begins anew, and waits for every other member.
+use Rattle.std.proofs.Common.{◌≡◌, ◌⊎◌, inl, inr, ⊎_elim, ℕ, ◌==◌, ◌&&◌, Bool, true, false, not, cond, List, [], ◌∷◌, Contains, Option}
+use Rattle.std.proofs.Common.{Some, None, refl, sym, ap, subst, ◌∙◌}
 use Rattle.std.specs.Option.{option_map_or}
 use Rattle.std.specs.List.{list_any}
 use Rattle.std.proofs.lemmas.Bool.{eqb-true}
@@ -23,7 +24,8 @@ use Rattle.recovery.specs.Level.{is_of_search, level_over, searching}
 use Rattle.recovery.specs.Shown.{shown_with_pending}
 use Rattle.recovery.specs.State.{Message, Search, Recovery, RecoveryState, is_listed, has_number, message_of, search_on}
 use Rattle.recovery.specs.Steps as recovery_steps
-use Rattle.recovery.specs.Steps.{to_recover, when_listed, at_start, recovery_from_epoch, messages_without, without_unanswered, with_list_of, after_list, after_read, after_ask, message_end, search_after_answer}
+use Rattle.recovery.specs.Steps.{to_recover, when_listed, at_start, recovery_from_epoch, messages_without, without_unanswered, with_list_of}
+use Rattle.recovery.specs.Steps.{after_list, after_read, after_ask, message_end, search_after_answer}
 use Rattle.recovery.specs.Tick.{next_search, tick_messages, with_messages, state_after_tick}
 use Rattle.recovery.proofs.StepLemmas.{judged_each, frame_of_tick, frame_of_end}
 use Rattle.sheep_node.specs.declared.input.Input.{Input}
@@ -31,7 +33,8 @@ use Rattle.sheep_node.specs.declared.input.Input.TheVariants as inputs
 use Rattle.sheep_node.specs.State.{Node}
 use Rattle.sheep_node.specs.RecoveryView.{recovery_state_of}
 use Rattle.sheep_node.specs.StepState.{StepState, at_first}
-use Rattle.sheep_node.specs.LogReading.{epoch_members, node_with_entry, recovery_in_epoch, begins_recovery, entry_read, come_back_with, on_back}
+use Rattle.sheep_node.specs.LogReading.{epoch_members, node_with_entry, recovery_in_epoch, begins_recovery, entry_read, come_back_with}
+use Rattle.sheep_node.specs.LogReading.{on_back}
 use Rattle.sheep_node.specs.Step.{on_request, recovery_stepped, on_put, on_recover_tick}
 use Rattle.sheep_node.specs.Changes.{input_received}
 use Rattle.overlap_law.proofs.RecoveryMembers.{nodes_of_members}
@@ -56,7 +59,8 @@ IsTicked input node message = (input ≡ inputs.RecoverTick) × Contains (tick_m
 pub record IsGoingOn (input : Input) (node : Node) (new : Recovery) : Type 0 where
   pub epoch : new.epoch ≡ node.recovery.epoch
   pub members : new.members ≡ node.recovery.members
-  pub unanswered : (message : Message) → Contains new.unanswered message → Contains node.recovery.unanswered message ⊎ IsTicked input node message
+  pub unanswered : (message : Message) → Contains new.unanswered message
+      → Contains node.recovery.unanswered message ⊎ IsTicked input node message
   pub heard : (other : NodeId) → has_node other new.lists.waiting ≡ false
       → (has_node other node.recovery.lists.waiting ≡ false) ⊎ IsHeard input node.recovery.unanswered other
 
@@ -69,9 +73,11 @@ pub record IsBegun (me : NodeId) (new : Recovery) : Type 0 where
 
 waits_on : (search : Search) (state : RecoveryState) → (searching search state).recovery.lists.waiting ≡ state.recovery.lists.waiting
 waits_on search state =
-    cond_either (λ (s : RecoveryState). s.recovery.lists.waiting ≡ state.recovery.lists.waiting) (list_any (is_of_search search.oid) state.recovery.unanswered)
+    cond_either (λ (s : RecoveryState). s.recovery.lists.waiting ≡ state.recovery.lists.waiting)
+    (list_any (is_of_search search.oid) state.recovery.unanswered)
     (record state { recovery = record state.recovery { search = Some search } }) (level_over search state) refl
-    (judged_each (λ (s : RecoveryState). s.recovery.lists.waiting ≡ state.recovery.lists.waiting) search state refl (λ index bytes. refl) refl (λ level. refl))
+    (judged_each (λ (s : RecoveryState). s.recovery.lists.waiting ≡ state.recovery.lists.waiting) search state refl (λ index bytes. refl)
+    refl (λ level. refl))
 
 pub waits_on_read : (oid : ℕ) (from : NodeId) (said : Option PeerSay) (search : Option Search) (state : RecoveryState)
     → (after_read oid from said search state).recovery.lists.waiting ≡ state.recovery.lists.waiting
@@ -80,7 +86,8 @@ waits_on_read oid from said (Some search) state =
     cond_either (λ (s : RecoveryState). s.recovery.lists.waiting ≡ state.recovery.lists.waiting) (search.oid == oid)
     (searching (search_after_answer from said search) state) state (waits_on (search_after_answer from said search) state) refl
 
-pub ticked_waits : (first : ℕ) (state : RecoveryState) → (state_after_tick first state).recovery.lists.waiting ≡ state.recovery.lists.waiting
+pub ticked_waits : (first : ℕ) (state : RecoveryState)
+    → (state_after_tick first state).recovery.lists.waiting ≡ state.recovery.lists.waiting
 unfolding state_after_tick
 ticked_waits first state =
     cond_either (λ (s : RecoveryState). s.recovery.lists.waiting ≡ state.recovery.lists.waiting) (is_listed state.recovery)
@@ -88,7 +95,8 @@ ticked_waits first state =
     (with_messages (tick_messages first state) state))
     (with_messages (tick_messages first state) state) (by_next (next_search state)) refl
   where
-    by_next : (search : Option Search) → (option_map_or (λ (search : Search). searching search (with_messages (tick_messages first state) state)) search
+    by_next : (search : Option Search)
+        → (option_map_or (λ (search : Search). searching search (with_messages (tick_messages first state) state)) search
         (with_messages (tick_messages first state) state)).recovery.lists.waiting ≡ state.recovery.lists.waiting
     by_next None = refl
     by_next (Some search) = waits_on search (with_messages (tick_messages first state) state)
@@ -117,7 +125,8 @@ module _ (number : ℕ) (said : Option PeerSay) (state : RecoveryState) where
   as_before new same other none = inl (ap (has_node other) (sym same) ∙ none)
 
   abbrev gathered : Message → List ℕ → RecoveryState
-  gathered message oids = record rest { recovery = record rest.recovery { lists = gathered_with_answer message.to oids rest.recovery.lists } }
+  gathered message oids =
+      record rest { recovery = record rest.recovery { lists = gathered_with_answer message.to oids rest.recovery.lists } }
 
   module _ (message : Message) (there : Contains state.recovery.unanswered message) (own : message.request.number ≡ number)
       (lists : message.request.ask ≡ asks.List) where
@@ -147,7 +156,11 @@ module _ (number : ℕ) (said : Option PeerSay) (state : RecoveryState) where
     by_list (Some (says.Objects oids)) is = by_end (is_listed (gathered message oids).recovery)
       where
         by_end : (b : Bool)
-            → WaitsOr (cond b (record (gathered message oids) { shown = shown_with_pending (to_recover (gathered message oids)) (gathered message oids).shown }) (gathered message oids))
+            → WaitsOr (cond b (record (gathered message
+            oids) {
+              shown =
+                  shown_with_pending (to_recover (gathered message oids)) (gathered message oids).shown;
+            }) (gathered message oids))
         by_end true = from_gathered oids is
         by_end false = from_gathered oids is
     by_list (Some (says.Row row)) is = as_before rest refl
@@ -161,7 +174,8 @@ module _ (number : ℕ) (said : Option PeerSay) (state : RecoveryState) where
       let (there, own) = find-contains (has_number number) state.recovery.unanswered message is in
       by_kind message there (eqb-true message.request.number number own) message.request.ask refl
     where
-      by_kind : (message : Message) → Contains state.recovery.unanswered message → message.request.number ≡ number → (ask : PeerAsk) → message.request.ask ≡ ask
+      by_kind : (message : Message) → Contains state.recovery.unanswered message → message.request.number ≡ number → (ask : PeerAsk)
+          → message.request.ask ≡ ask
           → WaitsOr (after_ask ask message.to said rest)
       by_kind message there own (asks.Create key size offset bytes) is = as_before rest refl
       by_kind message there own (asks.Write key offset bytes) is = as_before rest refl
@@ -215,7 +229,8 @@ heard_of rsp node other named = record {
   by = named.by;
 }
 
-pub begun_anew : (epoch : ℕ) (nodes : List NodeId) (state : RecoveryState) → IsBegun state.recovery.me (recovery_from_epoch epoch nodes state).recovery
+pub begun_anew : (epoch : ℕ) (nodes : List NodeId) (state : RecoveryState)
+    → IsBegun state.recovery.me (recovery_from_epoch epoch nodes state).recovery
 unfolding recovery_from_epoch
 begun_anew epoch nodes state =
     let start = at_start epoch nodes state in
@@ -237,25 +252,30 @@ unfolding on_request on_recover_tick recovery_steps.recovery_on_reply recovery_s
 recovery_moves (inputs.Guest req session ask) node = inl (same_recovery (inputs.Guest req session ask) node node.recovery refl)
 recovery_moves (inputs.Request request) node = inl (same_recovery (inputs.Request request) node node.recovery refl)
 recovery_moves (inputs.Reply rsp) node = inl (cond_either
-    (λ (so_far : StepState). IsGoingOn (inputs.Reply rsp) node so_far.node.recovery) (gateways.gateway_awaits rsp.number node.gateway) (at_first node)
-    (recovery_stepped (recovery_steps.message_end rsp.number (Some rsp.say) (recovery_state_of node)) (at_first node))
+    (λ (so_far : StepState). IsGoingOn (inputs.Reply rsp) node so_far.node.recovery) (gateways.gateway_awaits rsp.number node.gateway)
+    (at_first node) (recovery_stepped (recovery_steps.message_end rsp.number (Some rsp.say) (recovery_state_of node)) (at_first node))
     (same_recovery (inputs.Reply rsp) node node.recovery refl)
     (ended_goes_on (inputs.Reply rsp) rsp.number (Some rsp.say) node (heard_of rsp node)))
 recovery_moves (inputs.Lost number) node = inl (cond_either
-    (λ (so_far : StepState). IsGoingOn (inputs.Lost number) node so_far.node.recovery) (gateways.gateway_awaits number node.gateway) (at_first node)
-    (recovery_stepped (recovery_steps.message_end number None (recovery_state_of node)) (at_first node))
+    (λ (so_far : StepState). IsGoingOn (inputs.Lost number) node so_far.node.recovery) (gateways.gateway_awaits number node.gateway)
+    (at_first node) (recovery_stepped (recovery_steps.message_end number None (recovery_state_of node)) (at_first node))
     (same_recovery (inputs.Lost number) node node.recovery refl)
     (ended_goes_on (inputs.Lost number) number None node (λ other named. let none = named.said_so in absurd (cc (none)))))
 recovery_moves (inputs.LogEntry entry) node = by_begins (begins_recovery entry node)
   where
-    by_begins : (b : Bool) → IsGoingOn (inputs.LogEntry entry) node (cond b (recovery_in_epoch (node_with_entry entry node)) (recovery_state_of (node_with_entry entry node))).recovery
-        ⊎ IsBegun node.recovery.me (cond b (recovery_in_epoch (node_with_entry entry node)) (recovery_state_of (node_with_entry entry node))).recovery
-        ⊎ IsBegun node.me (cond b (recovery_in_epoch (node_with_entry entry node)) (recovery_state_of (node_with_entry entry node))).recovery
+    by_begins : (b : Bool)
+        → IsGoingOn (inputs.LogEntry entry) node (cond b (recovery_in_epoch (node_with_entry entry node))
+        (recovery_state_of (node_with_entry entry node))).recovery
+        ⊎ IsBegun node.recovery.me (cond b (recovery_in_epoch (node_with_entry entry node))
+        (recovery_state_of (node_with_entry entry node))).recovery
+        ⊎ IsBegun node.me (cond b (recovery_in_epoch (node_with_entry entry node))
+        (recovery_state_of (node_with_entry entry node))).recovery
     by_begins true =
         let entered = node_with_entry entry node in
         inr (inl (begun_anew entered.peer.epoch (nodes_of_members (epoch_members entered)) (recovery_state_of entered)))
     by_begins false = inl (same_recovery (inputs.LogEntry entry) node node.recovery refl)
-recovery_moves inputs.Put node = inl (same_recovery inputs.Put node (on_put node.outbox (at_first node)).node.recovery (by_outbox node.outbox))
+recovery_moves inputs.Put node =
+    inl (same_recovery inputs.Put node (on_put node.outbox (at_first node)).node.recovery (by_outbox node.outbox))
   where
     by_outbox : (outbox : List Entry) → (on_put outbox (at_first node)).node.recovery ≡ node.recovery
     by_outbox [] = refl

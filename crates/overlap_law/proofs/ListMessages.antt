@@ -1,6 +1,7 @@
 -- The lists that a recovery asks for: each of a node that it still waits for, and of each node once. So once all have come nothing adds to
 -- what is pending, and it is known.
-use Rattle.std.proofs.Common.{◌≡◌, ◌≢◌, ⊎_elim, arith, ℕ, ◌+◌, ◌<◌, ◌==◌, Bool, true, false, not, cond, ◌&&◌, ◌||◌, List, [], ◌∷◌, ◌++◌, length, map, filter, Contains, Option, Some, None, is_some, option_map, refl, sym, ap, subst, ◌∙◌}
+use Rattle.std.proofs.Common.{◌≡◌, ◌≢◌, ⊎_elim, arith, ℕ, ◌+◌, ◌<◌, ◌==◌, Bool, true, false, not, cond, ◌&&◌, ◌||◌, List, [], ◌∷◌, ◌++◌}
+use Rattle.std.proofs.Common.{length, map, filter, Contains, Option, Some, None, is_some, option_map, refl, sym, ap, subst, ◌∙◌}
 use Rattle.std.specs.Option.{option_map_or}
 use Rattle.std.specs.List.{list_any}
 use Rattle.std.specs.List.Sorted.{IsStrictlyIncreasing}
@@ -9,7 +10,8 @@ use Rattle.std.proofs.lemmas.List.Elements.{All-contains}
 use Rattle.std.proofs.lemmas.List.Kept.{IsStrictlyIncreasing-filter}
 use Rattle.proof_tools.proofs.AscendingNumbers.{IsStrictlyIncreasing-first, IsStrictlyIncreasing-tail}
 use Rattle.proof_tools.proofs.Booleans.{cond_either}
-use Rattle.proof_tools.proofs.Lists.{Contains-nil, Contains-head, Contains-cons, Contains-cons_cases, Contains-filter, filter-contains, find-contains}
+use Rattle.proof_tools.proofs.Lists.{Contains-nil, Contains-head, Contains-cons, Contains-cons_cases, Contains-filter, filter-contains}
+use Rattle.proof_tools.proofs.Lists.{find-contains}
 use Rattle.object_id.specs.declared.node.NodeId.{NodeId}
 use Rattle.object_id.specs.declared.policy.Policy.{Policy}
 use Rattle.object_id.specs.Oid.{kind_of}
@@ -21,9 +23,12 @@ use Rattle.peer_proto.specs.declared.say.PeerSay.{PeerSay}
 use Rattle.peer_proto.specs.declared.say.PeerSay.TheVariants as says
 use Rattle.recovery.specs.Level.{is_of_search, level_over, searching}
 use Rattle.recovery.specs.Shown.{first_in, live_policy, shown_with_pending}
-use Rattle.recovery.specs.State.{Message, Search, Recovery, RecoveryState, is_listed, is_finished, all_unanswered, can_tick, has_number, message_of, search_on}
-use Rattle.recovery.specs.Steps.{to_recover, at_start, recovery_from_epoch, messages_without, without_unanswered, with_list_of, after_list, after_read, after_ask, message_end, search_after_answer}
-use Rattle.recovery.specs.Tick.{request_message, messages_to, lists_asked, asked_of, level_asked, level_messages, next_search, tick_messages, with_messages, state_after_tick}
+use Rattle.recovery.specs.State.{Message, Search, Recovery, RecoveryState, is_listed, is_finished, all_unanswered, can_tick, has_number}
+use Rattle.recovery.specs.State.{message_of, search_on}
+use Rattle.recovery.specs.Steps.{to_recover, at_start, recovery_from_epoch, messages_without, without_unanswered, with_list_of, after_list}
+use Rattle.recovery.specs.Steps.{after_read, after_ask, message_end, search_after_answer}
+use Rattle.recovery.specs.Tick.{request_message, messages_to, lists_asked, asked_of, level_asked, level_messages, next_search}
+use Rattle.recovery.specs.Tick.{tick_messages, with_messages, state_after_tick}
 use Rattle.recovery.proofs.StepLemmas.{judged_each}
 
 abbrev pub numbers_of : List NodeId → List ℕ

@@ -1,6 +1,7 @@
--- Each step of a node leaves its recovery so that it waits for whom it asks for lists, and that it has all lists and lacks nothing where its
--- `Recovered` was put.
-use Rattle.std.proofs.Common.{◌≡◌, ⊎_elim, arith, ℕ, ◌<◌, ◌==◌, ◌&&◌, ◌||◌, nat_lt, Bool, true, false, not, cond, List, [], ◌∷◌, Option, Some, None, is_some, Result, Ok, Err, refl, sym, ap, subst, ◌∙◌}
+-- Each step of a node leaves its recovery so that it waits for whom it asks for lists, and that it has all lists and lacks nothing where
+-- its `Recovered` was put.
+use Rattle.std.proofs.Common.{◌≡◌, ⊎_elim, arith, ℕ, ◌<◌, ◌==◌, ◌&&◌, ◌||◌, nat_lt, Bool, true, false, not, cond, List, [], ◌∷◌, Option}
+use Rattle.std.proofs.Common.{Some, None, is_some, Result, Ok, Err, refl, sym, ap, subst, ◌∙◌}
 use Rattle.std.specs.List.Sorted.{IsStrictlyIncreasing}
 use Rattle.std.proofs.lemmas.Bool.{ne_eqb, and_parts}
 use Rattle.proof_tools.proofs.Booleans.{cond_either}
@@ -30,12 +31,14 @@ use Rattle.sheep_node.specs.declared.input.Input.TheVariants as inputs
 use Rattle.sheep_node.specs.State.{Node, initial_node}
 use Rattle.sheep_node.specs.RecoveryView.{recovery_state_of, with_recovered_rows}
 use Rattle.sheep_node.specs.StepState.{StepState, at_first}
-use Rattle.sheep_node.specs.LogReading.{epoch_members, epochs_with_entry, peer_with_entry, node_with_entry, recovery_in_epoch, begins_recovery, recovery_with_entry, with_settled, entry_read, come_back_with, on_back}
+use Rattle.sheep_node.specs.LogReading.{epoch_members, epochs_with_entry, peer_with_entry, node_with_entry, recovery_in_epoch}
+use Rattle.sheep_node.specs.LogReading.{begins_recovery, recovery_with_entry, with_settled, entry_read, come_back_with, on_back}
 use Rattle.sheep_node.specs.May.{may_tick}
 use Rattle.sheep_node.specs.Step.{on_request, recovery_stepped, on_put, on_recover_tick}
 use Rattle.sheep_node.specs.StepFacts.{may_begin_recovery}
 use Rattle.sheep_node.specs.Changes.{input_received}
-use Rattle.overlap_law.proofs.ListMessages.{numbers_of, AsksLists, AsksListsIn, IsDone, IsDoneIn, PendingStays, filtered_stays, GoesOnAsking, after_search, ended_asks, ticked_asks, not_done_yet, begun_asks}
+use Rattle.overlap_law.proofs.ListMessages.{numbers_of, AsksLists, AsksListsIn, IsDone, IsDoneIn, PendingStays, filtered_stays}
+use Rattle.overlap_law.proofs.ListMessages.{GoesOnAsking, after_search, ended_asks, ticked_asks, not_done_yet, begun_asks}
 use Rattle.overlap_law.proofs.RecoveredEntries.{PutsOnlyItsEnd}
 use Rattle.overlap_law.proofs.RecoveryMembers.{nodes_of_members, RecoveryParts, parts_received, recovered_received}
 
@@ -77,7 +80,8 @@ answered_stays (asks.Write key offset bytes) peer =
     recovered_stays (is_waiting peer key.oid) peer (peer_write_step (write_at peer.rows key offset bytes) peer)
     (written_stays (write_at peer.rows key offset bytes) peer)
 answered_stays (asks.Read key offset size) peer =
-    recovered_stays (is_waiting peer key.oid) peer (peer_say_step (piece_or_refusal (read_at peer.rows key offset size)) peer) (as_it_was peer.pending)
+    recovered_stays (is_waiting peer key.oid) peer (peer_say_step (piece_or_refusal (read_at peer.rows key offset size)) peer)
+    (as_it_was peer.pending)
 answered_stays asks.List peer = as_it_was peer.pending
 answered_stays (asks.RecoverRead oid level) peer = as_it_was peer.pending
 
@@ -99,7 +103,8 @@ abbrev pub MayTickIf : Input → Node → Type 0
 MayTickIf inputs.RecoverTick node = may_tick node ≡ true
 MayTickIf _ node = Unit {0}
 
-pub lists_received : (input : Input) (node : Node) → may_begin_recovery input ≡ false → MayTickIf input node → AsksListsIn (recovery_state_of node)
+pub lists_received : (input : Input) (node : Node) → may_begin_recovery input ≡ false → MayTickIf input node
+    → AsksListsIn (recovery_state_of node)
     → GoesOn node (input_received input (at_first node)).node
 unfolding on_request on_recover_tick recovery_steps.recovery_on_reply recovery_steps.recovery_on_loss
 lists_received (inputs.Guest req session ask) node quiet may so = (so, λ done. done)
@@ -141,7 +146,8 @@ entered_pending entry node =
     (filtered_stays (λ oid. not (goes oid)) node.peer.pending) (filtered_stays (λ oid. not (goes oid)) node.peer.pending)
 
 module _ (entry : Entry) (node : Node) (so : KnowsItsLists node)
-    (up : begins_recovery entry node ≡ true → IsStrictlyIncreasing (numbers_of (nodes_of_members (epoch_members (node_with_entry entry node))))) where
+    (up : begins_recovery entry node ≡ true → IsStrictlyIncreasing
+    (numbers_of (nodes_of_members (epoch_members (node_with_entry entry node))))) where
   abbrev entered : Node
   entered = node_with_entry entry node
 
@@ -151,8 +157,11 @@ module _ (entry : Entry) (node : Node) (so : KnowsItsLists node)
 
   known_then : (b : Bool) → begins_recovery entry node ≡ b
       → Known (cond b (recovery_in_epoch entered) (recovery_state_of entered)) (cond b false node.recovered)
-  known_then true begins =
-      (begun_asks entered.peer.epoch (nodes_of_members (epoch_members entered)) (recovery_state_of entered) (up begins), λ put. absurd (cc (put)))
+  known_then true begins = (
+    begun_asks entered.peer.epoch (nodes_of_members (epoch_members entered)) (recovery_state_of entered) (up begins),
+    λ put. absurd
+        (cc (put)),
+  )
   known_then false none =
       let (asks_on, done_on) = after_search (recovery_state_of node) (recovery_state_of entered)
       (record { epoch = refl; unanswered = refl; waiting = refl; pending = entered_pending entry node }) so.asks_so in
@@ -168,14 +177,16 @@ module _ (entry : Entry) (node : Node) (so : KnowsItsLists node)
   read_lists =
       let state = recovery_with_entry entry node in
       let known = known_then (begins_recovery entry node) refl in
-      let same = settled_pending (settled_of (read_entry entry node.peer).entries) (with_recovered_rows state (peer_with_entry entry node)) in
+      let same = settled_pending (settled_of (read_entry entry node.peer).entries)
+      (with_recovered_rows state (peer_with_entry entry node)) in
       let now : KnownBy state (entry_read entry node).recovered (entry_read entry node).peer.pending
       = subst (KnownBy state (entry_read entry node).recovered) (sym same) known in
       record { asks_so = now.0; done = now.1 }
 
 -- ---- a node comes back
 
-pub back_lists : (entries : List Entry) (node : Node) → IsStrictlyIncreasing (numbers_of (nodes_of_members (epoch_members (come_back_with entries node))))
+pub back_lists : (entries : List Entry) (node : Node)
+    → IsStrictlyIncreasing (numbers_of (nodes_of_members (epoch_members (come_back_with entries node))))
     → KnowsItsLists (on_back entries node)
 unfolding on_back
 back_lists entries node up =

@@ -1,6 +1,7 @@
--- A finished list has what was made before its recovery's epoch, or the node itself has a row of it: another node that holds it there came to
--- the epoch, and told of each object of which it has a row from before.
-use Rattle.std.proofs.Common.{◌≡◌, ◌≢◌, ◌⊎◌, inl, inr, ⊎_elim, arith, ℕ, ◌≤◌, ◌<◌, nat_le, not, Bool, true, false, cond, List, [], ◌∷◌, length, filter, Option, Some, None, refl, sym, ap, subst, ◌∙◌, slice_get}
+-- A finished list has what was made before its recovery's epoch, or the node itself has a row of it: another node that holds it there came
+-- to the epoch, and told of each object of which it has a row from before.
+use Rattle.std.proofs.Common.{◌≡◌, ◌≢◌, ◌⊎◌, inl, inr, ⊎_elim, arith, ℕ, ◌≤◌, ◌<◌, nat_le, not, Bool, true, false, cond, List, [], ◌∷◌}
+use Rattle.std.proofs.Common.{length, filter, Option, Some, None, refl, sym, ap, subst, ◌∙◌, slice_get}
 use Rattle.std.specs.FinMap as tree
 use Rattle.std.proofs.lemmas.Bool.{and_parts, cases_eq, eq-eqb, leb-true, or_left, or_right}
 use Rattle.std.proofs.lemmas.Option.{same_Some}
@@ -42,7 +43,8 @@ some_passes p (node ∷ nodes) some = by_test (p node) refl some (λ more. some_
 
 module _ (good : ℕ → Bool) (moment : MomentWithPast) (has : HasMade good moment)
     (lists : ListsAreWhole (lives_by moment.world.log) moment.world.hosts moment.world.wire) where
-  module _ (n : ℕ) (host : Host) (at : tree.get moment.world.hosts n ≡ Some host) (up : host.is_lost ≡ false) (j : ℕ) (attempt : AttemptRecord)
+  module _ (n : ℕ) (host : Host) (at : tree.get moment.world.hosts n ≡ Some host) (up : host.is_lost ≡ false) (j : ℕ)
+      (attempt : AttemptRecord)
       (got : slice_get moment.past.attempts j ≡ Some attempt) (policy : Policy) (me_so : host.node.recovery.me.0 ≡ n)
       (listed : is_listed host.node.recovery ≡ true) (settled : settled_of moment.world.log < host.node.recovery.epoch)
       (within : host.node.recovery.epoch ≤ epoch_of moment.world.log) (good_so : good (object_of attempt) ≡ true)
@@ -75,7 +77,8 @@ module _ (good : ℕ → Bool) (moment : MomentWithPast) (has : HasMade good mom
         → tree.get moment.world.hosts q.0 ≡ Some teller → has_row_at teller.node.peer.epoch teller.node.peer.rows oid level ≡ true
         → is_object_among oid host.node.recovery.lists.objects ≡ true
     told q member apart teller teller_at holds =
-        let (i, row, row_at, found_row, covers) = any_found (row_covers teller.node.peer.epoch level) (rows_of teller.node.peer.rows oid) holds in
+        let (i, row, row_at, found_row, covers) = any_found (row_covers teller.node.peer.epoch level) (rows_of teller.node.peer.rows oid)
+        holds in
         let begins = leb-true row.from.0 level
         (and_parts (nat_le row.from.0 level) (nat_le level (end_of_row teller.node.peer.epoch row.to)) covers).0 in
         let below = found.below in

@@ -1,6 +1,7 @@
--- What each change of a moment makes of the list of a recovery: the recovery is of a later epoch, or goes on; and then a finished list stays
--- finished, and names what it named.
-use Rattle.std.proofs.Common.{◌≡◌, ◌≢◌, ◌⊎◌, inl, inr, ⊎_elim, arith, ℕ, ◌+◌, ◌≤◌, ◌<◌, ◌==◌, Bool, true, false, cond, List, [], ◌∷◌, length, is_some, Option, Some, None, refl, sym, ap, subst, ◌∙◌}
+-- What each change of a moment makes of the list of a recovery: the recovery is of a later epoch, or goes on; and then a finished list
+-- stays finished, and names what it named.
+use Rattle.std.proofs.Common.{◌≡◌, ◌≢◌, ◌⊎◌, inl, inr, ⊎_elim, arith, ℕ, ◌+◌, ◌≤◌, ◌<◌, ◌==◌, Bool, true, false, cond, List, [], ◌∷◌}
+use Rattle.std.proofs.Common.{length, is_some, Option, Some, None, refl, sym, ap, subst, ◌∙◌}
 use Rattle.std.specs.FinMap as tree
 use Rattle.std.proofs.lemmas.Bool.{and_parts, cases_eq, eqb-true}
 use Rattle.std.proofs.lemmas.Option.{same_Some}
@@ -25,7 +26,8 @@ use Rattle.sheep_node.specs.declared.input.Input.TheVariants as inputs
 use Rattle.sheep_node.specs.State.{Node}
 use Rattle.sheep_node.specs.RecoveryView.{recovery_state_of}
 use Rattle.sheep_node.specs.StepState.{StepState, at_first}
-use Rattle.sheep_node.specs.LogReading.{epoch_members, is_epoch_member, epochs_with_entry, peer_with_entry, node_with_entry, recovery_in_epoch, begins_recovery, entry_read}
+use Rattle.sheep_node.specs.LogReading.{epoch_members, is_epoch_member, epochs_with_entry, peer_with_entry, node_with_entry}
+use Rattle.sheep_node.specs.LogReading.{recovery_in_epoch, begins_recovery, entry_read}
 use Rattle.sheep_node.specs.Step.{on_request, recovery_stepped, on_put, on_recover_tick}
 use Rattle.sheep_node.specs.Changes as changes
 use Rattle.sheep_node.specs.Changes.{input_received}
@@ -35,7 +37,8 @@ use Rattle.sheep_world.specs.Began.{Began}
 use Rattle.sheep_world.specs.EventKinds.{log_after_return}
 use Rattle.sheep_world.specs.HostChanges.{joined_host, host_after_return}
 use Rattle.sheep_world.specs.MembershipChanges.{lost_host}
-use Rattle.sheep_world.specs.NodeCauses.{NodeCause, GuestAsks, RequestComes, ReplyComes, LossIsTold, EntryIsRead, EntryIsPut, RecoveryTicks, WorkIsRetried, input_of_cause, host_with_node}
+use Rattle.sheep_world.specs.NodeCauses.{NodeCause, GuestAsks, RequestComes, ReplyComes, LossIsTold, EntryIsRead, EntryIsPut, RecoveryTicks}
+use Rattle.sheep_world.specs.NodeCauses.{WorkIsRetried, ClientAsks, input_of_cause, host_with_node}
 use Rattle.sheep_world.specs.Step.{EventOutcome}
 use Rattle.sheep_world.specs.World.{Host}
 use Rattle.cluster_script.specs.declared.statement.Statement.TheVariants as lines
@@ -92,7 +95,8 @@ none_left from [] none = refl
 none_left from (node ∷ waiting) none =
     let no : length (node ∷ waiting) ≡ 0 = eqb-true (length (node ∷ waiting)) 0 none in absurd (omega (arith, no))
 
-ended_goes : (number : ℕ) (said : Option PeerSay) (node : Node) → ListGoes node.recovery (message_end number said (recovery_state_of node)).recovery
+ended_goes : (number : ℕ) (said : Option PeerSay) (node : Node)
+    → ListGoes node.recovery (message_end number said (recovery_state_of node)).recovery
 ended_goes number said node =
     let state = recovery_state_of node in
     let new = (message_end number said (recovery_state_of node)).recovery in
@@ -117,11 +121,13 @@ unfolding entry_read peers.peer_in_next_epoch read_entry without_objects
 entry_goes entry node entered = by_begins (begins_recovery entry node) refl
   where
     next : begins_epoch entry ≡ true → (peer_with_entry entry node).epoch ≡ node.peer.epoch + 1
-    next begins = ap (λ (b : Bool). (cond b (peers.peer_in_next_epoch node.me (targets_in (epochs_with_entry entry node)) (read_entry entry node.peer))
-        (read_entry entry node.peer)).epoch) begins
+    next begins =
+        ap (λ (b : Bool). (cond b (peers.peer_in_next_epoch node.me (targets_in (epochs_with_entry entry node))
+        (read_entry entry node.peer)) (read_entry entry node.peer)).epoch) begins
 
     by_begins : (b : Bool) → begins_recovery entry node ≡ b
-        → ListGoes node.recovery (cond b (recovery_in_epoch (node_with_entry entry node)) (recovery_state_of (node_with_entry entry node))).recovery
+        → ListGoes node.recovery (cond b (recovery_in_epoch (node_with_entry entry node))
+        (recovery_state_of (node_with_entry entry node))).recovery
     by_begins true begins =
         let read = node_with_entry entry node in
         let aim : (recovery_in_epoch (node_with_entry entry node)).recovery.epoch ≡ (node_with_entry entry node).peer.epoch
@@ -154,9 +160,11 @@ received_goes (EntryIsPut entry) node entered = by_outbox node.outbox
     by_outbox (first ∷ later) = list_stays node.recovery
 received_goes RecoveryTicks node entered = inr (
   ap (λ (f : Frame). f.recovered) (frame_of_tick node.sends (recovery_state_of node)),
-  same_lists node.recovery (input_received inputs.RecoverTick (at_first node)).node.recovery (lists_ticked node.sends (recovery_state_of node)),
+  same_lists node.recovery (input_received inputs.RecoverTick (at_first node)).node.recovery
+      (lists_ticked node.sends (recovery_state_of node)),
 )
 received_goes WorkIsRetried node entered = list_stays node.recovery
+received_goes (ClientAsks req ask) node entered = list_stays node.recovery
 
 -- ---- each change
 
@@ -173,7 +181,8 @@ one_host : (before after : MomentWithPast) (k : ℕ) (new : Host) → after.worl
 one_host before after k new hosts goes n was there = ⊎_elim
     (λ (own : n ≡ k). (
       new,
-      ap (λ (all : Hosts). tree.get all n) hosts ∙ ap (tree.get (tree.insert before.world.hosts k new)) own ∙ get-insert_same before.world.hosts k new,
+      ap (λ (all : Hosts). tree.get all n) hosts ∙ ap (tree.get (tree.insert before.world.hosts k new)) own
+          ∙ get-insert_same before.world.hosts k new,
       goes was (ap (tree.get before.world.hosts) (sym own) ∙ there),
     ))
     (λ (apart : n ≢ k). (
@@ -200,7 +209,8 @@ module _ (script : List Statement) (range : RunsAreInRange script) (start : Mome
         let same : stepping.host ≡ was = same_Some stepping.host was (sym is.there ∙ there) in
         let entered = ((sound_hosts script range start began).each stepping.n stepping.host is.there).sound.recovers.entered in
         subst (λ (h : Host). ListGoes h.node.recovery so_far.node.recovery) same
-        (subst (ListGoes stepping.host.node.recovery) (sym (untouched so_far leads)) (received_goes stepping.cause stepping.host.node entered)))
+        (subst (ListGoes stepping.host.node.recovery) (sym (untouched so_far leads))
+        (received_goes stepping.cause stepping.host.node entered)))
 
   pub lists_go : {before after : MomentWithPast} → MomentChange script start before after → ListsGo before after
   lists_go (moments.StepBegins stepping is by) = stepped stepping is (first_in_step stepping) changes.Still

@@ -6,7 +6,8 @@ use Rattle.cluster_script.specs.declared.statement.Statement.{Statement}
 use Rattle.cluster_script.specs.Settings.{vnodes_of}
 use Rattle.sheep_world.specs.MembershipChanges.{join_of, last_weight}
 use Rattle.sheep_world.specs.Step.{EventOutcome}
-use Rattle.sheep_world.specs.NodeCauses.{NodeCause, GuestAsks, RequestComes, ReplyComes, LossIsTold, EntryIsRead, EntryIsPut, RecoveryTicks, WorkIsRetried, log_after_cause}
+use Rattle.sheep_world.specs.NodeCauses.{NodeCause, GuestAsks, RequestComes, ReplyComes, LossIsTold, EntryIsRead, EntryIsPut, RecoveryTicks}
+use Rattle.sheep_world.specs.NodeCauses.{WorkIsRetried, ClientAsks, log_after_cause}
 use Rattle.overlap_law.specs.Past.{MomentWithPast}
 use Rattle.overlap_law.specs.StepMoments.{StepsByChanges}
 use Rattle.overlap_law.specs.MomentChanges as moments
@@ -29,6 +30,7 @@ log-by_changes (EntryIsRead entry) by log = refl
 log-by_changes (EntryIsPut entry) by log = absurd by
 log-by_changes RecoveryTicks by log = absurd by
 log-by_changes WorkIsRetried by log = refl
+log-by_changes (ClientAsks req ask) by log = refl
 
 pub log-by_cause : (cause : NodeCause) (log : List Entry) → GrowsTo log (log_after_cause cause log)
 log-by_cause (GuestAsks session req ask) log = same_log log log refl
@@ -39,6 +41,7 @@ log-by_cause (EntryIsRead entry) log = same_log log log refl
 log-by_cause (EntryIsPut entry) log = (entry ∷ [], refl)
 log-by_cause RecoveryTicks log = same_log log log refl
 log-by_cause WorkIsRetried log = same_log log log refl
+log-by_cause (ClientAsks req ask) log = same_log log log refl
 
 module _ (script : List Statement) where
   pub logs_grow : {start before after : MomentWithPast} → MomentChange script start before after → GrowsTo before.world.log after.world.log

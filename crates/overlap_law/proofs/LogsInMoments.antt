@@ -1,5 +1,6 @@
 -- Over each change of a moment the log gets at most one entry, and who is up after it was up before, or joined or came back with an epoch.
-use Rattle.std.proofs.Common.{◌≡◌, ◌≢◌, ◌⊎◌, inl, inr, ⊎_elim, arith, ℕ, ◌+◌, ◌≤◌, suc, false, List, [], ◌∷◌, ◌++◌, filter, length, Some, is_some, refl, sym, ap, subst, ◌∙◌, append-nil}
+use Rattle.std.proofs.Common.{◌≡◌, ◌≢◌, ◌⊎◌, inl, inr, ⊎_elim, arith, ℕ, ◌+◌, ◌≤◌, suc, false, List, [], ◌∷◌, ◌++◌, filter, length, Some}
+use Rattle.std.proofs.Common.{is_some, refl, sym, ap, subst, ◌∙◌, append-nil}
 use Rattle.std.specs.FinMap as tree
 use Rattle.std.proofs.lemmas.Bool.{cases_eq}
 use Rattle.std.proofs.lemmas.Option.{same_Some}
@@ -18,7 +19,8 @@ use Rattle.sheep_node.proofs.StepResults.{step_reads}
 use Rattle.sheep_world.specs.World.{Host}
 use Rattle.sheep_world.specs.Step.{EventOutcome}
 use Rattle.sheep_world.specs.MembershipChanges.{lost_host, join_of, last_weight}
-use Rattle.sheep_world.specs.NodeCauses.{NodeCause, GuestAsks, RequestComes, ReplyComes, LossIsTold, EntryIsRead, EntryIsPut, RecoveryTicks, WorkIsRetried, event_of_cause, host_with_node, log_after_cause}
+use Rattle.sheep_world.specs.NodeCauses.{NodeCause, GuestAsks, RequestComes, ReplyComes, LossIsTold, EntryIsRead, EntryIsPut, RecoveryTicks}
+use Rattle.sheep_world.specs.NodeCauses.{WorkIsRetried, ClientAsks, event_of_cause, host_with_node, log_after_cause}
 use Rattle.sheep_world.specs.EventKinds.{log_after_return, outcome_of_step}
 use Rattle.sheep_world.specs.HostChanges.{host_after_return, joined_host}
 use Rattle.sheep_world.specs.Began.{Began}
@@ -47,7 +49,8 @@ same_log log log_after same =
 
 one_entry : (log log_after : List Entry) (entry : Entry) → log_after ≡ log ++ entry ∷ [] → LogGrows log log_after
 one_entry log log_after entry is =
-    let sum : epoch_of log_after ≡ epoch_of log + length (filter begins_epoch (entry ∷ [])) = ap epoch_of is ∙ epoch_of-append log (entry ∷ []) in
+    let sum : epoch_of log_after ≡ epoch_of log + length (filter begins_epoch (entry ∷ [])) = ap epoch_of is
+    ∙ epoch_of-append log (entry ∷ []) in
     let few : length (filter begins_epoch (entry ∷ [])) ≤ 1
     = cond_either (λ (es : List Entry). length es ≤ 1) (begins_epoch entry) (entry ∷ []) [] (omega arith) (omega arith) in
     record { rest = entry ∷ []; is = is; most = omega (arith, sum, few) }
@@ -61,6 +64,7 @@ by_cause (EntryIsRead entry) log = same_log log log refl
 by_cause (EntryIsPut entry) log = one_entry log (log ++ entry ∷ []) entry refl
 by_cause RecoveryTicks log = same_log log log refl
 by_cause WorkIsRetried log = same_log log log refl
+by_cause (ClientAsks req ask) log = same_log log log refl
 
 pub log_by_changes : (cause : NodeCause) → StepsByChanges cause → (log : List Entry) → log_after_cause cause log ≡ log
 log_by_changes (GuestAsks session req ask) by log = refl
@@ -71,6 +75,7 @@ log_by_changes (EntryIsRead entry) by log = refl
 log_by_changes (EntryIsPut entry) by log = absurd by
 log_by_changes RecoveryTicks by log = absurd by
 log_by_changes WorkIsRetried by log = refl
+log_by_changes (ClientAsks req ask) by log = refl
 
 pub log_grows : (script : List Statement) {start before after : MomentWithPast} → MomentChange script start before after
     → LogGrows before.world.log after.world.log
@@ -87,11 +92,14 @@ log_grows script {start} {before} {after} (moments.NodeIsLost event made happene
 log_grows script {start} {before} {after} (moments.NodeLeaves event made happened h) =
     one_entry before.world.log after.world.log (entries.Leave (record { 0 = h.n })) (ap (λ (m : EventOutcome). m.world.log) (sym h.made_so))
 log_grows script {start} {before} {after} (moments.NodeIsReweighted event made happened h) =
-    one_entry before.world.log after.world.log (entries.Reweight (record { 0 = h.n }) h.vnodes) (ap (λ (m : EventOutcome). m.world.log) (sym h.made_so))
+    one_entry before.world.log after.world.log (entries.Reweight (record { 0 = h.n }) h.vnodes)
+    (ap (λ (m : EventOutcome). m.world.log) (sym h.made_so))
 log_grows script {start} {before} {after} (moments.NodeJoins event made happened h) =
-    one_entry before.world.log after.world.log (join_of script h.n (vnodes_of script)) (ap (λ (m : EventOutcome). m.world.log) (sym h.made_so))
+    one_entry before.world.log after.world.log (join_of script h.n (vnodes_of script))
+    (ap (λ (m : EventOutcome). m.world.log) (sym h.made_so))
 log_grows script {start} {before} {after} (moments.NodeComesBack event made happened h) =
-    one_entry before.world.log after.world.log (join_of script h.n (last_weight before.world.log h.n)) (ap (λ (m : EventOutcome). m.world.log) (sym h.made_so))
+    one_entry before.world.log after.world.log (join_of script h.n (last_weight before.world.log h.n))
+    (ap (λ (m : EventOutcome). m.world.log) (sym h.made_so))
 log_grows script {start} {before} {after} (moments.PhaseEnds event made happened h) =
     same_log before.world.log after.world.log (ap (λ (m : EventOutcome). m.world.log) (sym h.made_so))
 
@@ -103,11 +111,13 @@ same_members log log_after grows some epoch begun =
 
 pub epochs_grow : (log log_after : List Entry) → LogGrows log log_after → epoch_of log ≤ epoch_of log_after
 epochs_grow log log_after grows =
-    let sum : epoch_of log_after ≡ epoch_of log + length (filter begins_epoch grows.rest) = ap epoch_of grows.is ∙ epoch_of-append log grows.rest in
+    let sum : epoch_of log_after ≡ epoch_of log + length (filter begins_epoch grows.rest) = ap epoch_of grows.is
+    ∙ epoch_of-append log grows.rest in
     omega (arith, sum)
 
 -- a moment is the end of an event, or has the log of the one before
-pub ends_or_same : (script : List Statement) {start before after : MomentWithPast} → Began script start.world → MomentChange script start before after
+pub ends_or_same : (script : List Statement) {start before after : MomentWithPast} → Began script start.world
+    → MomentChange script start before after
     → Began script after.world ⊎ (after.world.log ≡ before.world.log)
 ends_or_same script {start} began (moments.StepBegins stepping is by) = inr (log_by_changes stepping.cause by start.world.log)
 ends_or_same script {start} began (moments.StepGoesOn stepping so_far next is by within) = inr refl
@@ -115,10 +125,12 @@ ends_or_same script {start} began (moments.StepIsMade stepping is by) =
     inl (goes_on script (event_of_cause stepping.n stepping.cause) start.world
     (outcome_of_step script stepping.n stepping.host stepping.cause start.world) began is.made)
 ends_or_same script {start} began (moments.LossIsUntold event made happened h) = inl (goes_on script event start.world made began happened)
-ends_or_same script {start} began (moments.DeliveryIsUnread event made happened h) = inl (goes_on script event start.world made began happened)
+ends_or_same script {start} began (moments.DeliveryIsUnread event made happened h) =
+    inl (goes_on script event start.world made began happened)
 ends_or_same script {start} began (moments.NodeIsLost event made happened h) = inl (goes_on script event start.world made began happened)
 ends_or_same script {start} began (moments.NodeLeaves event made happened h) = inl (goes_on script event start.world made began happened)
-ends_or_same script {start} began (moments.NodeIsReweighted event made happened h) = inl (goes_on script event start.world made began happened)
+ends_or_same script {start} began (moments.NodeIsReweighted event made happened h) =
+    inl (goes_on script event start.world made began happened)
 ends_or_same script {start} began (moments.NodeJoins event made happened h) = inl (goes_on script event start.world made began happened)
 ends_or_same script {start} began (moments.NodeComesBack event made happened h) = inl (goes_on script event start.world made began happened)
 ends_or_same script {start} began (moments.PhaseEnds event made happened h) = inl (goes_on script event start.world made began happened)
@@ -146,7 +158,8 @@ one_up : (before after : MomentWithPast) (k : ℕ) (new : Host) → after.world.
     → (new.is_lost ≡ false → WasUp before.world.hosts k ⊎ IsNew before after k new) → TheUpWereUp before after
 one_up before after k new hosts own n now there up = ⊎_elim
     (λ (is : n ≡ k).
-    let at : tree.get after.world.hosts k ≡ Some new = ap (λ (held : Hosts). tree.get held k) hosts ∙ get-insert_same before.world.hosts k new in
+    let at : tree.get after.world.hosts k ≡ Some new = ap (λ (held : Hosts). tree.get held k) hosts
+    ∙ get-insert_same before.world.hosts k new in
     let same : new ≡ now = same_Some new now (sym at ∙ ap (tree.get after.world.hosts) (sym is) ∙ there) in
     let so : WasUp before.world.hosts k ⊎ IsNew before after k now
     = subst (λ (h : Host). WasUp before.world.hosts k ⊎ IsNew before after k h) same (own (ap (λ (h : Host). h.is_lost) same ∙ up)) in
@@ -162,34 +175,45 @@ step_up before after k old new hosts was same = one_up before after k new hosts 
 pub ups_were_up : (script : List Statement) → RunsAreInRange script → {start before after : MomentWithPast} → Began script start.world
     → MomentChange script start before after → TheUpWereUp before after
 ups_were_up script range {start} began (moments.StepBegins stepping is by) =
-    step_up start (moment_in_step script stepping start (first_in_step stepping)) stepping.n stepping.host (host_with_node stepping.host (first_in_step stepping).node) refl is.there refl
+    step_up start (moment_in_step script stepping start (first_in_step stepping)) stepping.n stepping.host
+    (host_with_node stepping.host (first_in_step stepping).node) refl is.there refl
 ups_were_up script range {start} began (moments.StepGoesOn stepping so_far next is by within) =
     let was = host_with_node stepping.host so_far.node in
     let now = host_with_node stepping.host next.node in
     step_up (moment_in_step script stepping start so_far) (moment_in_step script stepping start next) stepping.n was now
     (sym (insert-insert start.world.hosts stepping.n was now)) (get-insert_same start.world.hosts stepping.n was) refl
 ups_were_up script range {start} began (moments.StepIsMade stepping is by) =
-    step_up start (moment_in_step script stepping start (last_in_step stepping)) stepping.n stepping.host (host_with_node stepping.host (last_in_step stepping).node) refl is.there refl
-ups_were_up script range {start} {before} {after} began (moments.LossIsUntold event made happened h) = same_up before after (ap (λ (m : EventOutcome). m.world.hosts) (sym h.made_so))
-ups_were_up script range {start} {before} {after} began (moments.DeliveryIsUnread event made happened h) = same_up before after (ap (λ (m : EventOutcome). m.world.hosts) (sym h.made_so))
+    step_up start (moment_in_step script stepping start (last_in_step stepping)) stepping.n stepping.host
+    (host_with_node stepping.host (last_in_step stepping).node) refl is.there refl
+ups_were_up script range {start} {before} {after} began (moments.LossIsUntold event made happened h) =
+    same_up before after (ap (λ (m : EventOutcome). m.world.hosts) (sym h.made_so))
+ups_were_up script range {start} {before} {after} began (moments.DeliveryIsUnread event made happened h) =
+    same_up before after (ap (λ (m : EventOutcome). m.world.hosts) (sym h.made_so))
 ups_were_up script range {start} {before} {after} began (moments.NodeIsLost event made happened h) =
     one_up before after h.n (lost_host h.host) (ap (λ (m : EventOutcome). m.world.hosts) (sym h.made_so)) (λ up. absurd (cc (up)))
-ups_were_up script range {start} {before} {after} began (moments.NodeLeaves event made happened h) = same_up before after (ap (λ (m : EventOutcome). m.world.hosts) (sym h.made_so))
-ups_were_up script range {start} {before} {after} began (moments.NodeIsReweighted event made happened h) = same_up before after (ap (λ (m : EventOutcome). m.world.hosts) (sym h.made_so))
+ups_were_up script range {start} {before} {after} began (moments.NodeLeaves event made happened h) =
+    same_up before after (ap (λ (m : EventOutcome). m.world.hosts) (sym h.made_so))
+ups_were_up script range {start} {before} {after} began (moments.NodeIsReweighted event made happened h) =
+    same_up before after (ap (λ (m : EventOutcome). m.world.hosts) (sym h.made_so))
 ups_were_up script range {start} {before} {after} began (moments.NodeJoins event made happened h) =
     one_up before after h.n (joined_host script h.n) (ap (λ (m : EventOutcome). m.world.hosts) (sym h.made_so))
     (λ up. inr (record {
-      begun = ap (λ (m : EventOutcome). epoch_of m.world.log) (sym h.made_so) ∙ epoch_more start.world.log (join_of script h.n (vnodes_of script)) refl;
+      begun = ap (λ (m : EventOutcome). epoch_of m.world.log) (sym h.made_so)
+          ∙ epoch_more start.world.log (join_of script h.n (vnodes_of script)) refl;
       fresh = inl (next_fits script start.world (lines.Join h.n) h.control (together script range start.world began).fit).1;
     }))
 ups_were_up script range {start} {before} {after} began (moments.NodeComesBack event made happened h) =
     let log = log_after_return script h.n start.world in
     let now = host_after_return log h.host in
     let there = ap (λ (m : EventOutcome). tree.get m.world.hosts h.n) (sym h.made_so) ∙ get-insert_same start.world.hosts h.n now in
-    let follows = by_the_log script range.is_script range.room made.world (goes_on script event start.world made began happened) h.n now there in
+    let follows = by_the_log script range.is_script range.room made.world (goes_on script event start.world made began happened) h.n now
+    there in
     one_up before after h.n now (ap (λ (m : EventOutcome). m.world.hosts) (sym h.made_so))
     (λ up. inr (record {
-      begun = ap (λ (m : EventOutcome). epoch_of m.world.log) (sym h.made_so) ∙ epoch_more start.world.log (join_of script h.n (last_weight start.world.log h.n)) refl;
-      fresh = inr (follows.epoch_so ∙ ap epoch_of (step_reads (inputs.Back log) h.host.node) ∙ ap (λ (m : EventOutcome). epoch_of m.world.log) h.made_so);
+      begun = ap (λ (m : EventOutcome). epoch_of m.world.log) (sym h.made_so)
+          ∙ epoch_more start.world.log (join_of script h.n (last_weight start.world.log h.n)) refl;
+      fresh = inr (follows.epoch_so ∙ ap epoch_of (step_reads (inputs.Back log) h.host.node)
+          ∙ ap (λ (m : EventOutcome). epoch_of m.world.log) h.made_so);
     }))
-ups_were_up script range {start} {before} {after} began (moments.PhaseEnds event made happened h) = same_up before after (ap (λ (m : EventOutcome). m.world.hosts) (sym h.made_so))
+ups_were_up script range {start} {before} {after} began (moments.PhaseEnds event made happened h) =
+    same_up before after (ap (λ (m : EventOutcome). m.world.hosts) (sym h.made_so))

@@ -6,7 +6,8 @@ use Rattle.cluster_script.specs.declared.statement.Statement.{Statement}
 use Rattle.cluster_script.specs.Settings.{vnodes_of}
 use Rattle.sheep_world.specs.Step.{EventOutcome}
 use Rattle.sheep_world.specs.MembershipChanges.{join_of, last_weight}
-use Rattle.sheep_world.specs.NodeCauses.{NodeCause, GuestAsks, RequestComes, ReplyComes, LossIsTold, EntryIsRead, EntryIsPut, RecoveryTicks, WorkIsRetried, log_after_cause}
+use Rattle.sheep_world.specs.NodeCauses.{NodeCause, GuestAsks, RequestComes, ReplyComes, LossIsTold, EntryIsRead, EntryIsPut, RecoveryTicks}
+use Rattle.sheep_world.specs.NodeCauses.{WorkIsRetried, ClientAsks, log_after_cause}
 use Rattle.overlap_law.specs.Past.{MomentWithPast}
 use Rattle.overlap_law.specs.StepMoments.{StepsByChanges, StepsAtOnce}
 use Rattle.overlap_law.specs.MomentChanges as moments
@@ -25,6 +26,7 @@ log-by_changes (EntryIsRead entry) log by = refl
 log-by_changes (EntryIsPut entry) log by = absurd by
 log-by_changes RecoveryTicks log by = absurd by
 log-by_changes WorkIsRetried log by = refl
+log-by_changes (ClientAsks req ask) log by = refl
 
 log-at_once : (cause : NodeCause) (log : List Entry) → StepsAtOnce cause → IsOrGrows log (log_after_cause cause log)
 log-at_once (GuestAsks session req ask) log by = absurd by
@@ -35,6 +37,7 @@ log-at_once (EntryIsRead entry) log by = absurd by
 log-at_once (EntryIsPut entry) log by = inr (entry, refl)
 log-at_once RecoveryTicks log by = inl refl
 log-at_once WorkIsRetried log by = absurd by
+log-at_once (ClientAsks req ask) log by = absurd by
 
 pub log_of_change : (script : List Statement) {start before after : MomentWithPast} → MomentChange script start before after
     → IsOrGrows before.world.log after.world.log
@@ -60,14 +63,22 @@ pub log_since : (script : List Statement) {start before after : MomentWithPast} 
 log_since script {start} (moments.StepBegins stepping is by) = log_of_change script {start = start} (moments.StepBegins stepping is by)
 log_since script {start} (moments.StepGoesOn stepping so_far next is by within) = inl (log-by_changes stepping.cause start.world.log by)
 log_since script {start} (moments.StepIsMade stepping is by) = log_of_change script {start = start} (moments.StepIsMade stepping is by)
-log_since script {start} (moments.LossIsUntold event made happened h) = log_of_change script {start = start} (moments.LossIsUntold event made happened h)
-log_since script {start} (moments.DeliveryIsUnread event made happened h) = log_of_change script {start = start} (moments.DeliveryIsUnread event made happened h)
-log_since script {start} (moments.NodeIsLost event made happened h) = log_of_change script {start = start} (moments.NodeIsLost event made happened h)
-log_since script {start} (moments.NodeLeaves event made happened h) = log_of_change script {start = start} (moments.NodeLeaves event made happened h)
-log_since script {start} (moments.NodeIsReweighted event made happened h) = log_of_change script {start = start} (moments.NodeIsReweighted event made happened h)
-log_since script {start} (moments.NodeJoins event made happened h) = log_of_change script {start = start} (moments.NodeJoins event made happened h)
-log_since script {start} (moments.NodeComesBack event made happened h) = log_of_change script {start = start} (moments.NodeComesBack event made happened h)
-log_since script {start} (moments.PhaseEnds event made happened h) = log_of_change script {start = start} (moments.PhaseEnds event made happened h)
+log_since script {start} (moments.LossIsUntold event made happened h) =
+    log_of_change script {start = start} (moments.LossIsUntold event made happened h)
+log_since script {start} (moments.DeliveryIsUnread event made happened h) =
+    log_of_change script {start = start} (moments.DeliveryIsUnread event made happened h)
+log_since script {start} (moments.NodeIsLost event made happened h) =
+    log_of_change script {start = start} (moments.NodeIsLost event made happened h)
+log_since script {start} (moments.NodeLeaves event made happened h) =
+    log_of_change script {start = start} (moments.NodeLeaves event made happened h)
+log_since script {start} (moments.NodeIsReweighted event made happened h) =
+    log_of_change script {start = start} (moments.NodeIsReweighted event made happened h)
+log_since script {start} (moments.NodeJoins event made happened h) =
+    log_of_change script {start = start} (moments.NodeJoins event made happened h)
+log_since script {start} (moments.NodeComesBack event made happened h) =
+    log_of_change script {start = start} (moments.NodeComesBack event made happened h)
+log_since script {start} (moments.PhaseEnds event made happened h) =
+    log_of_change script {start = start} (moments.PhaseEnds event made happened h)
 
 -- the log is as it was, or the event has just begun
 pub log_or_start : (script : List Statement) {start before after : MomentWithPast} → MomentChange script start before after

@@ -1,6 +1,7 @@
--- What was lost, over a change of a moment: a message that is lost then was in the wire before, and isn't in it any more. So in every run what was
--- lost is gone.
-use Rattle.std.proofs.Common.{◌≡◌, ◌⊎◌, inl, inr, ⊎_elim, arith, ℕ, ◌≤◌, ◌<◌, Bool, true, false, List, [], ◌∷◌, ◌++◌, fold, Contains, Option, Some, None, is_some, refl, sym, ap, subst, ◌∙◌, append-nil}
+-- What was lost, over a change of a moment: a message that is lost then was in the wire before, and isn't in it any more. So in every run
+-- what was lost is gone.
+use Rattle.std.proofs.Common.{◌≡◌, ◌⊎◌, inl, inr, ⊎_elim, arith, ℕ, ◌≤◌, ◌<◌, Bool, true, false, List, [], ◌∷◌, ◌++◌, fold, Contains}
+use Rattle.std.proofs.Common.{Option, Some, None, is_some, refl, sym, ap, subst, ◌∙◌, append-nil}
 use Rattle.std.specs.FinMap as tree
 use Rattle.std.proofs.lemmas.List.Elements.{Contains-append_cases}
 use Rattle.proof_tools.proofs.Lists.{Contains-nil, Contains-cons_cases}
@@ -19,7 +20,8 @@ use Rattle.sheep_world.specs.Enabled.{loss_of}
 use Rattle.sheep_world.specs.NodeSteps.{wire_with_request}
 use Rattle.sheep_world.specs.Step.{EventOutcome}
 use Rattle.sheep_world.specs.WireMatch.{IsNumberGiven}
-use Rattle.sheep_world.specs.NodeCauses.{NodeCause, GuestAsks, RequestComes, ReplyComes, LossIsTold, EntryIsRead, EntryIsPut, RecoveryTicks, WorkIsRetried, event_of_cause, IsCause, wire_at_cause}
+use Rattle.sheep_world.specs.NodeCauses.{NodeCause, GuestAsks, RequestComes, ReplyComes, LossIsTold, EntryIsRead, EntryIsPut, RecoveryTicks}
+use Rattle.sheep_world.specs.NodeCauses.{WorkIsRetried, ClientAsks, event_of_cause, IsCause, wire_at_cause}
 use Rattle.sheep_world.proofs.WireAfterSends.{sends_apart}
 use Rattle.overlap_law.specs.Attempts.{AttemptRecord}
 use Rattle.overlap_law.specs.Packets.{Wire, is_name_in_wire}
@@ -30,7 +32,8 @@ use Rattle.overlap_law.specs.StepMoments.{SteppingNode, StepsByChanges, StepsAtO
 use Rattle.overlap_law.specs.MomentChanges as moments
 use Rattle.overlap_law.specs.MomentChanges.{MomentChange, RunsAreInRange}
 use Rattle.overlap_law.specs.TiedAttempts.{IsTied}
-use Rattle.overlap_law.specs.Traffic.{AreSentBy, Traffic, NothingMoves, MessageIsLost, ReplyIsReceived, RequestIsAnswered, RequestsAreSent, AttemptBegins, RepliesGo}
+use Rattle.overlap_law.specs.Traffic.{AreSentBy, Traffic, NothingMoves, MessageIsLost, ReplyIsReceived, RequestIsAnswered, RequestsAreSent}
+use Rattle.overlap_law.specs.Traffic.{AttemptBegins, RepliesGo}
 use Rattle.overlap_law.proofs.HostsInMoments.{HostStays, hosts_stay}
 use Rattle.overlap_law.proofs.TrafficOfChanges.{first_wire, traffic}
 use Rattle.overlap_law.proofs.WireLemmas.{gone_at, gone_less, said_less, forgets_less}
@@ -49,7 +52,8 @@ lost_after script event before made = refl
 
 -- and at a point of a step
 pub lost_in_step : (script : List Statement) (stepping : SteppingNode) (start : MomentWithPast) (so_far : StepState)
-    → (moment_in_step script stepping start so_far).past.lost ≡ start.past.lost ++ messages_lost_by (event_of_cause stepping.n stepping.cause)
+    → (moment_in_step script stepping start so_far).past.lost ≡ start.past.lost
+    ++ messages_lost_by (event_of_cause stepping.n stepping.cause)
 unfolding past_after_event
 lost_in_step script stepping start so_far = refl
 
@@ -74,7 +78,8 @@ goes_now wire own name packet there same = (
   ap (λ (q : MessageName). is_name_in_wire (tree.remove wire own) q) (sym same) ∙ ap (λ (o : Option Packet). is_some o) (gone_at wire own),
 )
 
-lost_at : (wire : Wire) (lost : List MessageName) (own name : MessageName) (packet : Packet) → tree.get wire own ≡ Some packet → Contains (lost ++ own ∷ []) name
+lost_at : (wire : Wire) (lost : List MessageName) (own name : MessageName) (packet : Packet) → tree.get wire own ≡ Some packet
+    → Contains (lost ++ own ∷ []) name
     → Contains lost name ⊎ ((is_name_in_wire wire name ≡ true) × (is_name_in_wire (tree.remove wire own) name ≡ false))
 lost_at wire lost own name packet there is = ⊎_elim
     (λ (old : Contains lost name). inl old)
@@ -94,8 +99,10 @@ module _ (script : List Statement) (world : World) (n : ℕ) (host : Host) (lost
   begins_lost (EntryIsPut entry) so by name there = absurd by
   begins_lost RecoveryTicks so by name there = absurd by
   begins_lost WorkIsRetried so by name there = inl (none_more lost [] refl name there)
+  begins_lost (ClientAsks req ask) so by name there = inl (none_more lost [] refl name there)
 
-  once_lost : (cause : NodeCause) → StepsAtOnce cause → (name : MessageName) → Contains (lost ++ messages_lost_by (event_of_cause n cause)) name → Contains lost name
+  once_lost : (cause : NodeCause) → StepsAtOnce cause → (name : MessageName)
+      → Contains (lost ++ messages_lost_by (event_of_cause n cause)) name → Contains lost name
   once_lost (GuestAsks session req ask) by name there = absurd by
   once_lost (RequestComes own to request) by name there = none_more lost [] refl name there
   once_lost (ReplyComes own from rsp) by name there = absurd by
@@ -104,6 +111,7 @@ module _ (script : List Statement) (world : World) (n : ℕ) (host : Host) (lost
   once_lost (EntryIsPut entry) by name there = none_more lost [] refl name there
   once_lost RecoveryTicks by name there = none_more lost [] refl name there
   once_lost WorkIsRetried by name there = absurd by
+  once_lost (ClientAsks req ask) by name there = absurd by
 
 untold_names : (name : MessageName) (packet : Packet) → messages_lost_by (loss_of name packet) ≡ name ∷ []
 untold_names name (Request to bytes) = refl
@@ -117,12 +125,13 @@ module _ (script : List Statement) (range : RunsAreInRange script) (start : Mome
       inl (none_more start.past.lost (messages_lost_by event) none name
       (subst (λ (all : List MessageName). Contains all name) (lost_after script event start made) there))
 
-  pub lost_from : {before after : MomentWithPast} → MomentChange script start before after → (name : MessageName) → Contains after.past.lost name
+  pub lost_from : {before after : MomentWithPast} → MomentChange script start before after → (name : MessageName)
+      → Contains after.past.lost name
       → WasOrIsLost before after name
   lost_from (moments.StepBegins stepping is by) name there =
       let after = moment_in_step script stepping start (first_in_step stepping) in
-      subst (λ (wire : Wire). Contains start.past.lost name ⊎ ((is_name_in_wire start.world.wire name ≡ true) × (is_name_in_wire wire name ≡ false)))
-      (sym (first_wire script range start began stepping by))
+      subst (λ (wire : Wire). Contains start.past.lost name ⊎ ((is_name_in_wire start.world.wire name ≡ true)
+      × (is_name_in_wire wire name ≡ false))) (sym (first_wire script range start began stepping by))
       (begins_lost script start.world stepping.n stepping.host start.past.lost stepping.cause is.caused by name
       (subst (λ (all : List MessageName). Contains all name) (lost_in_step script stepping start (first_in_step stepping)) there))
   lost_from (moments.StepGoesOn stepping so_far next is by within) name there =
@@ -132,18 +141,22 @@ module _ (script : List Statement) (range : RunsAreInRange script) (start : Mome
       inl (once_lost script start.world stepping.n stepping.host start.past.lost stepping.cause by name
       (subst (λ (all : List MessageName). Contains all name) (lost_in_step script stepping start (last_in_step stepping)) there))
   lost_from (moments.LossIsUntold event made happened h) name there =
-      subst (λ (wire : Wire). Contains start.past.lost name ⊎ ((is_name_in_wire start.world.wire name ≡ true) × (is_name_in_wire wire name ≡ false)))
-      (ap (λ (m : EventOutcome). m.world.wire) h.made_so)
+      subst (λ (wire : Wire). Contains start.past.lost name ⊎ ((is_name_in_wire start.world.wire name ≡ true)
+      × (is_name_in_wire wire name ≡ false))) (ap (λ (m : EventOutcome). m.world.wire) h.made_so)
       (lost_at start.world.wire start.past.lost h.name name h.packet h.there
       (subst (λ (all : List MessageName). Contains all name)
       (lost_after script event start made
-      ∙ ap (λ (more : List MessageName). start.past.lost ++ more) (ap messages_lost_by (sym h.event_so) ∙ untold_names h.name h.packet)) there))
-  lost_from (moments.DeliveryIsUnread event made happened h) name there = still_lost event made (ap messages_lost_by (sym h.event_so)) name there
+      ∙ ap (λ (more : List MessageName). start.past.lost ++ more) (ap messages_lost_by (sym h.event_so) ∙ untold_names h.name h.packet))
+      there))
+  lost_from (moments.DeliveryIsUnread event made happened h) name there =
+      still_lost event made (ap messages_lost_by (sym h.event_so)) name there
   lost_from (moments.NodeIsLost event made happened h) name there = still_lost event made (ap messages_lost_by (sym h.event_so)) name there
   lost_from (moments.NodeLeaves event made happened h) name there = still_lost event made (ap messages_lost_by (sym h.event_so)) name there
-  lost_from (moments.NodeIsReweighted event made happened h) name there = still_lost event made (ap messages_lost_by (sym h.event_so)) name there
+  lost_from (moments.NodeIsReweighted event made happened h) name there =
+      still_lost event made (ap messages_lost_by (sym h.event_so)) name there
   lost_from (moments.NodeJoins event made happened h) name there = still_lost event made (ap messages_lost_by (sym h.event_so)) name there
-  lost_from (moments.NodeComesBack event made happened h) name there = still_lost event made (ap messages_lost_by (sym h.event_so)) name there
+  lost_from (moments.NodeComesBack event made happened h) name there =
+      still_lost event made (ap messages_lost_by (sym h.event_so)) name there
   lost_from (moments.PhaseEnds event made happened h) name there = still_lost event made (ap messages_lost_by (sym h.event_so)) name there
 
 -- ---- what was lost is gone
@@ -153,8 +166,10 @@ pub record TheLostAreGone (moment : MomentWithPast) : Type 0 where
   pub given : (name : MessageName) → Contains moment.past.lost name → IsNumberGiven name.number (tree.get moment.world.hosts name.sender.0)
   pub gone : (name : MessageName) → Contains moment.past.lost name → is_name_in_wire moment.world.wire name ≡ false
 
-module _ (hosts hosts_after : Hosts) (wire : Wire) (attempts : List AttemptRecord) (name : MessageName) (given : IsNumberGiven name.number (tree.get hosts name.sender.0)) where
-  sends_less : (n : ℕ) (sends : List (NodeId × PeerReq)) → AreSentBy hosts hosts_after n sends → is_name_in_wire (fold wire_with_request wire sends) name ≡ true
+module _ (hosts hosts_after : Hosts) (wire : Wire) (attempts : List AttemptRecord) (name : MessageName)
+    (given : IsNumberGiven name.number (tree.get hosts name.sender.0)) where
+  sends_less : (n : ℕ) (sends : List (NodeId × PeerReq)) → AreSentBy hosts hosts_after n sends
+      → is_name_in_wire (fold wire_with_request wire sends) name ≡ true
       → is_name_in_wire wire name ≡ true
   sends_less n sends by there =
       ap (λ (o : Option Packet). is_some o)
@@ -166,7 +181,8 @@ module _ (hosts hosts_after : Hosts) (wire : Wire) (attempts : List AttemptRecor
       absurd (omega (arith, number, low, below))))) ∙ there
 
   -- a given number is in the wire then only if it was before
-  name_less : {later : Wire} {after : List AttemptRecord} → Traffic hosts hosts_after wire attempts later after → is_name_in_wire later name ≡ true
+  name_less : {later : Wire} {after : List AttemptRecord} → Traffic hosts hosts_after wire attempts later after
+      → is_name_in_wire later name ≡ true
       → is_name_in_wire wire name ≡ true
   name_less NothingMoves there = there
   name_less (MessageIsLost own packet at) there = gone_less wire own name there
@@ -180,7 +196,8 @@ none_if : (one other : Bool) → (other ≡ true → one ≡ true) → one ≡ f
 none_if one true back none = let yes = back refl in absurd (cc (yes, none))
 none_if one false back none = refl
 
-given_later : (hosts hosts_after : Hosts) (wire : Wire) → ((n : ℕ) (host : Host) → tree.get hosts n ≡ Some host → HostStays hosts_after wire n host) → (number n : ℕ)
+given_later : (hosts hosts_after : Hosts) (wire : Wire)
+    → ((n : ℕ) (host : Host) → tree.get hosts n ≡ Some host → HostStays hosts_after wire n host) → (number n : ℕ)
     → IsNumberGiven number (tree.get hosts n) → IsNumberGiven number (tree.get hosts_after n)
 given_later hosts hosts_after wire stay number n = by_host (tree.get hosts n) refl
   where
@@ -194,14 +211,16 @@ given_later hosts hosts_after wire stay number n = by_host (tree.get hosts n) re
         subst (IsNumberGiven number) (sym s.there) still
 
 pub opening_gone : (script : List Statement) → TheLostAreGone (first_moment script)
-opening_gone script = record { given = λ name there. absurd (Contains-nil name there); gone = λ name there. absurd (Contains-nil name there) }
+opening_gone script =
+    record { given = λ name there. absurd (Contains-nil name there); gone = λ name there. absurd (Contains-nil name there) }
 
 module _ (script : List Statement) (range : RunsAreInRange script) (start before after : MomentWithPast) (began : Began script start.world)
     (change : MomentChange script start before after) (tied : IsTied before) (lost : TheLostAreGone before) where
   later_given : (name : MessageName) → IsNumberGiven name.number (tree.get before.world.hosts name.sender.0)
       → IsNumberGiven name.number (tree.get after.world.hosts name.sender.0)
   later_given name given =
-      given_later before.world.hosts after.world.hosts before.world.wire (hosts_stay script range start began change) name.number name.sender.0 given
+      given_later before.world.hosts after.world.hosts before.world.wire (hosts_stay script range start began change) name.number
+      name.sender.0 given
 
   given_in_wire : (name : MessageName) (o : Option Packet) → tree.get before.world.wire name ≡ o → is_some o ≡ true
       → IsNumberGiven name.number (tree.get before.world.hosts name.sender.0)
@@ -218,8 +237,8 @@ module _ (script : List Statement) (range : RunsAreInRange script) (start before
     gone = λ name there. ⊎_elim
         (λ (old : Contains before.past.lost name).
         none_if (is_name_in_wire before.world.wire name) (is_name_in_wire after.world.wire name)
-        (name_less before.world.hosts after.world.hosts before.world.wire before.past.attempts name (lost.given name old) (traffic script range start began change))
-        (lost.gone name old))
+        (name_less before.world.hosts after.world.hosts before.world.wire before.past.attempts name (lost.given name old)
+        (traffic script range start began change)) (lost.gone name old))
         (λ (new : (is_name_in_wire before.world.wire name ≡ true) × (is_name_in_wire after.world.wire name ≡ false)). new.1)
         (lost_from script range start began change name there);
   }

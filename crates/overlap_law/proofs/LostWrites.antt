@@ -1,5 +1,6 @@
 -- The loss of a node ends writes that had begun and hadn't ended.
-use Rattle.std.proofs.Common.{◌≡◌, ◌≢◌, ⊎_elim, ℕ, ◌+◌, ◌==◌, ◌&&◌, ◌||◌, Bool, true, false, cond, List, [], ◌∷◌, ◌++◌, map, filter, find, Contains, Option, Some, None, is_some, refl, sym, ap, subst, arith, ◌∙◌}
+use Rattle.std.proofs.Common.{◌≡◌, ◌≢◌, ⊎_elim, ℕ, ◌+◌, ◌==◌, ◌&&◌, ◌||◌, Bool, true, false, cond, List, [], ◌∷◌, ◌++◌, map, filter, find}
+use Rattle.std.proofs.Common.{Contains, Option, Some, None, is_some, refl, sym, ap, subst, arith, ◌∙◌}
 use Rattle.std.specs.List.{enumerate_from, list_any}
 use Rattle.std.specs.Option.{option_map_or, option_and_then}
 use Rattle.std.specs.FinMap as tree
@@ -19,7 +20,8 @@ use Rattle.sheep_node.specs.CheckWrites.{has_check_written, has_course_written}
 use Rattle.sheep_world.specs.declared.progress.StartedRequest.{StartedRequest}
 use Rattle.sheep_world.specs.World.{Host, World, progress_at}
 use Rattle.sheep_world.specs.Asking.{session_asking}
-use Rattle.sheep_world.specs.HistoryAdditions.{disk_of, is_lost_write, is_of_incarnation, is_started_request, is_write, is_writing_request, writers_lost}
+use Rattle.sheep_world.specs.HistoryAdditions.{disk_of, is_lost_write, is_of_incarnation, is_started_request, is_write, is_writing_request}
+use Rattle.sheep_world.specs.HistoryAdditions.{writers_lost}
 use Rattle.overlap_law.specs.DiskEvents.{ends_write_of}
 use Rattle.overlap_law.specs.Headline.{ledger_of}
 use Rattle.overlap_law.specs.ToldReads.{AllElseMayFollow}

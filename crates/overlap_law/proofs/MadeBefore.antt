@@ -11,11 +11,11 @@ use Rattle.peer_proto.specs.Work.{policy_of}
 use Rattle.recovery.specs.State.{is_listed}
 use Rattle.gateway.specs.declared.message.Message.{Message}
 use Rattle.gateway.specs.State.{Open}
-use Rattle.sheep_node.specs.declared.event.Event.{Event}
 use Rattle.sheep_node.specs.Changes.{attempt_in}
 use Rattle.sheep_world.specs.Began.{Began}
 use Rattle.sheep_world.specs.NodeCauses.{host_with_node}
 use Rattle.sheep_world.specs.World.{Host}
+use Rattle.sheep_world.specs.RunsWithAsks.{Move}
 use Rattle.overlap_law.specs.Attempts.{AttemptRecord, object_of}
 use Rattle.overlap_law.specs.Words.{is_served, is_made, is_doomed}
 use Rattle.overlap_law.specs.Traffic.{OpenAttemptsHaveMessages}
@@ -60,7 +60,7 @@ opened_unmade script start after attempt o have made =
     no_message [] is at = cc (at)
     no_message (first ∷ messages) is at = cc (is)
 
-module _ (script : List Statement) (range : RunsAreInRange script) (events : List Event) (start before after : MomentWithPast)
+module _ (script : List Statement) (range : RunsAreInRange script) (events : List Move) (start before after : MomentWithPast)
     (is : run_with_past script events ≡ Some start) (trail : MomentTrail script start before)
     (change : MomentChange script start before after) where
   began : Began script start.world

@@ -18,8 +18,8 @@ use Rattle.vdi_directory.specs.declared.header.Header.{Header}
 use Rattle.vdi_directory.specs.Decisions.{log_effects}
 use Rattle.vdi_directory.specs.Effects.{is_used, reservation_on, reservations_of}
 use Rattle.vdi_directory.specs.References.{parent_of}
-use Rattle.sheep_node.specs.declared.event.Event.{Event}
 use Rattle.sheep_world.specs.Began.{Began}
+use Rattle.sheep_world.specs.RunsWithAsks.{Move}
 use Rattle.overlap_law.specs.Attempts.{AttemptRecord}
 use Rattle.overlap_law.specs.Drafts.{IsReservedEntry}
 use Rattle.overlap_law.specs.Each.{EachAttempt, spec_in}
@@ -63,7 +63,7 @@ not_longer log entry same =
     let one : length (entry ∷ []) ≡ 1 = refl in
     omega (arith, sum, equal, one)
 
-module _ (script : List Statement) (range : RunsAreInRange script) (events : List Event) (start before after : MomentWithPast)
+module _ (script : List Statement) (range : RunsAreInRange script) (events : List Move) (start before after : MomentWithPast)
     (is : run_with_past script events ≡ Some start) (trail : MomentTrail script start before)
     (change : MomentChange script start before after) (good_id : ℕ → Bool)
     (drafts : DraftsStayDrawn (log_effects before.world.log) good_id before.world.hosts before.past.attempts)

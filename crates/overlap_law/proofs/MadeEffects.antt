@@ -1,12 +1,15 @@
--- What an effect has of the entry that made it, whatever the log: what a reserved id is made of, and what an id was reserved for that is published.
-use Rattle.std.proofs.Common.{◌≡◌, ◌⊎◌, inl, inr, ℕ, ◌==◌, ◌&&◌, Bool, true, false, cond, List, Option, Some, None, Result, Ok, Err, is_some, option_map, refl, ap, subst, ◌∙◌}
+-- What an effect has of the entry that made it, whatever the log: what a reserved id is made of, and what an id was reserved for that is
+-- published.
+use Rattle.std.proofs.Common.{◌≡◌, ◌⊎◌, inl, inr, ℕ, ◌==◌, ◌&&◌, Bool, true, false, cond, List, Option, Some, None, Result, Ok, Err}
+use Rattle.std.proofs.Common.{is_some, option_map, refl, ap, subst, ◌∙◌}
 use Rattle.std.proofs.lemmas.Bool.{and_parts, eqb-true}
 use Rattle.std.proofs.lemmas.Option.{same_Some}
 use Rattle.proof_tools.proofs.Booleans.{cond_either}
 use Rattle.object_id.specs.declared.cause.Cause.{Cause}
 use Rattle.object_id.specs.declared.cause.Cause.TheVariants as causes
 use Rattle.object_id.specs.declared.entry.Entry.{Entry}
-use Rattle.object_id.specs.declared.entry.Entry.TheVariants.{Format, Join, Leave, Reweight, Recovered, Reserve, Publish, Clone, Snapshot, Delete, Lock, Unlock}
+use Rattle.object_id.specs.declared.entry.Entry.TheVariants.{Format, Join, Leave, Reweight, Recovered, Reserve, Publish, Clone, Snapshot}
+use Rattle.object_id.specs.declared.entry.Entry.TheVariants.{Delete, Lock, Unlock}
 use Rattle.object_id.specs.declared.entry.Origin.{Origin}
 use Rattle.object_id.specs.declared.entry.Origin.TheVariants.{Fresh, SnapshotOf, CloneOf}
 use Rattle.object_id.specs.declared.entry.VdiSpec.{VdiSpec}
@@ -20,7 +23,9 @@ use Rattle.vdi_directory.specs.declared.effect.Reservation.{Reservation}
 use Rattle.vdi_directory.specs.declared.effect.Source.{Source}
 use Rattle.vdi_directory.specs.declared.effect.Source.TheVariants as sources
 use Rattle.vdi_directory.specs.declared.header.Header.{Header}
-use Rattle.vdi_directory.specs.Decisions.{nothing, silent_outcome, grant_outcome, refusal_outcome, is_held_by, is_reserved_by, is_taken, grant_of, or_full, reservation_outcome, with_spec, held_disk, reserved_snapshot, reserved_clone, reserve_outcome, publication, replacement, snapshot_outcome, target, deletion, lock, outcome}
+use Rattle.vdi_directory.specs.Decisions.{nothing, silent_outcome, grant_outcome, refusal_outcome, is_held_by, is_reserved_by, is_taken}
+use Rattle.vdi_directory.specs.Decisions.{grant_of, or_full, reservation_outcome, with_spec, held_disk, reserved_snapshot, reserved_clone}
+use Rattle.vdi_directory.specs.Decisions.{reserve_outcome, publication, replacement, snapshot_outcome, target, deletion, lock, outcome}
 use Rattle.vdi_directory.specs.Effects.{is_used, header_of, name_of, reservations_of, reservation_on, holder_of}
 use Rattle.vdi_directory.specs.Names.{snapshot_with_tag, is_live_name}
 use Rattle.vdi_directory.specs.Sound.{IsLiveSnapshot, IsSound}
@@ -47,8 +52,8 @@ IsSourceSpec before sources.Clone spec = Unit {0}
 abbrev pub IsOfSource : List Effect → Source → Option Vid → VdiSpec → Type 0
 IsOfSource before source parent spec = IsSourceParent source parent × IsSourceSpec before source spec
 
--- what a reserved id is made of is the disk whose place it is to take, or a snapshot; what is published was reserved for a new disk; and an id
--- that takes a disk's place was reserved for that
+-- what a reserved id is made of is the disk whose place it is to take, or a snapshot; what is published was reserved for a new disk; and an
+-- id that takes a disk's place was reserved for that
 abbrev pub IsMadeSo : List Effect → Effect → Type 0
 IsMadeSo before effects.Nothing = Unit {0}
 IsMadeSo before (effects.Reserved grant) =
@@ -70,7 +75,8 @@ module _ (before : List Effect) (sound : IsSound before) where
   So made = IsMadeSo before made.effect
 
   abbrev IsBase : Source → Option Vid → Type 0
-  IsBase source parent = (p : Vid) → parent ≡ Some p → ((tag : List ℕ) × (source ≡ sources.Snapshot p tag)) ⊎ IsLiveSnapshot (state_of before p.0)
+  IsBase source parent =
+      (p : Vid) → parent ≡ Some p → ((tag : List ℕ) × (source ≡ sources.Snapshot p tag)) ⊎ IsLiveSnapshot (state_of before p.0)
 
   module _ (by : NodeId) (session : ℕ) (name : List ℕ) (source : Source) (parent : Option Vid) (base : IsBase source parent) where
     free_so : (spec : VdiSpec) (free : Option ℕ) → IsOfSource before source parent spec
@@ -101,20 +107,23 @@ module _ (before : List Effect) (sound : IsSound before) where
       (spec_so by session name sources.Clone (Some from)
       (λ p same.
       let found = snapshot_with_tag-is tag (name_of before base) from is in
-      inr (subst (λ (v : Vid). IsLiveSnapshot (state_of before v.0)) (found.2 ∙ same_Some from p same) (sound.live_snapshots base found.0 found.1).state))
-      (header_of before from.0) (λ found is. (refl, tt)))
+      inr (subst (λ (v : Vid). IsLiveSnapshot (state_of before v.0)) (found.2 ∙ same_Some from p same)
+      (sound.live_snapshots base found.0 found.1).state)) (header_of before from.0) (λ found is. (refl, tt)))
 
   reserve_so : (by : NodeId) (session : ℕ) (name : List ℕ) (origin : Origin) → So (reserve_outcome before by session name origin)
   reserve_so by session name (Fresh spec) =
-      cond_either So (is_taken before name) (refusal_outcome causes.VdiExist) (reservation_outcome before by session name sources.Fresh None spec) tt
+      cond_either So (is_taken before name) (refusal_outcome causes.VdiExist)
+      (reservation_outcome before by session name sources.Fresh None spec) tt
       (free_so by session name sources.Fresh None (λ p is. absurd (cc (is))) spec (free_id name (is_used before)) (refl, tt))
   reserve_so by session name (SnapshotOf tag) = snapshot_so by session name tag (held_disk before by session (name_of before name).working)
   reserve_so by session name (CloneOf base tag) =
-      cond_either So (is_live_name (name_of before base)) (reserved_clone before by session name (snapshot_with_tag tag (name_of before base)))
-      (refusal_outcome causes.NoBaseVdi) (clone_so by session name base tag (snapshot_with_tag tag (name_of before base)) refl) tt
+      cond_either So (is_live_name (name_of before base)) (reserved_clone before by session name
+      (snapshot_with_tag tag (name_of before base))) (refusal_outcome causes.NoBaseVdi)
+      (clone_so by session name base tag (snapshot_with_tag tag (name_of before base)) refl) tt
 
   -- a reservation that was found is on its own id
-  on_own : (vid : Vid) (r : Reservation) → reservation_on vid (reservations_of before) ≡ Some r → reservation_on r.vid (reservations_of before) ≡ Some r
+  on_own : (vid : Vid) (r : Reservation) → reservation_on vid (reservations_of before) ≡ Some r
+      → reservation_on r.vid (reservations_of before) ≡ Some r
   on_own vid r found =
       let on = (in-find (λ (r : Reservation). r.vid.0 == vid.0) r (reservations_of before) found).1 in
       ap (λ (k : ℕ). reservation_on (record { 0 = k }) (reservations_of before)) (eqb-true r.vid.0 vid.0 on) ∙ found
@@ -124,11 +133,13 @@ module _ (before : List Effect) (sound : IsSound before) where
   published_so by clones vid None found = tt
   published_so by clones vid (Some r) found = by_test (r.by.0 == by.0 && is_for clones r.source) refl
     where
-      by_test : (b : Bool) → (r.by.0 == by.0 && is_for clones r.source) ≡ b → So (cond b (grant_outcome r.vid (effects.Published r.vid r.name)) nothing)
+      by_test : (b : Bool) → (r.by.0 == by.0 && is_for clones r.source) ≡ b
+          → So (cond b (grant_outcome r.vid (effects.Published r.vid r.name)) nothing)
       by_test true is = (r, on_own vid r found, clones, (and_parts (r.by.0 == by.0) (is_for clones r.source) is).1)
       by_test false is = tt
 
-  snapped_so : (by : NodeId) (old vid : Vid) (o : Option Reservation) → reservation_on vid (reservations_of before) ≡ o → So (snapshot_outcome before by old o)
+  snapped_so : (by : NodeId) (old vid : Vid) (o : Option Reservation) → reservation_on vid (reservations_of before) ≡ o
+      → So (snapshot_outcome before by old o)
   snapped_so by old vid None found = tt
   snapped_so by old vid (Some r) found =
       cond_either So (r.by.0 == by.0) (replacement r old (tag_for old r.source) (holder_of before old.0)) nothing
@@ -163,4 +174,5 @@ module _ (before : List Effect) (sound : IsSound before) where
   outcome_so (Unlock by session vid) =
       cond_either So (is_held_by by session (holder_of before vid.0)) (silent_outcome (effects.Freed vid))
       (cond (is_reserved_by by session (reservation_on vid (reservations_of before))) (silent_outcome (effects.Withdrawn vid)) nothing) tt
-      (cond_either So (is_reserved_by by session (reservation_on vid (reservations_of before))) (silent_outcome (effects.Withdrawn vid)) nothing tt tt)
+      (cond_either So (is_reserved_by by session (reservation_on vid (reservations_of before))) (silent_outcome (effects.Withdrawn vid))
+      nothing tt tt)

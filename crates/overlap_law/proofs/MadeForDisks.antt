@@ -1,7 +1,8 @@
 -- What a work is for that its request waits for: an object of the disk or of one above it; and where the work reads, an object that was
 -- created, if the disk was available, and is neither deleted nor given back. For an entry that isn't 0 stands for one, and so does the
 -- inode of an id that is published.
-use Rattle.std.proofs.Common.{◌≡◌, ◌⊎◌, inl, inr, ⊎_elim, arith, ℕ, zero, suc, ◌<◌, ◌≤◌, ◌&&◌, Bool, true, false, not, List, [], ◌∷◌, ◌++◌, All, length, Option, Some, IfSome, option_map, refl, sym, ap, subst, ◌∙◌}
+use Rattle.std.proofs.Common.{◌≡◌, ◌⊎◌, inl, inr, ⊎_elim, arith, ℕ, zero, suc, ◌<◌, ◌≤◌, ◌&&◌, Bool, true, false, not, List, [], ◌∷◌, ◌++◌}
+use Rattle.std.proofs.Common.{All, length, Option, Some, IfSome, option_map, refl, sym, ap, subst, ◌∙◌}
 use Rattle.std.specs.FinMap as tree
 use Rattle.std.specs.List.{list_any, slice_index}
 use Rattle.std.proofs.lemmas.List.Elements.{All-head}
@@ -54,13 +55,13 @@ use Rattle.overlap_law.specs.LastReads.{was_snapped}
 use Rattle.overlap_law.specs.NoObjects.{disk_for}
 use Rattle.overlap_law.specs.OpenTables.{EntriesAreOfTheChain}
 use Rattle.overlap_law.specs.Reached.{Hosts}
-use Rattle.overlap_law.specs.RequestsOfScript.{IsCourseOfAsk, indexes_left}
+use Rattle.overlap_law.specs.RequestsOfScript.{IsCourseOfAsk, indexes_left, is_of_client}
 use Rattle.overlap_law.specs.Tables.{every_id, TablesAreMade, PublishedInodesAreMade}
 use Rattle.overlap_law.specs.WholeTables.{TablesAreWhole}
 use Rattle.overlap_law.specs.WriterClaims.{IsStageKept, HasClaims}
 use Rattle.overlap_law.proofs.CausedWorks.{HasWellWorks}
 use Rattle.overlap_law.proofs.ClosedSnapshots.{snapped-later, snapped_no_more}
-use Rattle.overlap_law.proofs.CoursesOfAsks.{ArePlaced, IsPlacedIn}
+use Rattle.overlap_law.proofs.CoursesOfAsks.{ArePlaced, IsPlacedIn, placed_as}
 use Rattle.overlap_law.proofs.CreatesFirst.{inside, session_of}
 use Rattle.overlap_law.proofs.DiskWalk.{IsAtStage}
 use Rattle.overlap_law.proofs.KnownDisks.{Few, FewAt, IsKnownInode, IsKnownCourse, vid-of_object}
@@ -332,7 +333,8 @@ module _ (log : List Entry) (asked : ℕ → Option Ask) (Began : ℕ → Option
       waits.awaited
   by_course (Commanding op) is waits meant knows = staged op is (same_Some (vid_of (oid_of work.work)) vid meant) op.stage refl waits
   by_course (Checking check) is waits meant knows =
-      let placed = subst (IsPlacedIn asked Began req node.sessions) there (found.placed req) in
+      let placed = placed_as asked Began req opened request.course (ap is_of_client is)
+      (subst (IsPlacedIn asked Began req node.sessions) there (found.placed req)) in
       let on = subst (IsCourseOfAsk (asked req) opened placed.0) is placed.2 in
       let disk_so : on.on.disk ≡ waits.disk = same_Some on.on.disk waits.disk (sym on.on.there ∙ waits.there) in
       let of_disk : check.vid ≡ waits.disk.inode.vid = on.is.vid ∙ ap (λ (d : Disk). d.inode.vid) disk_so in

@@ -1,6 +1,7 @@
 -- A disk that an entry of the log copies is made like the one that it is a copy of: its blocks are that one's, whose id isn't dead as long
 -- as the new one isn't; its inode may come to have what that one's may; and of its own objects nothing may come to be read.
-use Rattle.std.proofs.Common.{◌≡◌, ℕ, ◌+◌, ◌*◌, ◌<◌, ◌==◌, Bool, true, false, cond, All, List, [], ◌∷◌, ◌++◌, Option, Some, None, option_map}
+use Rattle.std.proofs.Common.{◌≡◌, ℕ, ◌+◌, ◌*◌, ◌<◌, ◌==◌, Bool, true, false, cond, All, List, [], ◌∷◌, ◌++◌, Option, Some, None}
+use Rattle.std.proofs.Common.{option_map}
 use Rattle.std.proofs.Common.{refl, sym, ap, subst, ◌∙◌}
 use Rattle.std.proofs.lemmas.Bool.{both_ways, eq-eqb, false_from_ne_true, or_left}
 use Rattle.std.proofs.lemmas.Option.{same_Some}
@@ -20,7 +21,6 @@ use Rattle.vdi_directory.proofs.ChainLemmas.{is_parent_or_above}
 use Rattle.vdi_directory.proofs.DeadLemmas.{dead-heirs}
 use Rattle.vdi_directory.proofs.DeadTests.{test-finds-dead}
 use Rattle.vdi_directory.proofs.LineLemmas.{above-line, line-log_effects}
-use Rattle.sheep_node.specs.declared.event.Event.{Event}
 use Rattle.overlap_law.specs.Attempts.{AttemptRecord}
 use Rattle.overlap_law.specs.Each.{spec_in}
 use Rattle.overlap_law.specs.Headline.{ledger_of}
@@ -39,6 +39,7 @@ use Rattle.overlap_law.proofs.KnownTables.{parent_known}
 use Rattle.overlap_law.proofs.LogsReservable.{LogIsReservable, kept_reservable}
 use Rattle.overlap_law.proofs.MadeDisks.{parent_now, none_own, made_like, made_in_place}
 use Rattle.overlap_law.proofs.RunsByChanges.{on_the_way}
+use Rattle.sheep_world.specs.RunsWithAsks.{Move}
 
 -- an id isn't dead as long as one that is made from it isn't
 pub parent_alive : (log : List Entry) (vid : ℕ) (base : Vid) → parent_of (log_effects log) vid ≡ Some base
@@ -52,7 +53,7 @@ parent_alive log vid base parent alive = false_from_ne_true (is_dead (log_effect
     = (test-finds-dead log vid).1 (dead-heirs log base.0 vid ((test-finds-dead log base.0).0 dead) above) in
     both_ways (is_dead (log_effects log) vid) alive with_it)
 
-module _ (script : List Statement) (range : RunsAreInRange script) (events : List Event) (start before after : MomentWithPast)
+module _ (script : List Statement) (range : RunsAreInRange script) (events : List Move) (start before after : MomentWithPast)
     (is : run_with_past script events ≡ Some start) (trail : MomentTrail script start before)
     (change : MomentChange script start before after) (good_id : ℕ → Bool)
     (drafts : DraftsStayDrawn (log_effects before.world.log) good_id before.world.hosts before.past.attempts)
@@ -127,7 +128,7 @@ module _ (script : List Statement) (range : RunsAreInRange script) (events : Lis
       own = none_own script range events start before after is trail change good_id drafts entry longer new copy.reservation copy.stands;
     }
 
-pub entries_keep : (script : List Statement) → RunsAreInRange script → (events : List Event) (start before after : MomentWithPast)
+pub entries_keep : (script : List Statement) → RunsAreInRange script → (events : List Move) (start before after : MomentWithPast)
     → run_with_past script events ≡ Some start → MomentTrail script start before → MomentChange script start before after
     → (good_id : ℕ → Bool) → DraftsStayDrawn (log_effects before.world.log) good_id before.world.hosts before.past.attempts
     → PlacesStayDrawn (log_effects before.world.log) good_id before.world.hosts before.past.attempts

@@ -30,7 +30,6 @@ use Rattle.guest_driver.specs.PieceWorks.{write_entry, table_with_entry}
 use Rattle.vdi_ops.specs.Op.{Op}
 use Rattle.vdi_ops.specs.Tables.{kept_entry, table_in}
 use Rattle.sheep_node.specs.declared.course.Course.TheVariants.{Commanding}
-use Rattle.sheep_node.specs.declared.event.Event.{Event}
 use Rattle.sheep_node.specs.declared.input.Input.TheVariants as inputs
 use Rattle.sheep_node.specs.AwaitedEntry.{waits_for_entry}
 use Rattle.sheep_node.specs.Changes.{HasRequest}
@@ -40,6 +39,7 @@ use Rattle.sheep_node.specs.StepState.{StepState, session_in}
 use Rattle.sheep_node.proofs.ValidityChanges.{AnySent, inode_valid}
 use Rattle.sheep_world.specs.World.{Host}
 use Rattle.sheep_world.specs.NodeCauses.{input_of_cause, host_with_node}
+use Rattle.sheep_world.specs.RunsWithAsks.{Move}
 use Rattle.overlap_law.specs.Fates.{IsCreated}
 use Rattle.overlap_law.specs.Holders.{is_dead_by_log}
 use Rattle.overlap_law.specs.MadeTables.{EntriesAreCreated, TablesNameWhatIsMade}
@@ -97,7 +97,7 @@ elder_lives log elder vid above lives = by_test (is_dead (log_effects log) elder
 abbrev pub IsMade : (ℕ → Bool) → MomentWithPast → ℕ → Content → Type 0
 IsMade good_id moment epoch = EntriesAreCreated (log_effects moment.world.log) good_id moment.past.attempts epoch
 
-module _ (script : List Statement) (range : RunsAreInRange script) (good_id : ℕ → Bool) (events : List Event) (start : MomentWithPast)
+module _ (script : List Statement) (range : RunsAreInRange script) (good_id : ℕ → Bool) (events : List Move) (start : MomentWithPast)
     (ran : run_with_past script events ≡ Some start) where
   -- ---- it stays so
 
@@ -250,7 +250,7 @@ module _ (script : List Statement) (range : RunsAreInRange script) (good_id : �
       (subst (λ (m : MomentWithPast). EntriesAreMade (log_effects m.world.log) live good_id m.past.attempts) on.before_so entries)
       (subst (AllSo (IsMade good_id)) on.before_so all)))
 
-pub tables_stay_made : (script : List Statement) → RunsAreInRange script → (events : List Event) (start before after : MomentWithPast)
+pub tables_stay_made : (script : List Statement) → RunsAreInRange script → (events : List Move) (start before after : MomentWithPast)
     → run_with_past script events ≡ Some start → MomentTrail script start before → MomentChange script start before after
     → (live good_id : ℕ → Bool) → CallsLive live before.world.log before.past.attempts
     → AboveIsGood (log_effects before.world.log) good_id

@@ -1,5 +1,5 @@
--- After each change of a moment no two open works of a session are on one object. So no two creates or writes of a node are: who may write an
--- object is one session.
+-- After each change of a moment no two open works of a session are on one object. So no two creates or writes of a node are: who may write
+-- an object is one session.
 use Rattle.std.proofs.Common.{◌≡◌, ℕ, List, Some, refl, sym, ap, ◌∙◌}
 use Rattle.std.proofs.lemmas.Option.{same_Some}
 use Rattle.object_id.specs.declared.entry.Entry.{Entry}
@@ -7,8 +7,8 @@ use Rattle.object_id.specs.Oid.{vid_of}
 use Rattle.cluster_script.specs.declared.statement.Statement.{Statement}
 use Rattle.disk_lock.specs.declared.holder.Holder.{Holder}
 use Rattle.vdi_directory.specs.Decisions.{log_effects}
-use Rattle.sheep_node.specs.declared.event.Event.{Event}
 use Rattle.sheep_world.specs.Began.{Began}
+use Rattle.sheep_world.specs.RunsWithAsks.{Move}
 use Rattle.overlap_law.specs.Grants.{writer_of}
 use Rattle.overlap_law.specs.MomentChanges as moments
 use Rattle.overlap_law.specs.MomentChanges.{MomentChange, MomentTrail, RunsAreInRange}
@@ -39,7 +39,8 @@ makers_apart log hosts writes apart n host there up req other work second are ma
 
 module _ (script : List Statement) (range : RunsAreInRange script) where
   module _ (start : MomentWithPast) (began : Began script start.world) where
-    pub sessions_apart-after : {before after : MomentWithPast} → MomentChange script start before after → SessionsWorkApart after.world.hosts
+    pub sessions_apart-after : {before after : MomentWithPast} → MomentChange script start before after
+        → SessionsWorkApart after.world.hosts
     sessions_apart-after {before} {after} change =
         sessions_apart after.world.hosts (well_after script range start began change) (queues_after script range start began change)
 
@@ -57,7 +58,8 @@ module _ (script : List Statement) (range : RunsAreInRange script) where
         makers_apart start.world.log start.world.hosts (works_may-at_start script range start began) (sessions_apart-along moments.Still)
     makers_apart-along (moments.Then trail change) = makers_apart-after change
 
-  module _ (events : List Event) (start moment : MomentWithPast) (is : run_with_past script events ≡ Some start) (trail : MomentTrail script start moment) where
+  module _ (events : List Move) (start moment : MomentWithPast) (is : run_with_past script events ≡ Some start)
+      (trail : MomentTrail script start moment) where
     pub sessions_apart-in_run : SessionsWorkApart moment.world.hosts
     sessions_apart-in_run = sessions_apart-along start (began-with_past script events start is) trail
 

@@ -1,5 +1,6 @@
 -- Each kind of traffic keeps that a request to create or write in the wire is a message of an attempt.
-use Rattle.std.proofs.Common.{◌≡◌, ◌≢◌, ⊎_elim, ℕ, true, false, List, [], ◌∷◌, ◌++◌, fold, length, Contains, Option, Some, None, Ok, sym, ap, subst, ◌∙◌}
+use Rattle.std.proofs.Common.{◌≡◌, ◌≢◌, ⊎_elim, ℕ, true, false, List, [], ◌∷◌, ◌++◌, fold, length, Contains, Option, Some, None, Ok, sym}
+use Rattle.std.proofs.Common.{ap, subst, ◌∙◌}
 use Rattle.std.specs.FinMap as tree
 use Rattle.object_id.specs.declared.node.NodeId.{NodeId}
 use Rattle.cluster_script.specs.declared.statement.Statement.{Statement}
@@ -21,7 +22,8 @@ use Rattle.overlap_law.specs.Packets.{Wire, is_request_in_flight}
 use Rattle.overlap_law.specs.Past.{MomentWithPast}
 use Rattle.overlap_law.specs.StepMoments.{attempts_with_loss}
 use Rattle.overlap_law.specs.MomentChanges.{RunsAreInRange, KeptByChanges}
-use Rattle.overlap_law.specs.Traffic.{asks_making, IsMessageOf, MakersAreOfAttempts, Traffic, NothingMoves, MessageIsLost, ReplyIsReceived, RequestIsAnswered, RequestsAreSent, AttemptBegins, RepliesGo}
+use Rattle.overlap_law.specs.Traffic.{asks_making, IsMessageOf, MakersAreOfAttempts, Traffic, NothingMoves, MessageIsLost, ReplyIsReceived}
+use Rattle.overlap_law.specs.Traffic.{RequestIsAnswered, RequestsAreSent, AttemptBegins, RepliesGo}
 use Rattle.overlap_law.proofs.AttemptLists.{got_still, got_last, marked_there}
 use Rattle.overlap_law.proofs.TiedInRuns.{none_yet}
 use Rattle.overlap_law.proofs.TrafficOfChanges.{traffic}

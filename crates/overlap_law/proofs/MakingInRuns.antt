@@ -1,9 +1,8 @@
--- What stands for what was made, together: a made create comes before each write; the own entries of open tables, of works that are to do and of
--- attempts stand for objects that were created. Each change on the way of an event keeps all of it.
+-- What stands for what was made, together: a made create comes before each write; the own entries of open tables, of works that are to do
+-- and of attempts stand for objects that were created. Each change on the way of an event keeps all of it.
 use Rattle.std.proofs.Common.{◌≡◌, ℕ, Bool, true, List, Some, refl}
 use Rattle.vdi_directory.specs.Decisions.{log_effects}
 use Rattle.cluster_script.specs.declared.statement.Statement.{Statement}
-use Rattle.sheep_node.specs.declared.event.Event.{Event}
 use Rattle.overlap_law.specs.Fates.{CreatesComeFirst}
 use Rattle.overlap_law.specs.FirstCreates.{CreatesAlwaysComeFirst}
 use Rattle.overlap_law.specs.MomentChanges.{MomentTrail, MomentChange, RunsAreInRange, Still}
@@ -24,6 +23,7 @@ use Rattle.overlap_law.proofs.NoRecoveredDue.{began-with_past}
 use Rattle.overlap_law.proofs.OpenTables.{entries_of_chain}
 use Rattle.overlap_law.proofs.OpeningOverlap.{no_request, no_session, overlap_opens}
 use Rattle.overlap_law.proofs.OwnTables.{tables_stay_made}
+use Rattle.sheep_world.specs.RunsWithAsks.{Move}
 
 -- each object
 abbrev pub each_object : ℕ → Bool
@@ -36,7 +36,7 @@ pub record StandsForTheMade (moment : MomentWithPast) : Type 0 where
   pub own : OwnEntriesAreMade each_object moment.past.attempts
 
 module _ (script : List Statement) (range : RunsAreInRange script) where
-  keeps : (events : List Event) (start before after : MomentWithPast) → run_with_past script events ≡ Some start
+  keeps : (events : List Move) (start before after : MomentWithPast) → run_with_past script events ≡ Some start
       → MomentTrail script start before → MomentChange script start before after → StandsForTheMade before → StandsForTheMade after
   keeps events start before after run trail change made =
       let named : WorksNameWhatIsMade (log_effects after.world.log) no_id after.world.hosts after.past.attempts
@@ -77,14 +77,14 @@ module _ (script : List Statement) (range : RunsAreInRange script) where
   }
 
   -- at each moment on the way of an event what works name as their disk's own was created
-  pub works_name_own-on_the_way : (events : List Event) (start moment : MomentWithPast) → run_with_past script events ≡ Some start
+  pub works_name_own-on_the_way : (events : List Move) (start moment : MomentWithPast) → run_with_past script events ≡ Some start
       → MomentTrail script start moment
       → WorksNameWhatIsMade (log_effects moment.world.log) no_id moment.world.hosts moment.past.attempts
   works_name_own-on_the_way events start moment run trail =
       (kept_on_the_way script StandsForTheMade opens keeps events start moment run trail).named
 
   -- and so do the own entries of the tables of open disks
-  pub tables_of_chain-on_the_way : (events : List Event) (start moment : MomentWithPast) → run_with_past script events ≡ Some start
+  pub tables_of_chain-on_the_way : (events : List Move) (start moment : MomentWithPast) → run_with_past script events ≡ Some start
       → MomentTrail script start moment
       → TablesAreOfTheChain (log_effects moment.world.log) moment.world.hosts moment.past.attempts
   tables_of_chain-on_the_way events start moment run trail =
@@ -100,7 +100,7 @@ module _ (script : List Statement) (range : RunsAreInRange script) where
       (kept_on_the_way script StandsForTheMade opens keeps events start moment run trail).first
 
   -- what own entries stand for was created, whichever objects are live
-  pub own_entries-on_the_way : (events : List Event) (start moment : MomentWithPast) → run_with_past script events ≡ Some start
+  pub own_entries-on_the_way : (events : List Move) (start moment : MomentWithPast) → run_with_past script events ≡ Some start
       → MomentTrail script start moment → (live : ℕ → Bool) → OwnEntriesAreMade live moment.past.attempts
   own_entries-on_the_way events start moment run trail live = record {
     each = λ j attempt there vid index is_id object alive inside covered own.
@@ -108,6 +108,6 @@ module _ (script : List Statement) (range : RunsAreInRange script) where
         object refl inside covered own;
   }
 
-  pub own_entries-in_run : (events : List Event) (moment : MomentWithPast) → run_with_past script events ≡ Some moment
+  pub own_entries-in_run : (events : List Move) (moment : MomentWithPast) → run_with_past script events ≡ Some moment
       → (live : ℕ → Bool) → OwnEntriesAreMade live moment.past.attempts
   own_entries-in_run events moment run live = own_entries-on_the_way events moment moment run Still live

@@ -1,5 +1,6 @@
 -- What it changes of an attempt that the status of one of its messages is known: not its other numbers, its targets, nor how it began.
-use Rattle.std.proofs.Common.{◌≡◌, ◌≢◌, ℕ, ◌==◌, Bool, true, false, ◌&&◌, ◌||◌, cond, List, [], ◌∷◌, map, None, option_map, refl, sym, ap, ◌∙◌}
+use Rattle.std.proofs.Common.{◌≡◌, ◌≢◌, ℕ, ◌==◌, Bool, true, false, ◌&&◌, ◌||◌, cond, List, [], ◌∷◌, map, None, option_map, refl, sym, ap}
+use Rattle.std.proofs.Common.{◌∙◌}
 use Rattle.std.specs.List.{list_any}
 use Rattle.std.specs.FinMap as tree
 use Rattle.std.proofs.lemmas.Bool.{eqb-true, ne_eqb}
@@ -26,16 +27,19 @@ module _ (number : ℕ) (status : Status) where
     awaited_same message true is =
         let own : message.number ≡ number = eqb-true message.number number is in
         let other : (message.number == k) ≡ false = ne_eqb message.number k (λ (same : message.number ≡ k). apart (sym same ∙ own)) in
-        ap (λ (b : Bool). cond b (is_unanswered status) false) other ∙ sym (ap (λ (b : Bool). cond b (is_unanswered message.status) false) other)
+        ap (λ (b : Bool). cond b (is_unanswered status) false) other
+        ∙ sym (ap (λ (b : Bool). cond b (is_unanswered message.status) false) other)
     awaited_same message false is = refl
 
-    pub awaited-marked : (messages : List Message) → list_any (is_awaited_message k) (messages_with_status number status messages) ≡ list_any (is_awaited_message k) messages
+    pub awaited-marked : (messages : List Message)
+        → list_any (is_awaited_message k) (messages_with_status number status messages) ≡ list_any (is_awaited_message k) messages
     awaited-marked [] = refl
     awaited-marked (message ∷ messages) =
         λ i. awaited_same message (message.number == number) refl i || awaited-marked messages i
 
     -- of an attempt that is over with it no other message was awaited
-    pub none_awaited-over : (messages : List Message) → is_over (messages_with_status number status messages) ≡ true → list_any (is_awaited_message k) messages ≡ false
+    pub none_awaited-over : (messages : List Message) → is_over (messages_with_status number status messages) ≡ true
+        → list_any (is_awaited_message k) messages ≡ false
     none_awaited-over messages over = sym (awaited-marked messages) ∙ over_none k (messages_with_status number status messages) over
 
   pub number-marked : (message : Message) (b : Bool) → (cond b (record message { status = status }) message).number ≡ message.number
@@ -54,7 +58,8 @@ module _ (number : ℕ) (status : Status) where
   receivers-marked [] = refl
   receivers-marked (message ∷ messages) = λ i. node-marked message (message.number == number) i ∷ receivers-marked messages i
 
-  flying-marked : (messages : List Message) → map (λ (message : Message). Flying) (messages_with_status number status messages) ≡ map (λ (message : Message). Flying) messages
+  flying-marked : (messages : List Message)
+      → map (λ (message : Message). Flying) (messages_with_status number status messages) ≡ map (λ (message : Message). Flying) messages
   flying-marked [] = refl
   flying-marked (message ∷ messages) = λ i. Flying ∷ flying-marked messages i
 

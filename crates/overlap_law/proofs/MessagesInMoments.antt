@@ -5,7 +5,6 @@ use Rattle.std.proofs.lemmas.Bool.{and_parts, not-true}
 use Rattle.proof_tools.proofs.FiniteMaps.{get-insert_same, get-insert_cases, insert-insert}
 use Rattle.cluster_script.specs.declared.statement.Statement.{Statement}
 use Rattle.gateway.specs.State.{Work, Gateway}
-use Rattle.sheep_node.specs.declared.event.Event.{Event}
 use Rattle.sheep_node.specs.declared.course.Request.{Request}
 use Rattle.sheep_node.specs.OneWork.{may_work_at}
 use Rattle.sheep_node.specs.StepState.{StepState, at_first}
@@ -21,18 +20,21 @@ use Rattle.sheep_world.specs.World.{Host, World, is_host_up}
 use Rattle.sheep_world.specs.Opening.{initial_world}
 use Rattle.sheep_world.specs.Step.{EventOutcome}
 use Rattle.sheep_world.specs.MembershipChanges.{lost_host}
-use Rattle.sheep_world.specs.NodeCauses.{NodeCause, GuestAsks, RequestComes, ReplyComes, LossIsTold, EntryIsRead, EntryIsPut, RecoveryTicks, WorkIsRetried, input_of_cause, IsCause, host_with_node}
+use Rattle.sheep_world.specs.NodeCauses.{NodeCause, GuestAsks, RequestComes, ReplyComes, LossIsTold, EntryIsRead, EntryIsPut, RecoveryTicks}
+use Rattle.sheep_world.specs.NodeCauses.{WorkIsRetried, ClientAsks, input_of_cause, IsCause, host_with_node}
 use Rattle.sheep_world.specs.EventKinds.{log_after_return}
 use Rattle.sheep_world.specs.HostChanges.{host_after_return, joined_host}
 use Rattle.sheep_world.specs.Began.{Began}
 use Rattle.sheep_world.proofs.LogAtOpening.{log-holds, nodes-valid}
 use Rattle.sheep_world.proofs.ReturningNodes.{stepped_renewed}
 use Rattle.sheep_world.proofs.TogetherInRuns.{opening-together}
-use Rattle.sheep_world.proofs.ValidNodes.{got_is, log_reservable}
+use Rattle.sheep_world.proofs.ValidNodes.{got_is, log_reservable, read_valid}
 use Rattle.sheep_world.proofs.WireAtOpening.{opening_found}
+use Rattle.sheep_world.specs.RunsWithAsks.{Move}
 use Rattle.overlap_law.specs.Reached.{Hosts}
 use Rattle.overlap_law.specs.Past.{MomentWithPast, first_moment, run_with_past}
-use Rattle.overlap_law.specs.StepMoments.{SteppingNode, IsStepping, first_in_step, last_in_step, IsWithinStep, hosts_in_step, moment_in_step}
+use Rattle.overlap_law.specs.StepMoments.{SteppingNode, IsStepping, first_in_step, last_in_step, IsWithinStep, hosts_in_step}
+use Rattle.overlap_law.specs.StepMoments.{moment_in_step}
 use Rattle.overlap_law.specs.MomentChanges as moments
 use Rattle.overlap_law.specs.MomentChanges.{MomentChange, RunsAreInRange, KeptByChanges}
 use Rattle.overlap_law.specs.Traffic.{OpenAttemptsHaveMessages}
@@ -60,7 +62,8 @@ same_have old now same have = subst OpenAttemptsHaveMessages (sym same) have
 -- ---- when a script opens no node has a request yet, nor a work
 
 module _ (script : List Statement) where
-  no_request : (n : ℕ) (host : Host) → tree.get (initial_world script).hosts n ≡ Some host → (req : ℕ) (o : Option Request) → tree.get host.node.requests req ≡ o
+  no_request : (n : ℕ) (host : Host) → tree.get (initial_world script).hosts n ≡ Some host → (req : ℕ) (o : Option Request)
+      → tree.get host.node.requests req ≡ o
       → may_work_at o ≡ true → ⊥
   unfolding initial_world
   no_request n host there req None got may = absurd (cc (may))
@@ -80,25 +83,30 @@ module _ (script : List Statement) where
 
 module _ (script : List Statement) (range : RunsAreInRange script) where
   module _ (world : World) (began : Began script world) where
-    valid_for : (n : ℕ) (host : Host) (cause : NodeCause) → IsCause script world n host cause → IsValidInput (input_of_cause cause)
-    valid_for n host (GuestAsks session req ask) asked =
-        guest_valid host.node asked.line ask asked.asks (guest_asks host.node script range.is_script req asked.line ask asked.stands asked.asks)
-    valid_for n host (RequestComes name to request) here = tt
-    valid_for n host (ReplyComes name from rsp) here = tt
-    valid_for n host (LossIsTold name packet) here = tt
-    valid_for n host (EntryIsRead entry) next =
+    valid_for : (n : ℕ) (host : Host) → tree.get world.hosts n ≡ Some host → (cause : NodeCause) → IsCause script world n host cause
+        → IsValidInput (input_of_cause cause)
+    valid_for n host there (GuestAsks session req ask) asked =
+        guest_valid host.node asked.line ask asked.asks (guest_asks host.node script range.is_script req asked.line ask asked.stands
+        asked.asks)
+    valid_for n host there (RequestComes name to request) here = tt
+    valid_for n host there (ReplyComes name from rsp) here = tt
+    valid_for n host there (LossIsTold name packet) here = tt
+    valid_for n host there (EntryIsRead entry) next =
         got_is IsReservable world.log (length host.node.peer.entries) entry
         (log_reservable world.log (log-holds script range.is_script range.room world began).log) next
-    valid_for n host (EntryIsPut entry) first = tt
-    valid_for n host RecoveryTicks may = tt
-    valid_for n host WorkIsRetried may = tt
+    valid_for n host there (EntryIsPut entry) first = tt
+    valid_for n host there RecoveryTicks may = tt
+    valid_for n host there WorkIsRetried may = tt
+    valid_for n host there (ClientAsks req ask) may =
+        read_valid host.node ask (nodes-valid script range.is_script range.room world began n host there) may.asks may.reads
 
     -- the works of a node in its step are by policies that there may be
-    works_valid : (n : ℕ) (host : Host) → tree.get world.hosts n ≡ Some host → (cause : NodeCause) → IsCause script world n host cause → {so_far : StepState}
+    works_valid : (n : ℕ) (host : Host) → tree.get world.hosts n ≡ Some host → (cause : NodeCause) → IsCause script world n host cause
+        → {so_far : StepState}
         → Leads (input_of_cause cause) host.node (input_received (input_of_cause cause) (at_first host.node)) so_far
         → (req : ℕ) (work : Work) → tree.get so_far.node.gateway.works req ≡ Some work → WorkHasPolicy work.work
     works_valid n host there cause caused leads =
-        let valid = valid_for n host cause caused in
+        let valid = valid_for n host there cause caused in
         let sound : HasValidDisks host.node = nodes-valid script range.is_script range.room world began n host there in
         let first = input_received (input_of_cause cause) (at_first host.node) in
         let received = received_valid (input_of_cause cause) host.node (sound.kept, sound.to_put) in
@@ -109,7 +117,8 @@ module _ (script : List Statement) (range : RunsAreInRange script) where
     up_here : (host : Host) → is_host_up host ≡ true → host.is_lost ≡ false
     up_here host up = not-true host.is_lost (and_parts (not host.is_lost) (has_numbers host.node) up).0
 
-    goes_on_has : (stepping : SteppingNode) (so_far next : StepState) → IsStepping script start.world stepping → IsWithinStep stepping so_far next
+    goes_on_has : (stepping : SteppingNode) (so_far next : StepState) → IsStepping script start.world stepping
+        → IsWithinStep stepping so_far next
         → OpenAttemptsHaveMessages (moment_in_step script stepping start so_far).world.hosts
         → OpenAttemptsHaveMessages (moment_in_step script stepping start next).world.hosts
     goes_on_has stepping so_far next is within have =
@@ -152,7 +161,8 @@ module _ (script : List Statement) (range : RunsAreInRange script) where
         (λ up. none_have) have
     change_has {before} {after} (moments.NodeComesBack event made happened h) have =
         let log = log_after_return script h.n start.world in
-        one_has before.world.hosts after.world.hosts h.n (host_after_return log h.host) (ap (λ (m : EventOutcome). m.world.hosts) (sym h.made_so))
+        one_has before.world.hosts after.world.hosts h.n (host_after_return log h.host)
+        (ap (λ (m : EventOutcome). m.world.hosts) (sym h.made_so))
         (λ up. subst (λ (g : Gateway). WorksHaveMessages g.works) (sym (stepped_renewed log h.host.node).node_so.gateway_so) none_have) have
     change_has {before} {after} (moments.PhaseEnds event made happened h) have =
         same_have before.world.hosts after.world.hosts (ap (λ (m : EventOutcome). m.world.hosts) (sym h.made_so)) have
@@ -163,6 +173,6 @@ module _ (script : List Statement) (range : RunsAreInRange script) where
   pub kept_messages : KeptByChanges script Have
   kept_messages = record { opens = opening_has script; keeps = λ start before after began change have. change_has start began change have }
 
-  pub messages_in_run : (events : List Event) (moment : MomentWithPast) → run_with_past script events ≡ Some moment
+  pub messages_in_run : (events : List Move) (moment : MomentWithPast) → run_with_past script events ≡ Some moment
       → OpenAttemptsHaveMessages moment.world.hosts
   messages_in_run events moment is = run-kept script Have kept_messages events moment is

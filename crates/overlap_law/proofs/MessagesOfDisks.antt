@@ -1,6 +1,6 @@
 -- For which disk a message of an open work is: for the one on which the work's request began, or for that of its object, by what was asked.
 -- So a message that was there before a change of the node was for the same disk then.
-use Rattle.std.proofs.Common.{◌≡◌, inl, ℕ, not, true, [], Option, Some, None, is_some, option_map, refl, sym, ap, subst, ◌∙◌}
+use Rattle.std.proofs.Common.{◌≡◌, inl, ℕ, not, true, [], Option, Some, None, is_some, option_map, refl, sym, ap, subst, ◌∙◌, false}
 use Rattle.std.specs.FinMap as tree
 use Rattle.std.proofs.lemmas.Option.{same_Some}
 use Rattle.object_id.specs.Oid.{vid_of}
@@ -29,12 +29,14 @@ use Rattle.sheep_node.proofs.AwaitedWorks.{Works}
 use Rattle.sheep_node.proofs.OneWorkParts.{Requests, Sessions}
 use Rattle.overlap_law.specs.Courses.{WaitsFor, IsOfStage}
 use Rattle.overlap_law.specs.NoObjects.{IsMessageFor, disk_for}
-use Rattle.overlap_law.specs.RequestsOfScript.{IsCourseOfAsk, IsStageOfAsk, IsTaskOfAsk, IsOnDisk}
+use Rattle.overlap_law.specs.RequestsOfScript.{IsCourseOfAsk, IsStageOfAsk, IsTaskOfAsk, IsOnDisk, is_of_client}
 use Rattle.overlap_law.proofs.CoursesAtChanges.{placed_in_chain}
-use Rattle.overlap_law.proofs.CoursesOfAsks.{id_of_disk, ArePlaced, IsPlacedAt, IsPlacedIn, IsBrought}
+use Rattle.overlap_law.proofs.CoursesOfAsks.{id_of_disk, ArePlaced, IsPlacedIn, IsBrought, placed_as, placed_by_ask, IsPlacedAs}
+use Rattle.overlap_law.proofs.CoursesOfAsks.{IsBroughtAs}
 use Rattle.overlap_law.proofs.OpenStatuses.{WasMessage}
 use Rattle.overlap_law.proofs.WaitedSteps.{no_id, Waits}
 use Rattle.overlap_law.proofs.WorksAtCourses.{HaveAt, IsAt}
+use Rattle.overlap_law.proofs.PlacedAnew.{placed_anew, brought_anew, course_asks}
 
 -- ---- by what was asked
 
@@ -97,6 +99,15 @@ module _ (asked : Option Ask) (opened : Option Disk) (began : Option ℕ) where
   of_own (DoingWork asks) is = is
   of_own (AwaitingDecision entry) is = is
 
+-- what a client asks is for no disk
+of_disk_for : (opened : Option Disk) (oid vid : ℕ) (course : Course) → disk_for opened oid course ≡ Some vid → is_of_client course ≡ false
+of_disk_for opened oid vid (Waiting ask) is = refl
+of_disk_for opened oid vid (Driving driver) is = refl
+of_disk_for opened oid vid (Commanding op) is = refl
+of_disk_for opened oid vid (Checking check) is = refl
+of_disk_for opened oid vid (DoingWork work) is = absurd (cc (is))
+of_disk_for opened oid vid (AwaitingDecision entry) is = absurd (cc (is))
+
 -- a message of an open work that was there is for the disk
 pub record StaysFor (input : Input) (node : Node) (vid : ℕ) {req : ℕ} {work : Work} {current : gateways.Attempt} {place : ℕ}
     {message : Message} (was : WasMessage input node req work current place message) : Type 0 where
@@ -120,15 +131,18 @@ module _ (asked : ℕ → Option Ask) (Began : ℕ → Option ℕ → Type 0) (i
       by_got : (o : Option Request) → tree.get node.requests req ≡ o → IsPlacedIn asked Began req node.sessions o
           → IsPlacedIn asked IsOnOwn req node.sessions o
       by_got None got is = tt
-      by_got (Some request) got (began, b, is) = (
-        id_of_disk (opened_of request),
-        (λ other there. ap (λ (r : Request). id_of_disk (opened_of r)) (same_Some other request (sym there ∙ got))),
-        of_own (asked req) (opened_of request) began request.course is,
-      )
+      by_got (Some request) got is =
+          placed_anew asked Began IsOnOwn req (opened_of request) request.course
+          (λ (was : IsPlacedAs asked Began req (opened_of request) request.course). (
+            id_of_disk (opened_of request),
+            (λ other there. ap (λ (r : Request). id_of_disk (opened_of r)) (same_Some other request (sym there ∙ got))),
+            of_own (asked req) (opened_of request) was.0 request.course was.2,
+          )) is
 
   own_brought : IsBrought asked IsOnOwn input node
   own_brought req session ask from =
-      let brings = brought req session ask from in (
+      brought_anew asked Began IsOnOwn req (session_among session node.sessions).disk ask
+      (λ (brings : IsBroughtAs asked Began req (session_among session node.sessions).disk ask). (
         brings.0,
         brings.1,
         (λ request got.
@@ -136,7 +150,8 @@ module _ (asked : ℕ → Option Ask) (Began : ℕ → Option ℕ → Type 0) (i
             let taken : tree.contains_key node.requests req ≡ true = ap (λ (o : Option Request). is_some o) got in
             let never = ap not taken in
             absurd (cc (free, never))),
-      )
+      ))
+      (brought req session ask from)
 
   module _ (may : May input node) (queued : QueuesAreDiskRequests node) (sole : CommandsAreAlone node)
       (waited : HaveAt Waits node.gateway.works node.requests node.sessions) (so_far : StepState)
@@ -171,12 +186,21 @@ module _ (asked : ℕ → Option Ask) (Began : ℕ → Option ℕ → Type 0) (i
           work_so = refl;
         }
           where
-            at_first_so : IsPlacedAt asked IsOnOwn meant.req (opened_of first) first.course
-            at_first_so = subst (IsPlacedIn asked IsOnOwn meant.req node.sessions) there (own_placed meant.req)
-
-            at_last_so : IsPlacedAt asked IsOnOwn meant.req (session_among meant.request.session so_far.node.sessions).disk
+            at_last_so : IsPlacedAs asked IsOnOwn meant.req (session_among meant.request.session so_far.node.sessions).disk
                 meant.request.course
-            at_last_so = subst (IsPlacedIn asked IsOnOwn meant.req so_far.node.sessions) meant.asker (placed_then meant.req)
+            at_last_so =
+                placed_as asked IsOnOwn meant.req (session_among meant.request.session so_far.node.sessions).disk meant.request.course
+                (of_disk_for (session_among meant.request.session so_far.node.sessions).disk (oid_of meant.work.work) vid
+                meant.request.course meant.disk)
+                (subst (IsPlacedIn asked IsOnOwn meant.req so_far.node.sessions) meant.asker (placed_then meant.req))
+
+            at_first_so : IsPlacedAs asked IsOnOwn meant.req (opened_of first) first.course
+            at_first_so =
+                let (ask, asks_it) = course_asks (asked meant.req) (session_among meant.request.session so_far.node.sessions).disk
+                at_last_so.0
+                meant.request.course at_last_so.2 in
+                placed_by_ask asked IsOnOwn meant.req ask asks_it (opened_of first) first.course
+                (subst (IsPlacedIn asked IsOnOwn meant.req node.sessions) there (own_placed meant.req))
 
             before : disk_for (opened_of first) (oid_of was.open_so.was.work) first.course
                 ≡ disk_of_ask (asked meant.req) at_first_so.0 (oid_of was.open_so.was.work)

@@ -1,5 +1,6 @@
 -- Each open create or write has a message: an attempt begins in as many zones as it has targets, and that is one at least.
-use Rattle.std.proofs.Common.{◌≡◌, ◌≢◌, ⊎_elim, arith, ℕ, ◌+◌, ◌≤◌, ◌==◌, true, false, cond, List, [], ◌∷◌, length, map, slice_get, min, Some, refl, sym, ap, ◌∙◌}
+use Rattle.std.proofs.Common.{◌≡◌, ◌≢◌, ⊎_elim, arith, ℕ, ◌+◌, ◌≤◌, ◌==◌, true, false, cond, List, [], ◌∷◌, length, map, slice_get, min}
+use Rattle.std.proofs.Common.{Some, refl, sym, ap, ◌∙◌}
 use Rattle.std.specs.List.{enumerate_from}
 use Rattle.std.specs.Ordering.{nat_cmp}
 use Rattle.std.specs.FinMap as tree
@@ -34,11 +35,13 @@ use Rattle.sheep_node.specs.State.{Node}
 use Rattle.sheep_node.specs.StepState.{StepState}
 use Rattle.sheep_node.specs.ValidDisks.{WorkHasPolicy}
 use Rattle.sheep_node.specs.Changes as changes
-use Rattle.sheep_node.specs.Changes.{IsSoundStep, Change, ToWork, ToEntry, ToReply, attempt_in, has_too_few_zones, without_ended_work, without_denied_work, zones_of_members}
+use Rattle.sheep_node.specs.Changes.{IsSoundStep, Change, ToWork, ToEntry, ToReply, attempt_in, has_too_few_zones, without_ended_work}
+use Rattle.sheep_node.specs.Changes.{without_denied_work, zones_of_members}
 use Rattle.sheep_node.proofs.AwaitedWorks.{Works}
 use Rattle.sheep_node.proofs.OneWorkChanges.{StepHasOneWork, never_alone}
 use Rattle.overlap_law.proofs.AttemptMessages.{targets-of_making}
-use Rattle.overlap_law.proofs.OpenAttempts.{Fewer, gone_fewer, ended_fewer, refused_fewer, denied_fewer, all_stay, steps_fewer, next_fewer, open_of}
+use Rattle.overlap_law.proofs.OpenAttempts.{Fewer, gone_fewer, ended_fewer, refused_fewer, denied_fewer, all_stay, steps_fewer, next_fewer}
+use Rattle.overlap_law.proofs.OpenAttempts.{open_of}
 
 -- each open create or write among some works has a message
 abbrev pub WorksHaveMessages : Works → Type 0
@@ -53,7 +56,8 @@ none_have q work current got making stage = let none = tree.get-empty {X = Work}
 
 -- one work is put
 put_has : (all : Works) (req : ℕ) (now : Work)
-    → ((current : gateways.Attempt) → is_making now.work ≡ true → now.stage ≡ Open current → (message : Message) × (slice_get current.messages 0 ≡ Some message))
+    → ((current : gateways.Attempt) → is_making now.work ≡ true → now.stage ≡ Open current → (message : Message)
+    × (slice_get current.messages 0 ≡ Some message))
     → WorksHaveMessages all → WorksHaveMessages (tree.insert all req now)
 put_has all req now own have q work current got making stage = ⊎_elim
     (λ (here : (q ≡ req) × (now ≡ work)).
@@ -95,7 +99,8 @@ first_of work first [] some = absurd (omega (arith, some))
 first_of work first (target ∷ targets) some = (message_for work (first, (0, target)), refl)
 
 begun_has : (asked : Work) (node : Node) (current : gateways.Attempt) → is_making asked.work ≡ true → has_too_few_zones asked node ≡ false
-    → WorkHasPolicy asked.work → Open (attempt_in asked node) ≡ Open current → (message : Message) × (slice_get current.messages 0 ≡ Some message)
+    → WorkHasPolicy asked.work → Open (attempt_in asked node) ≡ Open current
+    → (message : Message) × (slice_get current.messages 0 ≡ Some message)
 begun_has asked node current making enough policy stage =
     let targets = targets_in node.epochs node.peer.epoch (oid_of asked.work) (policy_of asked.work) in
     let (message, got) = first_of asked.work node.sends targets (some_target asked node making enough policy) in
@@ -120,7 +125,8 @@ HaveMessagesIn so_far = WorksHaveMessages so_far.node.gateway.works
 
 module _ {input : Input} {node : Node} (sound : IsSoundStep input node) where
   pub change_have : (so_far next : StepState) → Change input node so_far next → StepHasOneWork so_far
-      → ((req : ℕ) (work : Work) → tree.get next.node.gateway.works req ≡ Some work → WorkHasPolicy work.work) → HaveMessagesIn so_far → HaveMessagesIn next
+      → ((req : ℕ) (work : Work) → tree.get next.node.gateway.works req ≡ Some work → WorkHasPolicy work.work) → HaveMessagesIn so_far
+      → HaveMessagesIn next
   change_have so_far next (changes.Marks req number work attempt status learns over) good valid have =
       let before = so_far.node.gateway.works in
       put_has before req (record work { stage = Open (attempt_with_status number status attempt) })
@@ -129,12 +135,14 @@ module _ {input : Input} {node : Node} (sound : IsSoundStep input node) where
       let (message, got) = marked_has number status attempt.messages (have req work attempt learns.there making learns.open_so) in
       (message, sym (ap (λ (a : gateways.Attempt). slice_get a.messages 0) same) ∙ got)) have
   change_have so_far next (changes.Fails session req number work attempt status course ends done why) good valid have =
-      put_has so_far.node.gateway.works req (record work { ended = work.ended + 1; stage = Ended }) (λ current making stage. absurd (cc (stage))) have
+      put_has so_far.node.gateway.works req (record work { ended = work.ended + 1; stage = Ended })
+      (λ current making stage. absurd (cc (stage))) have
   change_have so_far next (changes.Stops session req number work attempt status course bytes ends over) good valid have =
       fewer_have so_far.node.gateway.works next.node.gateway.works (gone_fewer so_far.node.gateway.works req) have
   change_have so_far next (changes.Refuses session req number work attempt status course cause ends done why) good valid have =
       fewer_have so_far.node.gateway.works next.node.gateway.works
-      (refused_fewer so_far.node.gateway.works session req cause course (without_ended_work session req work status so_far) (gone_fewer so_far.node.gateway.works req)) have
+      (refused_fewer so_far.node.gateway.works session req cause course (without_ended_work session req work status so_far)
+      (gone_fewer so_far.node.gateway.works req)) have
   change_have so_far next (changes.Opens session req asked lined comes enough) good valid have =
       let now : Work = record asked { stage = Open (attempt_in asked lined.node) } in
       put_has lined.node.gateway.works req now
@@ -147,9 +155,11 @@ module _ {input : Input} {node : Node} (sound : IsSoundStep input node) where
       (fewer_have so_far.node.gateway.works lined.node.gateway.works (next_fewer so_far session req asked lined comes) have)
   change_have so_far next (changes.Denies session req asked lined request comes short untouched there own) good valid have =
       fewer_have so_far.node.gateway.works next.node.gateway.works
-      (denied_fewer so_far.node.gateway.works req (Halt (zones_of_members lined.node) (zones_for asked.work)) request (without_denied_work session req asked lined)
-      (λ q other got. next_fewer so_far session req asked lined comes q other (gone_fewer lined.node.gateway.works req q other got))) have
-  change_have so_far next (changes.Strays req work gateway there none apart) good valid have = absurd (never_alone req work so_far there none good)
+      (denied_fewer so_far.node.gateway.works req (Halt (zones_of_members lined.node) (zones_for asked.work)) request
+      (without_denied_work session req asked lined) (λ q other got. next_fewer so_far session req asked lined comes q other
+      (gone_fewer lined.node.gateway.works req q other got))) have
+  change_have so_far next (changes.Strays req work gateway there none apart) good valid have =
+      absurd (never_alone req work so_far there none good)
   change_have so_far next (changes.Lines session req work moved steps waits) good valid have =
       fewer_have so_far.node.gateway.works next.node.gateway.works (steps_fewer so_far session req (ToWork work) moved steps) have
   change_have so_far next (changes.Appends session req entry moved steps) good valid have =

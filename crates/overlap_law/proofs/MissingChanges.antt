@@ -1,6 +1,7 @@
 -- Each change of a moment leaves nothing missing that was made before the recovery's epoch: where no level is left, the level at which the
 -- nodes hold it has ended with too few rows, but as many are there as a read needs.
-use Rattle.std.proofs.Common.{◌≡◌, inl, inr, arith, ℕ, ◌≤◌, ◌<◌, ◌-◌, ◌==◌, ◌&&◌, max, not, Bool, true, false, List, Option, Some, None, is_some, refl, sym, ap, subst, ◌∙◌}
+use Rattle.std.proofs.Common.{◌≡◌, inl, inr, arith, ℕ, ◌≤◌, ◌<◌, ◌-◌, ◌==◌, ◌&&◌, max, not, Bool, true, false, List, Option, Some, None}
+use Rattle.std.proofs.Common.{is_some, refl, sym, ap, subst, ◌∙◌}
 use Rattle.std.specs.List.{list_any}
 use Rattle.std.specs.FinMap as tree
 use Rattle.std.proofs.lemmas.Bool.{and_right, ne_eqb, or_from}
@@ -10,12 +11,12 @@ use Rattle.cluster_script.specs.declared.statement.Statement.{Statement}
 use Rattle.vdi_directory.specs.Decisions.{log_effects}
 use Rattle.recovery.specs.Shown.{first_in}
 use Rattle.recovery.specs.State.{Recovery, is_listed, is_finished, is_missing}
-use Rattle.sheep_node.specs.declared.event.Event.{Event}
 use Rattle.sheep_node.specs.RecoveryView.{recovery_state_of}
 use Rattle.sheep_world.specs.Began.{Began}
 use Rattle.sheep_world.specs.EventKinds.{log_after_return}
 use Rattle.sheep_world.specs.NodeCauses.{NodeCause, IsCause, input_of_cause}
 use Rattle.sheep_world.specs.World.{Host, is_host_up}
+use Rattle.sheep_world.specs.RunsWithAsks.{Move}
 use Rattle.overlap_law.specs.Attempts.{object_of}
 use Rattle.overlap_law.specs.Each.{policy_in}
 use Rattle.overlap_law.specs.HeldLevels.{level_of, CanBeFoundAt}
@@ -48,7 +49,7 @@ use Rattle.overlap_law.proofs.StayingRows.{RowsHold, kept_rows}
 use Rattle.overlap_law.proofs.TrueRows.{rows_true-on_the_way}
 use Rattle.overlap_law.proofs.UnsettledInMoments.{are_unsettled}
 
-module _ (script : List Statement) (range : RunsAreInRange script) (events : List Event) (start before after : MomentWithPast)
+module _ (script : List Statement) (range : RunsAreInRange script) (events : List Move) (start before after : MomentWithPast)
     (is : run_with_past script events ≡ Some start) (trail : MomentTrail script start before)
     (change : MomentChange script start before after) (good : ℕ → Bool)
     (alive : (oid : ℕ) → good oid ≡ true → is_dead_by_log before.world.log oid ≡ false)

@@ -12,7 +12,8 @@ use Rattle.peer_proto.specs.declared.say.PeerSay.TheVariants as says
 use Rattle.recovery.specs.Level.{searching}
 use Rattle.recovery.specs.Shown.{shown_with_pending}
 use Rattle.recovery.specs.State.{Message, Search, Recovery, RecoveryState, is_listed, message_of, still_on, search_on}
-use Rattle.recovery.specs.Steps.{to_recover, at_start, recovery_from_epoch, without_unanswered, after_list, after_read, after_ask, message_end}
+use Rattle.recovery.specs.Steps.{to_recover, at_start, recovery_from_epoch, without_unanswered, after_list, after_read, after_ask}
+use Rattle.recovery.specs.Steps.{message_end}
 use Rattle.recovery.specs.Tick.{next_search, tick_messages, with_messages, state_after_tick}
 use Rattle.recovery.proofs.ListingLemmas.{begun_waits, tick_waits, end_waits}
 use Rattle.overlap_law.proofs.FirstSearches.{WaitsFirst, lists_wait}

@@ -21,13 +21,14 @@ use Rattle.gateway.specs.declared.message.Status.TheVariants as statuses
 use Rattle.gateway.specs.Attempt as gateways
 use Rattle.gateway.specs.Attempt.{is_awaited_message}
 use Rattle.gateway.specs.State.{Work, WorkStage, open_messages, is_awaited_in}
-use Rattle.sheep_node.specs.declared.event.Event.{Event}
 use Rattle.sheep_node.specs.declared.input.Input.{Input}
 use Rattle.sheep_node.specs.State.{Node, session_at}
 use Rattle.sheep_node.specs.Step.{node_step}
 use Rattle.sheep_node.specs.Changes.{IsTold}
 use Rattle.sheep_node.proofs.StepChain.{step_chain}
-use Rattle.sheep_world.specs.NodeCauses.{NodeCause, GuestAsks, RequestComes, ReplyComes, LossIsTold, EntryIsRead, EntryIsPut, RecoveryTicks, WorkIsRetried, input_of_cause, log_after_cause}
+use Rattle.sheep_world.specs.NodeCauses.{NodeCause, GuestAsks, RequestComes, ReplyComes, LossIsTold, EntryIsRead, EntryIsPut, RecoveryTicks}
+use Rattle.sheep_world.specs.NodeCauses.{WorkIsRetried, ClientAsks, input_of_cause, log_after_cause}
+use Rattle.sheep_world.specs.RunsWithAsks.{Move}
 use Rattle.overlap_law.specs.MomentChanges.{RunsAreInRange}
 use Rattle.overlap_law.specs.NoObjects.{IsMessageFor, NothingIsLacked, disk_for}
 use Rattle.overlap_law.specs.Past.{MomentWithPast, run_with_past}
@@ -53,8 +54,9 @@ told_by (EntryIsRead entry) number status told = tt
 told_by (EntryIsPut entry) number status told = absurd told
 told_by RecoveryTicks number status told = absurd told
 told_by WorkIsRetried number status told = tt
+told_by (ClientAsks req ask) number status told = tt
 
-module _ (script : List Statement) (range : RunsAreInRange script) (events : List Event) (start : MomentWithPast)
+module _ (script : List Statement) (range : RunsAreInRange script) (events : List Move) (start : MomentWithPast)
     (ran : run_with_past script events ≡ Some start) (good_id : ℕ → Bool)
     (lacked : NothingIsLacked (log_effects start.world.log) good_id start.world.hosts start.world.wire) (stepping : SteppingNode)
     (is : IsStepping script start.world stepping) (vid : ℕ) (message : Message) (meant : IsMessageFor stepping.host.node vid message)
@@ -177,7 +179,7 @@ module _ (script : List Statement) (range : RunsAreInRange script) (events : Lis
       (contains_at (node_step input node).outputs.replies place (req, replies.Refused (causes.NoObj at oid)) got) refl)
 
 -- so the disk of such a request is gone
-pub lacks_of_the_gone : (script : List Statement) (range : RunsAreInRange script) (events : List Event) (start : MomentWithPast)
+pub lacks_of_the_gone : (script : List Statement) (range : RunsAreInRange script) (events : List Move) (start : MomentWithPast)
     → (ran : run_with_past script events ≡ Some start) (good_id : ℕ → Bool)
     → NothingIsLacked (log_effects start.world.log) good_id start.world.hosts start.world.wire → (stepping : SteppingNode)
     → IsStepping script start.world stepping → (vid : ℕ) (message : Message) (meant : IsMessageFor stepping.host.node vid message)

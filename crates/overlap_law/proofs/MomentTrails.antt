@@ -1,6 +1,5 @@
 -- An event is a trail of changes: a node's step by the chain of the node's own changes, and each other event in one change.
-use Rattle.std.proofs.Common.{◌≡◌, List, Option, Some, None, option_map, refl, sym, ap, subst, ◌∙◌}
-use Rattle.std.proofs.lemmas.Option.{same_Some}
+use Rattle.std.proofs.Common.{◌≡◌, List, subst}
 use Rattle.cluster_script.specs.declared.statement.Statement.{Statement}
 use Rattle.sheep_node.specs.declared.event.Event.{Event}
 use Rattle.sheep_node.specs.declared.input.Input.{Input}
@@ -9,17 +8,24 @@ use Rattle.sheep_node.specs.StepState.{StepState}
 use Rattle.sheep_node.specs.Changes as changes
 use Rattle.sheep_node.specs.Changes.{Leads}
 use Rattle.sheep_node.proofs.StepChain.{step_chain}
-use Rattle.sheep_world.specs.Step.{EventOutcome, step}
-use Rattle.sheep_world.specs.NodeCauses.{NodeCause, GuestAsks, RequestComes, ReplyComes, LossIsTold, EntryIsRead, EntryIsPut, RecoveryTicks, WorkIsRetried, input_of_cause, event_of_cause}
+use Rattle.sheep_world.specs.Step.{EventOutcome}
+use Rattle.sheep_world.specs.NodeCauses.{NodeCause, GuestAsks, RequestComes, ReplyComes, LossIsTold, EntryIsRead, EntryIsPut, RecoveryTicks}
+use Rattle.sheep_world.specs.NodeCauses.{WorkIsRetried, ClientAsks, input_of_cause, event_of_cause}
 use Rattle.sheep_world.specs.EventKinds as kinds
 use Rattle.sheep_world.specs.EventKinds.{outcome_of_step, EventKind}
-use Rattle.sheep_world.proofs.EventInversion.{happens}
+use Rattle.sheep_world.proofs.ClientReads.{goes_by_kind}
+use Rattle.sheep_world.specs.Began.{MakesMove}
 use Rattle.overlap_law.specs.Past.{MomentWithPast, moment_after}
-use Rattle.overlap_law.specs.StepMoments.{SteppingNode, IsStepping, StepsByChanges, StepsAtOnce, first_in_step, last_in_step, LeadsInStep, moment_in_step}
-use Rattle.overlap_law.specs.MomentChanges.{MomentTrail, Still, Then, StepBegins, StepGoesOn, StepIsMade, LossIsUntold, DeliveryIsUnread, NodeIsLost, NodeLeaves, NodeIsReweighted, NodeJoins, NodeComesBack, PhaseEnds, EventsAreTrails}
+use Rattle.overlap_law.specs.StepMoments.{SteppingNode, IsStepping, StepsByChanges, StepsAtOnce, first_in_step, last_in_step, LeadsInStep}
+use Rattle.overlap_law.specs.StepMoments.{moment_in_step}
+use Rattle.overlap_law.specs.MomentChanges.{MomentTrail, Still, Then, StepBegins, StepGoesOn, StepIsMade, LossIsUntold, DeliveryIsUnread}
+use Rattle.overlap_law.specs.MomentChanges.{NodeIsLost, NodeLeaves, NodeIsReweighted, NodeJoins, NodeComesBack, PhaseEnds, EventsAreTrails}
+use Rattle.overlap_law.proofs.GoingOn.{goes_as, has_gone}
+use Rattle.sheep_world.specs.RunsWithAsks.{event_of_move}
 
 -- one chain of a node's changes goes on with another
-pub leads_joined : {input : Input} {node : Node} {first middle last : StepState} → Leads input node first middle → Leads input node middle last
+pub leads_joined : {input : Input} {node : Node} {first middle last : StepState} → Leads input node first middle
+    → Leads input node middle last
     → Leads input node first last
 leads_joined one changes.Still = one
 leads_joined one (changes.Then more change) = changes.Then (leads_joined one more) change
@@ -43,7 +49,8 @@ module _ (script : List Statement) (start : MomentWithPast) where
     at_once : StepsAtOnce stepping.cause → MomentTrail script start (moment_in_step script stepping start (last_in_step stepping))
     at_once by = Then Still (StepIsMade stepping is by)
 
-    either_way : (cause : NodeCause) → (StepsByChanges cause → MomentTrail script start (moment_in_step script stepping start (last_in_step stepping)))
+    either_way : (cause : NodeCause)
+        → (StepsByChanges cause → MomentTrail script start (moment_in_step script stepping start (last_in_step stepping)))
         → (StepsAtOnce cause → MomentTrail script start (moment_in_step script stepping start (last_in_step stepping)))
         → MomentTrail script start (moment_in_step script stepping start (last_in_step stepping))
     either_way (GuestAsks session req ask) many one = many tt
@@ -54,16 +61,18 @@ module _ (script : List Statement) (start : MomentWithPast) where
     either_way (EntryIsPut entry) many one = one tt
     either_way RecoveryTicks many one = one tt
     either_way WorkIsRetried many one = many tt
+    either_way (ClientAsks req ask) many one = many tt
 
     -- the whole step, whose end is the moment after its event
-    step_trail : Reaches (event_of_cause stepping.n stepping.cause) (outcome_of_step script stepping.n stepping.host stepping.cause start.world)
+    step_trail : Reaches (event_of_cause stepping.n stepping.cause)
+        (outcome_of_step script stepping.n stepping.host stepping.cause start.world)
     step_trail = either_way stepping.cause by_changes at_once
 
   -- what was made, and the event, as the kind has them
   so_made : {event own : Event} {made its : EventOutcome} → own ≡ event → its ≡ made → Reaches own its → Reaches event made
   so_made {event} {own} {made} {its} is so reaches = subst (λ (e : Event). Reaches e made) is (subst (Reaches own) so reaches)
 
-  by_kind : (event : Event) (made : EventOutcome) → step script event start.world ≡ Some made → EventKind script event start.world made
+  by_kind : (event : Event) (made : EventOutcome) → MakesMove script event start.world made → EventKind script event start.world made
       → Reaches event made
   by_kind event made happened (kinds.NodeStep h) =
       so_made h.event_so h.made_so
@@ -71,7 +80,7 @@ module _ (script : List Statement) (start : MomentWithPast) where
         there = h.there;
         up = h.up;
         caused = h.caused;
-        made = ap (λ (e : Event). step script e start.world) h.event_so ∙ happened ∙ ap (λ (m : EventOutcome). Some m) (sym h.made_so);
+        made = goes_as script start.world h.event_so h.made_so happened;
       }))
   by_kind event made happened (kinds.UntoldLoss h) = Then Still (LossIsUntold event made happened h)
   by_kind event made happened (kinds.UnreadDelivery h) = Then Still (DeliveryIsUnread event made happened h)
@@ -82,12 +91,9 @@ module _ (script : List Statement) (start : MomentWithPast) where
   by_kind event made happened (kinds.NodeReturn h) = Then Still (NodeComesBack event made happened h)
   by_kind event made happened (kinds.PhaseEnd h) = Then Still (PhaseEnds event made happened h)
 
-  by_made : (event : Event) (after : MomentWithPast) (o : Option EventOutcome) → step script event start.world ≡ o
-      → option_map (moment_after script event start) o ≡ Some after → MomentTrail script start after
-  by_made event after None is so = absurd (cc (so))
-  by_made event after (Some made) is so =
-      subst (MomentTrail script start) (same_Some (moment_after script event start made) after so)
-      (by_kind event made is (happens script event start.world made is))
-
 pub event_trail : (script : List Statement) → EventsAreTrails script
-event_trail script event before after is = by_made script before event after (step script event before.world) refl is
+event_trail script event before after is =
+    let gone = has_gone script event before after is in
+    subst (MomentTrail script before) gone.after_so
+    (by_kind script before (event_of_move event) gone.made gone.goes
+    (goes_by_kind script (event_of_move event) before.world gone.made gone.goes))

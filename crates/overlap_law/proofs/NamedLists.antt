@@ -1,6 +1,7 @@
 -- Each change of a moment keeps that what a node with a finished list hasn't pending it has, of all that was made up to its epoch, if a
 -- list that is finished by the change names what was made before, or the node has a row of it.
-use Rattle.std.proofs.Common.{◌≡◌, ◌≢◌, ◌⊎◌, inl, inr, ⊎_elim, arith, ℕ, ◌≤◌, ◌<◌, ◌==◌, not, Bool, true, false, cond, List, ◌++◌, Option, Some, None, is_some, option_map, refl, sym, ap, subst, ◌∙◌}
+use Rattle.std.proofs.Common.{◌≡◌, ◌≢◌, ◌⊎◌, inl, inr, ⊎_elim, arith, ℕ, ◌≤◌, ◌<◌, ◌==◌, not, Bool, true, false, cond, List, ◌++◌, Option}
+use Rattle.std.proofs.Common.{Some, None, is_some, option_map, refl, sym, ap, subst, ◌∙◌}
 use Rattle.std.specs.Option.{option_map_or}
 use Rattle.std.specs.FinMap as tree
 use Rattle.std.proofs.lemmas.Bool.{cases_eq, cases_lt, eqb-true}
@@ -23,7 +24,6 @@ use Rattle.vnode_table.specs.Epochs.{EpochMembers}
 use Rattle.peer_service.specs.State.{Peer, object_policy, is_dead_object}
 use Rattle.recovery.specs.Shown.{is_pending_object, live_policy, index_in, lacks_part, lacks_own_part, is_to_recover}
 use Rattle.recovery.specs.State.{Recovery, is_listed}
-use Rattle.sheep_node.specs.declared.event.Event.{Event}
 use Rattle.sheep_node.specs.declared.input.Input.{Input}
 use Rattle.sheep_node.specs.declared.input.Input.TheVariants as inputs
 use Rattle.sheep_node.specs.State.{Node}
@@ -35,6 +35,7 @@ use Rattle.sheep_world.specs.EventKinds.{log_after_return}
 use Rattle.sheep_world.specs.NodeCauses.{input_of_cause}
 use Rattle.sheep_world.specs.World.{Host, World}
 use Rattle.sheep_world.proofs.NodesByTheLog.{by_the_log}
+use Rattle.sheep_world.specs.RunsWithAsks.{Move}
 use Rattle.overlap_law.specs.Each.{has_row_at, row_covers, policy_in, spec_in, index_of_part}
 use Rattle.overlap_law.specs.Holders.{targets_by, is_object_among, is_dead_by_log}
 use Rattle.overlap_law.specs.Lists.{HasOpenRow, WhatIsNotPendingIsThere}
@@ -80,7 +81,7 @@ module _ (script : List Statement) (range : RunsAreInRange script) where
   same_epochs : (n : ℕ) (old new : Node) → HasPartsOf old new → KnowsEpochs n old → KnowsEpochs n new
   same_epochs n old new parts is = parts.epochs ∙ is ∙ ap (λ (p : Peer). epochs_of p.entries) (sym parts.peer)
 
-  epochs_known : (events : List Event) (start moment : MomentWithPast) → run_with_past script events ≡ Some start
+  epochs_known : (events : List Move) (start moment : MomentWithPast) → run_with_past script events ≡ Some start
       → MomentTrail script start moment → (n : ℕ) (host : Host) → tree.get moment.world.hosts n ≡ Some host → KnowsEpochs n host.node
   epochs_known = nodes-on_the_way script KnowsEpochs same_epochs epochs_in_world
 
@@ -94,7 +95,7 @@ NamesTheMade before after good = (n : ℕ) (now : Host) → tree.get after.world
     → (is_object_among oid now.node.recovery.lists.objects ≡ true)
     ⊎ ((level : ℕ) × (has_row_at now.node.peer.epoch now.node.peer.rows oid level ≡ true))
 
-module _ (script : List Statement) (range : RunsAreInRange script) (events : List Event) (start before after : MomentWithPast)
+module _ (script : List Statement) (range : RunsAreInRange script) (events : List Move) (start before after : MomentWithPast)
     (is : run_with_past script events ≡ Some start) (trail : MomentTrail script start before)
     (change : MomentChange script start before after) (good : ℕ → Bool)
     (alive : (oid : ℕ) → good oid ≡ true → is_dead_by_log after.world.log oid ≡ false)

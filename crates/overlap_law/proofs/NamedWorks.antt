@@ -26,7 +26,7 @@ use Rattle.sheep_world.specs.HostChanges.{joined_host, host_after_return}
 use Rattle.sheep_world.specs.EventKinds.{log_after_return}
 use Rattle.sheep_world.specs.MembershipChanges.{lost_host}
 use Rattle.sheep_world.specs.NodeCauses.{NodeCause, GuestAsks, RequestComes, ReplyComes, LossIsTold, EntryIsRead, EntryIsPut}
-use Rattle.sheep_world.specs.NodeCauses.{RecoveryTicks, WorkIsRetried, input_of_cause, host_with_node}
+use Rattle.sheep_world.specs.NodeCauses.{RecoveryTicks, WorkIsRetried, ClientAsks, input_of_cause, host_with_node}
 use Rattle.sheep_world.specs.Step.{EventOutcome}
 use Rattle.overlap_law.specs.Fates.{IsCreated}
 use Rattle.overlap_law.specs.MomentChanges as moments
@@ -106,7 +106,8 @@ due_names P so_far is =
     (with_recovered so_far) so_far
     is is
 
-pub at_once_names : (P : ObjWork → Type 0) (node : Node) (cause : NodeCause) → StepsAtOnce cause → AreToDo P node.gateway.works node.sessions
+pub at_once_names : (P : ObjWork → Type 0) (node : Node) (cause : NodeCause) → StepsAtOnce cause
+    → AreToDo P node.gateway.works node.sessions
     → AreToDo P (node_step (input_of_cause cause) node).node.gateway.works (node_step (input_of_cause cause) node).node.sessions
 unfolding node_step on_input on_request on_recover_tick
 at_once_names P node (GuestAsks session req ask) by is = absurd by
@@ -122,6 +123,7 @@ at_once_names P node (EntryIsPut entry) by is = due_names P (on_put node.outbox 
     by_outbox (entry ∷ later) = is
 at_once_names P node RecoveryTicks by is = due_names P (on_recover_tick (at_first node)) is
 at_once_names P node WorkIsRetried by is = absurd by
+at_once_names P node (ClientAsks req ask) by is = absurd by
 
 pub back_names : (P : ObjWork → Type 0) (entries : List Entry) (node : Node)
     → AreToDo P (node_step (inputs.Back entries) node).node.gateway.works (node_step (inputs.Back entries) node).node.sessions

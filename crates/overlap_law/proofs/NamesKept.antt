@@ -4,7 +4,6 @@
 use Rattle.std.proofs.Common.{◌≡◌, ℕ, Bool, List, Some, refl}
 use Rattle.cluster_script.specs.declared.statement.Statement.{Statement}
 use Rattle.vdi_directory.specs.Decisions.{log_effects}
-use Rattle.sheep_node.specs.declared.event.Event.{Event}
 use Rattle.overlap_law.specs.Holders.{is_available_disk}
 use Rattle.overlap_law.specs.MomentChanges.{MomentTrail, MomentChange, RunsAreInRange}
 use Rattle.overlap_law.specs.NamedWorks.{AboveIsGood, InodesNameWhatIsMade}
@@ -21,8 +20,9 @@ use Rattle.overlap_law.proofs.NamedWorks.{works_stay_named}
 use Rattle.overlap_law.proofs.NewInodes.{inodes_name}
 use Rattle.overlap_law.proofs.NoRecoveredDue.{began-with_past}
 use Rattle.overlap_law.proofs.OpeningOverlap.{overlap_opens}
+use Rattle.sheep_world.specs.RunsWithAsks.{Move}
 
-pub names_kept : (script : List Statement) → RunsAreInRange script → (events : List Event) (start before after : MomentWithPast)
+pub names_kept : (script : List Statement) → RunsAreInRange script → (events : List Move) (start before after : MomentWithPast)
     → run_with_past script events ≡ Some start → MomentTrail script start before → MomentChange script start before after
     → (live good_id : ℕ → Bool) → CallsLive live before.world.log before.past.attempts
     → AboveIsGood (log_effects before.world.log) good_id

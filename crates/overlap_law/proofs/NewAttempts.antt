@@ -1,5 +1,6 @@
 -- The attempts after a change of a moment: each was there before, but for its fates, or is one that a node has just opened in its step.
-use Rattle.std.proofs.Common.{◌≡◌, ◌⊎◌, inl, inr, ⊎_elim, ℕ, ◌&&◌, Bool, true, false, cond, List, [], ◌++◌, length, Option, Some, None, option_map, slice_get, refl, sym, ap, subst, ◌∙◌, append-nil}
+use Rattle.std.proofs.Common.{◌≡◌, ◌⊎◌, inl, inr, ⊎_elim, ℕ, ◌&&◌, Bool, true, false, cond, List, [], ◌++◌, length, Option, Some, None}
+use Rattle.std.proofs.Common.{option_map, slice_get, refl, sym, ap, subst, ◌∙◌, append-nil}
 use Rattle.std.specs.Option.{option_to_list}
 use Rattle.std.specs.FinMap as tree
 use Rattle.std.proofs.lemmas.Option.{same_Some}
@@ -20,16 +21,20 @@ use Rattle.sheep_node.specs.Changes as changes
 use Rattle.sheep_node.specs.Changes.{attempt_in, has_too_few_zones, WorkIsNext}
 use Rattle.sheep_world.specs.Step.{EventOutcome}
 use Rattle.sheep_world.specs.Began.{Began}
-use Rattle.sheep_world.specs.NodeCauses.{NodeCause, GuestAsks, RequestComes, ReplyComes, LossIsTold, EntryIsRead, EntryIsPut, RecoveryTicks, WorkIsRetried, input_of_cause, host_with_node}
-use Rattle.overlap_law.specs.Attempts.{AttemptRecord, MessageFate, Doomed, attempts_with_fate, fate_of_say, is_first, beginning, beginning_with}
+use Rattle.sheep_world.specs.NodeCauses.{NodeCause, GuestAsks, RequestComes, ReplyComes, LossIsTold, EntryIsRead, EntryIsPut, RecoveryTicks}
+use Rattle.sheep_world.specs.NodeCauses.{WorkIsRetried, ClientAsks, input_of_cause, host_with_node}
+use Rattle.overlap_law.specs.Attempts.{AttemptRecord, MessageFate, Doomed, attempts_with_fate, fate_of_say, is_first, beginning}
+use Rattle.overlap_law.specs.Attempts.{beginning_with}
 use Rattle.overlap_law.specs.BegunAttempts.{attempts_after}
 use Rattle.overlap_law.specs.Past.{MomentWithPast, past_after_event, moment_after}
-use Rattle.overlap_law.specs.StepMoments.{SteppingNode, IsStepping, StepsByChanges, first_in_step, last_in_step, LeadsInStep, moment_in_step, attempts_with_loss, attempts_at_cause, attempts_of_change}
+use Rattle.overlap_law.specs.StepMoments.{SteppingNode, IsStepping, StepsByChanges, first_in_step, last_in_step, LeadsInStep}
+use Rattle.overlap_law.specs.StepMoments.{moment_in_step, attempts_with_loss, attempts_at_cause, attempts_of_change}
 use Rattle.overlap_law.specs.MomentChanges as moments
 use Rattle.overlap_law.specs.MomentChanges.{MomentChange, RunsAreInRange}
 use Rattle.overlap_law.proofs.AttemptLists.{got_more, got_marked, fates_told}
 use Rattle.overlap_law.proofs.AttemptsInSteps.{attempts-at_first, attempts-at_end, attempts-grow}
-use Rattle.overlap_law.proofs.AttemptsOfEvents.{attempts-of_untold_loss, attempts-of_unread_delivery, attempts-of_loss, attempts-of_leave, attempts-of_reweight, attempts-of_join, attempts-of_return, attempts-of_phase_end}
+use Rattle.overlap_law.proofs.AttemptsOfEvents.{attempts-of_untold_loss, attempts-of_unread_delivery, attempts-of_loss, attempts-of_leave}
+use Rattle.overlap_law.proofs.AttemptsOfEvents.{attempts-of_reweight, attempts-of_join, attempts-of_return, attempts-of_phase_end}
 use Rattle.overlap_law.proofs.KnownSteps.{known_step}
 
 -- an attempt that a node has opened in its step
@@ -54,7 +59,8 @@ pub record IsOpened (script : List Statement) (start after : MomentWithPast) (ne
   pub requests_so : next.node.requests ≡ lined.node.requests
   pub me_so : next.node.me ≡ lined.node.me
   pub epoch_so : next.node.peer.epoch ≡ lined.node.peer.epoch
-  pub opened : beginning (host_with_node stepping.host lined.node) lined.node.sends req asked.work (attempt_in asked lined.node) request ≡ new
+  pub opened : beginning (host_with_node stepping.host lined.node) lined.node.sends req asked.work (attempt_in asked lined.node) request
+      ≡ new
 
 -- an attempt that was there, but for its fates
 pub record WasAttempt (before : MomentWithPast) (j : ℕ) (now : AttemptRecord) : Type 0 where
@@ -79,10 +85,12 @@ module _ (script : List Statement) (start before after : MomentWithPast) where
   same_attempts same j now got =
       inl (record { was = now; at = ap (λ (all : List AttemptRecord). slice_get all j) (sym same) ∙ got; fates = now.fates; same = refl })
 
-  marked_attempts : (told : MessageFate) (sender : NodeId) (number : ℕ) → after.past.attempts ≡ attempts_with_fate told sender number before.past.attempts
+  marked_attempts : (told : MessageFate) (sender : NodeId) (number : ℕ)
+      → after.past.attempts ≡ attempts_with_fate told sender number before.past.attempts
       → ComeFrom script start before after
   marked_attempts told sender number same j now got =
-      let (was, at, is) = got_marked told sender number before.past.attempts j now (ap (λ (all : List AttemptRecord). slice_get all j) (sym same) ∙ got) in
+      let (was, at, is) = got_marked told sender number before.past.attempts j now
+      (ap (λ (all : List AttemptRecord). slice_get all j) (sym same) ∙ got) in
       inl (record { was = was; at = at; fates = fates_told told sender number was; same = is })
 
   lost_attempts : (name : MessageName) (packet : Packet) → after.past.attempts ≡ attempts_with_loss name packet before.past.attempts
@@ -90,15 +98,18 @@ module _ (script : List Statement) (start before after : MomentWithPast) where
   lost_attempts name (Request to bytes) same = marked_attempts Doomed name.sender name.number same
   lost_attempts name (Reply from bytes) same = same_attempts same
 
-  caused_attempts : (node : Node) (cause : NodeCause) → after.past.attempts ≡ attempts_at_cause node cause before.past.attempts → ComeFrom script start before after
+  caused_attempts : (node : Node) (cause : NodeCause) → after.past.attempts ≡ attempts_at_cause node cause before.past.attempts
+      → ComeFrom script start before after
   caused_attempts node (GuestAsks session req ask) same = same_attempts same
-  caused_attempts node (RequestComes name to request) same = marked_attempts (fate_of_say (reply_to node.peer request).say) name.sender name.number same
+  caused_attempts node (RequestComes name to request) same =
+      marked_attempts (fate_of_say (reply_to node.peer request).say) name.sender name.number same
   caused_attempts node (ReplyComes name from rsp) same = same_attempts same
   caused_attempts node (LossIsTold name packet) same = lost_attempts name packet same
   caused_attempts node (EntryIsRead entry) same = same_attempts same
   caused_attempts node (EntryIsPut entry) same = same_attempts same
   caused_attempts node RecoveryTicks same = same_attempts same
   caused_attempts node WorkIsRetried same = same_attempts same
+  caused_attempts node (ClientAsks req ask) same = same_attempts same
 
   more_attempts : (o : Option AttemptRecord) → after.past.attempts ≡ before.past.attempts ++ option_to_list o
       → ((new : AttemptRecord) → o ≡ Some new → IsOpenedNow script start before after (length before.past.attempts) new)
@@ -127,7 +138,8 @@ module _ (script : List Statement) (range : RunsAreInRange script) (start : Mome
     abbrev at : StepState → MomentWithPast
     at so_far = moment_in_step script stepping start so_far
 
-    none_begins : (so_far next : StepState) → (at next).past.attempts ≡ (at so_far).past.attempts ++ [] → ComeFrom script start (at so_far) (at next)
+    none_begins : (so_far next : StepState) → (at next).past.attempts ≡ (at so_far).past.attempts ++ []
+        → ComeFrom script start (at so_far) (at next)
     none_begins so_far next grows = same_attempts script start (at so_far) (at next) (grows ∙ append-nil (at so_far).past.attempts)
 
     of_change : (so_far next : StepState) → LeadsInStep stepping (first_in_step stepping) so_far
@@ -135,9 +147,12 @@ module _ (script : List Statement) (range : RunsAreInRange script) (start : Mome
         → (at next).past.attempts ≡ (at so_far).past.attempts ++ attempts_of_change stepping.host so_far next change
         → ComeFrom script start (at so_far) (at next)
     of_change so_far next leads (changes.Marks req number work attempt status learns over) grows = none_begins so_far next grows
-    of_change so_far next leads (changes.Fails session req number work attempt status course ends done why) grows = none_begins so_far next grows
-    of_change so_far next leads (changes.Stops session req number work attempt status course bytes ends over) grows = none_begins so_far next grows
-    of_change so_far next leads (changes.Refuses session req number work attempt status course cause ends done why) grows = none_begins so_far next grows
+    of_change so_far next leads (changes.Fails session req number work attempt status course ends done why) grows =
+        none_begins so_far next grows
+    of_change so_far next leads (changes.Stops session req number work attempt status course bytes ends over) grows =
+        none_begins so_far next grows
+    of_change so_far next leads (changes.Refuses session req number work attempt status course cause ends done why) grows =
+        none_begins so_far next grows
     of_change so_far next leads (changes.Opens session req asked lined comes enough) grows =
         let host = host_with_node stepping.host lined.node in
         let current = attempt_in asked lined.node in
@@ -173,7 +188,8 @@ module _ (script : List Statement) (range : RunsAreInRange script) (start : Mome
           last = refl;
         })
     of_change so_far next leads (changes.Holds session req asked lined comes short touched) grows = none_begins so_far next grows
-    of_change so_far next leads (changes.Denies session req asked lined request comes short untouched there own) grows = none_begins so_far next grows
+    of_change so_far next leads (changes.Denies session req asked lined request comes short untouched there own) grows =
+        none_begins so_far next grows
     of_change so_far next leads (changes.Strays req work gateway there none apart) grows = none_begins so_far next grows
     of_change so_far next leads (changes.Lines session req work moved steps waits) grows = none_begins so_far next grows
     of_change so_far next leads (changes.Appends session req entry moved steps) grows = none_begins so_far next grows
@@ -183,7 +199,8 @@ module _ (script : List Statement) (range : RunsAreInRange script) (start : Mome
     of_change so_far next leads (changes.Recovers due) grows = none_begins so_far next grows
 
   -- an event at which no node steps
-  pub attempts_made : (event : Event) (made : EventOutcome) (attempts : List AttemptRecord) → attempts_after script event start.world made.world start.past.attempts ≡ attempts
+  pub attempts_made : (event : Event) (made : EventOutcome) (attempts : List AttemptRecord)
+      → attempts_after script event start.world made.world start.past.attempts ≡ attempts
       → (moment_after script event start made).past.attempts ≡ attempts
   unfolding past_after_event
   attempts_made event made attempts so = so
@@ -194,13 +211,15 @@ module _ (script : List Statement) (range : RunsAreInRange script) (start : Mome
       (attempts-at_first script start stepping is by)
   come_now (moments.StepGoesOn stepping so_far next is by within) =
       let known = known_step script range start.world began stepping is in
-      of_change stepping is by so_far next within.leads within.change (attempts-grow script start stepping is known.sound known.given by so_far next within)
+      of_change stepping is by so_far next within.leads within.change
+      (attempts-grow script start stepping is known.sound known.given by so_far next within)
   come_now (moments.StepIsMade stepping is by) =
       caused_attempts script start start (moment_in_step script stepping start (last_in_step stepping)) stepping.host.node stepping.cause
       (attempts-at_end script start stepping is by)
   come_now (moments.LossIsUntold event made happened h) =
       lost_attempts script start start (moment_after script event start made) h.name h.packet
-      (attempts_made event made (attempts_with_loss h.name h.packet start.past.attempts) (attempts-of_untold_loss script event start.world made start.past.attempts h))
+      (attempts_made event made (attempts_with_loss h.name h.packet start.past.attempts)
+      (attempts-of_untold_loss script event start.world made start.past.attempts h))
   come_now (moments.DeliveryIsUnread event made happened h) =
       same_attempts script start start (moment_after script event start made)
       (attempts_made event made start.past.attempts (attempts-of_unread_delivery script event start.world made start.past.attempts h))

@@ -28,13 +28,13 @@ use Rattle.vdi_ops.specs.Tables.{table_in, inode_by}
 use Rattle.vdi_ops.proofs.TableLemmas.{objects_most, table_length}
 use Rattle.sheep_node.specs.declared.course.Course.TheVariants.{Commanding}
 use Rattle.sheep_node.specs.declared.course.Request.{Request}
-use Rattle.sheep_node.specs.declared.event.Event.{Event}
 use Rattle.sheep_node.specs.Changes.{EndsWork}
 use Rattle.sheep_node.specs.SessionQueues.{session_among}
 use Rattle.sheep_node.specs.SoundWorks.{IsSoundStage}
 use Rattle.sheep_node.specs.StepState.{StepState}
 use Rattle.sheep_world.specs.NodeCauses.{input_of_cause, host_with_node}
 use Rattle.sheep_world.specs.World.{Host}
+use Rattle.sheep_world.specs.RunsWithAsks.{Move}
 use Rattle.overlap_law.specs.Attempts.{AttemptRecord}
 use Rattle.overlap_law.specs.CommandDisks.{opened_in}
 use Rattle.overlap_law.specs.Courses.{IsOfStage}
@@ -71,7 +71,7 @@ abbrev pub EntriesStand : List Effect → (ℕ → Bool) → List AttemptRecord 
 EntriesStand effects good_id attempts epoch inode = (index : ℕ) → good_id inode.vid ≡ true → slice_index inode.table index ≢ 0
     → StandsFor effects attempts inode.vid index epoch (slice_index inode.table index)
 
-module _ (script : List Statement) (range : RunsAreInRange script) (events : List Event) (start : MomentWithPast)
+module _ (script : List Statement) (range : RunsAreInRange script) (events : List Move) (start : MomentWithPast)
     (ran : run_with_past script events ≡ Some start) (on : SteppingNode) (is : IsStepping script start.world on)
     (by : StepsByChanges on.cause) (so_far : StepState) (leads : LeadsInStep on (first_in_step on) so_far)
     (trail : MomentTrail script start (moment_in_step script on start so_far)) (good_id : ℕ → Bool)

@@ -25,13 +25,13 @@ use Rattle.vdi_ops.specs.Kept.{IsInodeHeader}
 use Rattle.vdi_ops.specs.Tables.{holes, table_in, inode_by}
 use Rattle.vdi_ops.proofs.TableLemmas.{blank_fills, header_length}
 use Rattle.sheep_node.specs.declared.course.Course.TheVariants.{Commanding}
-use Rattle.sheep_node.specs.declared.event.Event.{Event}
 use Rattle.sheep_node.specs.declared.input.Input.{Input}
 use Rattle.sheep_node.specs.Changes.{EndsWork, ToWork, RequestSteps}
 use Rattle.sheep_node.specs.SoundWorks.{IsSoundStage}
 use Rattle.sheep_node.specs.State.{Node}
 use Rattle.sheep_node.specs.StepState.{StepState}
 use Rattle.sheep_world.specs.NodeCauses.{input_of_cause}
+use Rattle.sheep_world.specs.RunsWithAsks.{Move}
 use Rattle.overlap_law.specs.MomentChanges.{MomentTrail, RunsAreInRange}
 use Rattle.overlap_law.specs.NamedWorks.{NamesWhatIsMade, NewInodesNameWhatIsMade, AboveIsGood}
 use Rattle.overlap_law.specs.OpenTables.{CallsLive}
@@ -90,7 +90,7 @@ copy_names header vid ids bytes id is others =
           (λ (of : IsNotOwn vid entry). of)) (table_in ids header.spec bytes) kept;
     }
 
-module _ (script : List Statement) (range : RunsAreInRange script) (events : List Event) (start : MomentWithPast)
+module _ (script : List Statement) (range : RunsAreInRange script) (events : List Move) (start : MomentWithPast)
     (ran : run_with_past script events ≡ Some start) (on : SteppingNode) (is : IsStepping script start.world on)
     (by : StepsByChanges on.cause) (so_far : StepState) (leads : LeadsInStep on (first_in_step on) so_far)
     (trail : MomentTrail script start (moment_in_step script on start so_far)) (live good_id : ℕ → Bool)
@@ -203,7 +203,7 @@ module _ (script : List Statement) (range : RunsAreInRange script) (events : Lis
 
 -- ---- every moment in the middle of a step
 
-pub inodes_name : (script : List Statement) → RunsAreInRange script → (events : List Event) (start before : MomentWithPast)
+pub inodes_name : (script : List Statement) → RunsAreInRange script → (events : List Move) (start before : MomentWithPast)
     → run_with_past script events ≡ Some start → MomentTrail script start before → (live good_id : ℕ → Bool)
     → CallsLive live before.world.log before.past.attempts → AboveIsGood (log_effects before.world.log) good_id
     → EntriesAreMade (log_effects before.world.log) live good_id before.past.attempts
@@ -221,7 +221,7 @@ inodes_name script range events start before ran trail live good_id calls above_
     session req inode moved steps apart)
 
 -- of no id nothing is asked before
-pub inodes_name_own : (script : List Statement) → RunsAreInRange script → (events : List Event) (start before : MomentWithPast)
+pub inodes_name_own : (script : List Statement) → RunsAreInRange script → (events : List Move) (start before : MomentWithPast)
     → run_with_past script events ≡ Some start → MomentTrail script start before → NewInodesNameWhatIsMade script no_id start before
 inodes_name_own script range events start before ran trail =
     inodes_name script range events start before ran trail (λ oid. true) no_id (λ oid some alive. refl)

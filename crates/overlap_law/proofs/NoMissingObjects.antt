@@ -1,6 +1,7 @@
 -- In every run in range no reply refuses a request for want of an object, where the request is on a disk that is there by the log and was
 -- available, if no message for such a disk is lacked. For only a node's step replies, and what it refuses so is of a work's message.
-use Rattle.std.proofs.Common.{◌≡◌, ⊎_elim, arith, ℕ, ◌==◌, Bool, true, false, List, [], ◌++◌, Option, Some, None, slice_get, refl, sym, ap, subst, ◌∙◌}
+use Rattle.std.proofs.Common.{◌≡◌, ⊎_elim, arith, ℕ, ◌==◌, Bool, true, false, List, [], ◌++◌, Option, Some, None, slice_get, refl, sym, ap}
+use Rattle.std.proofs.Common.{subst, ◌∙◌}
 use Rattle.std.specs.List.{list_any}
 use Rattle.std.specs.FinMap as tree
 use Rattle.std.proofs.lemmas.Bool.{and_parts, or_cases, or_left, or_right}
@@ -26,12 +27,14 @@ use Rattle.sheep_node.specs.declared.input.Input.TheVariants as inputs
 use Rattle.sheep_node.specs.State.{Node}
 use Rattle.sheep_node.specs.Step.{node_step}
 use Rattle.sheep_node.proofs.StepChain.{step_chain}
-use Rattle.sheep_world.specs.Began.{Began}
-use Rattle.sheep_world.specs.EventKinds.{log_after_return, EventKind, NodeStep, UntoldLoss, UnreadDelivery, NodeLoss, NodeLeave, NodeReweight, NodeJoin, NodeReturn, PhaseEnd}
+use Rattle.sheep_world.specs.Began.{Began, MakesMove}
+use Rattle.sheep_world.specs.EventKinds.{log_after_return, EventKind, NodeStep, UntoldLoss, UnreadDelivery, NodeLoss, NodeLeave}
+use Rattle.sheep_world.specs.EventKinds.{NodeReweight, NodeJoin, NodeReturn, PhaseEnd}
 use Rattle.sheep_world.specs.NodeCauses.{input_of_cause}
-use Rattle.sheep_world.specs.Step.{EventOutcome, step}
-use Rattle.sheep_world.proofs.EventInversion.{happens}
+use Rattle.sheep_world.specs.Step.{EventOutcome}
+use Rattle.sheep_world.proofs.ClientReads.{goes_by_kind}
 use Rattle.sheep_world.proofs.LogFrontLaws.{log_grows}
+use Rattle.sheep_world.specs.RunsWithAsks.{Move}
 use Rattle.overlap_law.specs.Holders.{is_of_chain, is_available_disk}
 use Rattle.overlap_law.specs.MomentChanges.{RunsAreInRange}
 use Rattle.overlap_law.specs.NoObjects.{NothingIsLacked, NoObjectIsMissing, disk_meant, is_there_and_available}
@@ -50,6 +53,7 @@ use Rattle.overlap_law.proofs.NoRecoveredDue.{began-with_past}
 use Rattle.overlap_law.proofs.OpenStatuses.{WasMessage, IsNewMessage, known_so_far}
 use Rattle.overlap_law.proofs.RefusedInRuns.{back_silent}
 use Rattle.overlap_law.proofs.StartedOnce.{once-in_run}
+use Rattle.overlap_law.proofs.GoingOn.{goes_as}
 
 -- ---- what was there and available
 
@@ -77,7 +81,7 @@ module _ (log more : List Entry) (vid : ℕ) where
       (list_any (is_of_chain (log_effects (log ++ more)) vid) unavailable)
       (any_so (is_of_chain (log_effects log) vid) (is_of_chain (log_effects (log ++ more)) vid) chain_stays unavailable) is
 
-module _ (script : List Statement) (range : RunsAreInRange script) (events : List Event) (before : MomentWithPast)
+module _ (script : List Statement) (range : RunsAreInRange script) (events : List Move) (before : MomentWithPast)
     (ran : run_with_past script events ≡ Some before) (good_id : ℕ → Bool)
     (lacked : NothingIsLacked (log_effects before.world.log) good_id before.world.hosts before.world.wire) where
   began : Began script before.world
@@ -156,7 +160,7 @@ module _ (script : List Statement) (range : RunsAreInRange script) (events : Lis
 
   -- ---- each event
 
-  module _ (event : Event) (made : EventOutcome) (happened : step script event before.world ≡ Some made) (req place oid vid : ℕ)
+  module _ (event : Event) (made : EventOutcome) (happened : MakesMove script event before.world made) (req place oid vid : ℕ)
       (at : NodeId)
       (got : slice_get made.world.outputs.replies place ≡ Some (req, replies.Refused (causes.NoObj at oid)))
       (meant : disk_meant script before.world req oid ≡ Some vid) (good : good_id vid ≡ true) where
@@ -172,8 +176,7 @@ module _ (script : List Statement) (range : RunsAreInRange script) (events : Lis
 
     kind_lacks : EventKind script event before.world made → IsGone
     kind_lacks (NodeStep h) =
-        let is_made = ap (λ (e : Event). step script e before.world) h.event_so ∙ happened
-        ∙ ap (λ (m : EventOutcome). Some m) (sym h.made_so) in
+        let is_made = goes_as script before.world h.event_so h.made_so happened in
         step_lacks (record { n = h.n; host = h.host; cause = h.cause })
         (record { there = h.there; up = h.up; caused = h.caused; made = is_made }) req place oid vid at
         (subst Refuses (sym h.made_so) got) meant good
@@ -192,14 +195,14 @@ module _ (script : List Statement) (range : RunsAreInRange script) (events : Lis
     kind_lacks (PhaseEnd h) = silent (subst Refuses (sym h.made_so) got)
 
     pub event_lacks : IsGone
-    event_lacks = kind_lacks (happens script event before.world made happened)
+    event_lacks = kind_lacks (goes_by_kind script event before.world made happened)
 
 -- so no object is missing
-pub none_missing : (script : List Statement) → RunsAreInRange script → (events : List Event) (before : MomentWithPast) (event : Event)
+pub none_missing : (script : List Statement) → RunsAreInRange script → (events : List Move) (before : MomentWithPast) (event : Event)
     (made : EventOutcome) → run_with_past script events ≡ Some before
     → NothingIsLacked (log_effects before.world.log) (is_available_disk before.world.log before.past.unavailable) before.world.hosts
     before.world.wire
-    → step script event before.world ≡ Some made → NoObjectIsMissing script before made
+    → MakesMove script event before.world made → NoObjectIsMissing script before made
 none_missing script range events before event made ran lacked happened req oid vid refuses meant =
     by_test (is_there_and_available made.world.log before.past.unavailable vid) refl
   where
@@ -208,7 +211,7 @@ none_missing script range events before event made ran lacked happened req oid v
     by_test true is =
         let (live, available) = and_parts (is_live_state (state_of (log_effects made.world.log) vid))
         (is_available_disk made.world.log before.past.unavailable vid) is in
-        let grows = log_grows script event before.world made (happens script event before.world made happened) in
+        let grows = log_grows script event before.world made (goes_by_kind script event before.world made happened) in
         let stands : is_gone (state_of (log_effects before.world.log) vid) ≡ false
         = stood_before before.world.log grows.rest vid
         (ap (λ (log : List Entry). is_gone (state_of (log_effects log) vid)) (sym grows.is)

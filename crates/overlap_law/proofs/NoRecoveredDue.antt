@@ -6,7 +6,6 @@ use Rattle.object_id.specs.declared.node.NodeId.{NodeId}
 use Rattle.cluster_script.specs.declared.statement.Statement.{Statement}
 use Rattle.cluster_script.specs.Settings.{tries_of}
 use Rattle.recovery.specs.State as recoveries
-use Rattle.sheep_node.specs.declared.event.Event.{Event}
 use Rattle.sheep_node.specs.declared.input.Input.TheVariants as inputs
 use Rattle.sheep_node.specs.RecoveryView.{recovery_state_of}
 use Rattle.sheep_node.specs.State as nodes
@@ -20,6 +19,7 @@ use Rattle.sheep_world.specs.HostChanges.{NodesKeep}
 use Rattle.sheep_world.specs.NodeCauses.{input_of_cause}
 use Rattle.sheep_world.proofs.BegunWorlds.{each_began}
 use Rattle.sheep_world.proofs.HostChangeLaws.{hosts_of_nodes}
+use Rattle.sheep_world.specs.RunsWithAsks.{Move}
 use Rattle.overlap_law.specs.Past.{MomentWithPast, run_with_past, without_past}
 use Rattle.overlap_law.specs.Words.{Hosts}
 use Rattle.overlap_law.proofs.RunLemmas.{past-follows}
@@ -44,16 +44,17 @@ rested_kept script = record {
 }
 
 -- the world of a run with its past is one that a run reaches
-pub began-with_past : (script : List Statement) (all : List Event) (moment : MomentWithPast) → run_with_past script all ≡ Some moment
+pub began-with_past : (script : List Statement) (all : List Move) (moment : MomentWithPast) → run_with_past script all ≡ Some moment
     → Began script moment.world
 began-with_past script all moment e = record {
-  events = all;
+  moves = all;
   moment = without_past moment;
   runs = sym (past-follows script all) ∙ ap (option_map without_past) e;
   world_so = refl;
 }
 
-pub run-rested : (script : List Statement) (all : List Event) (moment : MomentWithPast) → run_with_past script all ≡ Some moment
+pub run-rested : (script : List Statement) (all : List Move) (moment : MomentWithPast) → run_with_past script all ≡ Some moment
     → AreRested moment.world.hosts
 run-rested script all moment e = each_began
-    script (λ (world : World) (n : ℕ) (host : Host). IsRested n host.incarnation host.node) (hosts_of_nodes script IsRested (rested_kept script)) moment.world (began-with_past script all moment e)
+    script (λ (world : World) (n : ℕ) (host : Host). IsRested n host.incarnation host.node)
+    (hosts_of_nodes script IsRested (rested_kept script)) moment.world (began-with_past script all moment e)

@@ -16,13 +16,13 @@ use Rattle.peer_service.specs.State.{Peer}
 use Rattle.peer_service.specs.Serve.{row_or_none, tells_refusal}
 use Rattle.recovery.specs.declared.search.RowAnswer.{RowAnswer}
 use Rattle.recovery.specs.State.{Message, Search, Recovery}
-use Rattle.sheep_node.specs.declared.event.Event.{Event}
 use Rattle.sheep_node.specs.declared.input.Input.{Input}
 use Rattle.sheep_node.specs.declared.input.Input.TheVariants as inputs
 use Rattle.sheep_world.specs.World.{Host, is_host_up}
 use Rattle.sheep_world.specs.NodeCauses.{NodeCause, IsCause, input_of_cause}
 use Rattle.sheep_world.specs.EventKinds.{log_after_return}
 use Rattle.sheep_world.specs.Began.{Began}
+use Rattle.sheep_world.specs.RunsWithAsks.{Move}
 use Rattle.overlap_law.specs.Reached.{Hosts}
 use Rattle.overlap_law.specs.Each.{EachHost, end_of_row, row_covers, holds_level}
 use Rattle.overlap_law.specs.Past.{MomentWithPast, run_with_past}
@@ -198,7 +198,7 @@ no_level (Some host) oid level lacks = none_cover host.node.peer.epoch level (ro
 abbrev LevelsWithin : ℕ → Recovery → Peer → Type 0
 LevelsWithin n recovery peer = IfSome recovery.search (IsWithinLevels recovery.epoch)
 
-module _ (script : List Statement) (range : RunsAreInRange script) (events : List Event) (start moment : MomentWithPast)
+module _ (script : List Statement) (range : RunsAreInRange script) (events : List Move) (start moment : MomentWithPast)
     (is : run_with_past script events ≡ Some start) (trail : MomentTrail script start moment) where
   no_rows_hold : NoRowsHold moment
   no_rows_hold = on_the_way script NoRowsHold (kept_no_rows script range) events start moment is trail

@@ -4,7 +4,6 @@ use Rattle.std.proofs.Common.{◌≡◌, ℕ, List, [], Some, refl, sym, ◌∙�
 use Rattle.std.specs.FinMap as tree
 use Rattle.proof_tools.proofs.FiniteMaps.{get-insert_same}
 use Rattle.cluster_script.specs.declared.statement.Statement.{Statement}
-use Rattle.sheep_node.specs.declared.event.Event.{Event}
 use Rattle.sheep_node.specs.State.{Node}
 use Rattle.sheep_node.specs.StepState.{StepState}
 use Rattle.sheep_node.proofs.StepChain.{step_chain}
@@ -14,6 +13,7 @@ use Rattle.sheep_world.specs.NodeCauses.{input_of_cause, event_of_cause, host_wi
 use Rattle.sheep_world.specs.EventKinds.{outcome_of_step}
 use Rattle.sheep_world.specs.Began.{Began}
 use Rattle.sheep_world.proofs.BegunWorlds.{goes_on}
+use Rattle.sheep_world.specs.RunsWithAsks.{Move}
 use Rattle.overlap_law.specs.Past.{MomentWithPast, run_on, first_moment, run_with_past}
 use Rattle.overlap_law.specs.StepMoments.{SteppingNode, IsStepping, first_in_step, last_in_step, LeadsInStep, StepsByChanges}
 use Rattle.overlap_law.specs.MomentChanges.{MomentChange, MomentTrail, KeptByChanges}
@@ -48,7 +48,7 @@ module _ (script : List Statement) (Q : ℕ → Node → Type 0)
     trail_so : {moment : MomentWithPast} → MomentTrail script start moment → HoldsOf moment
     trail_so trail = hosts_along script (λ (n : ℕ) (host : Host). Q n host.node) holds start began so_in_step trail
 
-  pub nodes-on_the_way : (events : List Event) (start moment : MomentWithPast) → run_with_past script events ≡ Some start
+  pub nodes-on_the_way : (events : List Move) (start moment : MomentWithPast) → run_with_past script events ≡ Some start
       → MomentTrail script start moment → HoldsOf moment
   nodes-on_the_way events start moment is trail = trail_so start (began-with_past script events start is) trail
 

@@ -16,7 +16,8 @@ among_contained (first ∷ oids) oid there = ⊎_elim
     (Contains-cons_cases first oids oid there)
 
 -- who has some row of an object has the object
-pub row_among : (rows : AllRows) (oid : ℕ) (p : SeenRow → Bool) → list_any p (rows_of rows oid) ≡ true → is_object_among oid (tree.keys rows) ≡ true
+pub row_among : (rows : AllRows) (oid : ℕ) (p : SeenRow → Bool) → list_any p (rows_of rows oid) ≡ true
+    → is_object_among oid (tree.keys rows) ≡ true
 row_among rows oid p any = by_rows (tree.get rows oid) refl any
   where
     by_rows : (o : Option (List SeenRow)) → tree.get rows oid ≡ o → list_any p (unwrap_or o []) ≡ true

@@ -1,6 +1,7 @@
--- What is noted of a finished list is of an epoch that its node has left since, or in which its list is finished still. So a node finishes no
--- list of an epoch twice.
-use Rattle.std.proofs.Common.{◌≡◌, ◌⊎◌, inl, inr, ⊎_elim, arith, ℕ, ◌<◌, ◌==◌, ◌&&◌, not, Bool, true, false, cond, List, [], ◌∷◌, filter_map, Contains, Option, Some, None, option_map, refl, sym, ap, subst, ◌∙◌}
+-- What is noted of a finished list is of an epoch that its node has left since, or in which its list is finished still. So a node finishes
+-- no list of an epoch twice.
+use Rattle.std.proofs.Common.{◌≡◌, ◌⊎◌, inl, inr, ⊎_elim, arith, ℕ, ◌<◌, ◌==◌, ◌&&◌, not, Bool, true, false, cond, List, [], ◌∷◌}
+use Rattle.std.proofs.Common.{filter_map, Contains, Option, Some, None, refl, sym, ap, subst, ◌∙◌}
 use Rattle.std.specs.List.{find, cons_option}
 use Rattle.std.specs.FinMap as tree
 use Rattle.std.proofs.lemmas.Bool.{and_parts, eqb-true}
@@ -11,11 +12,12 @@ use Rattle.proof_tools.proofs.Lists.{Contains-nil, Contains-cons, Contains-cons_
 use Rattle.cluster_script.specs.declared.statement.Statement.{Statement}
 use Rattle.recovery.specs.State.{Recovery, is_listed}
 use Rattle.sheep_node.specs.declared.event.Event.{Event}
-use Rattle.sheep_world.specs.Began.{Began}
-use Rattle.sheep_world.specs.Step.{EventOutcome, step}
+use Rattle.sheep_world.specs.Began.{Began, MakesMove}
+use Rattle.sheep_world.specs.Step.{EventOutcome}
 use Rattle.sheep_world.specs.World.{Host, World, host_at}
 use Rattle.sheep_world.proofs.BegunWorlds.{goes_on}
 use Rattle.sheep_world.proofs.NodesByTheLog.{knows_its_number}
+use Rattle.sheep_world.specs.RunsWithAsks.{Move}
 use Rattle.overlap_law.specs.Facts.{is_list_of}
 use Rattle.overlap_law.specs.MomentChanges.{RunsAreInRange}
 use Rattle.overlap_law.specs.Past.{MomentWithPast, FinishedList, first_moment, moment_after, next_moment, past_after_event, run_with_past}
@@ -23,6 +25,7 @@ use Rattle.overlap_law.specs.PastWords.{finishes, listed_in, listed_by}
 use Rattle.overlap_law.proofs.ListsGoOn.{ListGoes, lists_go_along}
 use Rattle.overlap_law.proofs.MomentTrails.{event_trail}
 use Rattle.overlap_law.proofs.RunsByEvents.{run-kept_by_events}
+use Rattle.overlap_law.proofs.GoingOn.{next_by}
 
 -- ---- lists
 
@@ -32,7 +35,8 @@ from_one : (f : ℕ × Host → Option FinishedList) (entries : List (ℕ × Hos
 from_one f [] one there = absurd (Contains-nil one there)
 from_one f (entry ∷ entries) one there = by_first (f entry) refl there (λ later. from_one f entries one later)
   where
-    by_later : (Contains (filter_map f entries) one → (e : ℕ × Host) × Contains entries e × (f e ≡ Some one)) → Contains (filter_map f entries) one
+    by_later : (Contains (filter_map f entries) one → (e : ℕ × Host) × Contains entries e × (f e ≡ Some one))
+        → Contains (filter_map f entries) one
         → (e : ℕ × Host) × Contains (entry ∷ entries) e × (f e ≡ Some one)
     by_later rest later = let (e, among, gives) = rest later in (e, Contains-cons entry entries e among, gives)
 
@@ -71,28 +75,31 @@ module _ (script : List Statement) (range : RunsAreInRange script) where
   opens one there = absurd (Contains-nil one there)
 
   module _ (event : Event) (before : MomentWithPast) (made : EventOutcome) (began : Began script before.world)
-      (is : step script event before.world ≡ Some made) (noted : AreNoted before) where
+      (is : MakesMove script event before.world made) (noted : AreNoted before) where
     abbrev after : MomentWithPast
     after = moment_after script event before made
 
-    next : next_moment script event before ≡ Some (moment_after script event before made)
-    next = ap (option_map (moment_after script event before)) is
+    next : next_moment script is.move before ≡ Some (moment_after script event before made)
+    next = next_by script event before made is
 
     -- it was noted before
     old_noted : (one : FinishedList) → IsNoted before.world one → IsNoted made.world one
     old_noted one was =
-        let (now, there, goes) = lists_go_along script range before began (event_trail script event before after next) one.node.0 was.host was.there in
+        let (now, there, goes) = lists_go_along script range before began (event_trail script is.move before after next) one.node.0 was.host
+        was.there in
         record { host = now; there = there; behind = behind_later one.epoch was.host.node.recovery now.node.recovery was.behind goes }
 
     -- or is noted by the event
     new_noted : (one : FinishedList) → Contains (listed_by before.world made.world) one → IsNoted made.world one
     new_noted one among =
-        let (entry, there, gives) = from_one (λ (e : ℕ × Host). listed_in (host_at e.0 before.world) e.1) (tree.entries made.world.hosts) one among in
+        let (entry, there, gives) = from_one (λ (e : ℕ × Host). listed_in (host_at e.0 before.world) e.1) (tree.entries made.world.hosts)
+        one among in
         by_old entry there (host_at entry.0 before.world) gives
       where
         by_finishes : (entry : ℕ × Host) → Contains (tree.entries made.world.hosts) entry → (old : Host) → (b : Bool)
             → finishes old.node.recovery entry.1.node.recovery ≡ b
-            → cond b (Some (record { node = entry.1.node.me; epoch = entry.1.node.recovery.epoch; own = tree.keys entry.1.node.peer.rows })) None
+            → cond b (Some (record { node = entry.1.node.me; epoch = entry.1.node.recovery.epoch; own = tree.keys entry.1.node.peer.rows }))
+            None
             ≡ Some one
             → IsNoted made.world one
         by_finishes entry there old true finished gives =
@@ -127,12 +134,13 @@ module _ (script : List Statement) (range : RunsAreInRange script) where
         (λ (new : Contains (listed_by before.world made.world) one). new_noted one new)
         (Contains-append_cases before.past.listed (listed_by before.world made.world) one there)
 
-  are_noted : (events : List Event) (moment : MomentWithPast) → run_with_past script events ≡ Some moment → AreNoted moment
+  are_noted : (events : List Move) (moment : MomentWithPast) → run_with_past script events ≡ Some moment → AreNoted moment
   are_noted events moment is =
-      run-kept_by_events script AreNoted opens (λ event before made began happened noted. keeps event before made began happened noted) events moment is
+      run-kept_by_events script AreNoted opens (λ event before made began happened noted. keeps event before made began happened noted)
+      events moment is
 
   -- no list is noted of an epoch that a recovery hasn't come to, or in which its list isn't finished
-  pub none_noted : (events : List Event) (moment : MomentWithPast) → run_with_past script events ≡ Some moment → (n : ℕ) (host : Host)
+  pub none_noted : (events : List Move) (moment : MomentWithPast) → run_with_past script events ≡ Some moment → (n : ℕ) (host : Host)
       → tree.get moment.world.hosts n ≡ Some host → (epoch : ℕ)
       → (host.node.recovery.epoch < epoch) ⊎ ((epoch ≡ host.node.recovery.epoch) × (is_listed host.node.recovery ≡ false))
       → find (is_list_of n epoch) moment.past.listed ≡ None

@@ -1,6 +1,7 @@
--- What is noted of a node's list of an epoch, at a moment on the way of an event: what was noted before the event; or what the node has then,
--- where its list is finished since.
-use Rattle.std.proofs.Common.{◌≡◌, ◌≢◌, ◌⊎◌, inl, inr, ⊎_elim, ℕ, ◌==◌, ◌&&◌, Bool, true, false, cond, List, [], ◌∷◌, ◌++◌, filter_map, Contains, Option, Some, None, refl, sym, ap, ◌∙◌}
+-- What is noted of a node's list of an epoch, at a moment on the way of an event: what was noted before the event; or what the node has
+-- then, where its list is finished since.
+use Rattle.std.proofs.Common.{◌≡◌, ◌≢◌, ◌⊎◌, inl, inr, ⊎_elim, ℕ, ◌==◌, ◌&&◌, Bool, true, false, cond, List, [], ◌∷◌, ◌++◌, filter_map}
+use Rattle.std.proofs.Common.{Contains, Option, Some, None, refl, sym, ap, ◌∙◌}
 use Rattle.std.specs.List.{find, cons_option}
 use Rattle.std.specs.Option.{option_map_or, option_or}
 use Rattle.std.specs.FinMap as tree
@@ -111,7 +112,11 @@ module _ (start world : World) (numbered : (n : ℕ) (host : Host) → tree.get 
       not_its = ne_eqb e.1.node.me.0 n (λ same. apart (sym (numbered e.0 e.1 at) ∙ same))
 
       by_test : (b : Bool)
-          → passed is_its (cond b (Some (record { node = e.1.node.me; epoch = e.1.node.recovery.epoch; own = tree.keys e.1.node.peer.rows })) None) ≡ None
+          → passed is_its (cond b (Some (record {
+            node = e.1.node.me;
+            epoch = e.1.node.recovery.epoch;
+            own = tree.keys e.1.node.peer.rows;
+          })) None) ≡ None
       by_test true = ap (λ (b : Bool). cond (b && e.1.node.recovery.epoch == epoch)
           (Some (record { node = e.1.node.me; epoch = e.1.node.recovery.epoch; own = tree.keys e.1.node.peer.rows })) None) not_its
       by_test false = refl
@@ -171,7 +176,8 @@ module _ (start world : World) (numbered : (n : ℕ) (host : Host) → tree.get 
       (found_new ∙ ap (passed (is_list_of n epoch)) (same_listed (host_at n start) now)))
 
 -- what was noted before an event is noted first
-pub own_first : (start world : World) (listed : List FinishedList) (n epoch : ℕ) (one : FinishedList) → find (is_list_of n epoch) listed ≡ Some one
+pub own_first : (start world : World) (listed : List FinishedList) (n epoch : ℕ) (one : FinishedList)
+    → find (is_list_of n epoch) listed ≡ Some one
     → own_at (listed ++ listed_by start world) n epoch ≡ own_at listed n epoch
 own_first start world listed n epoch one found =
     ap (λ (o : Option FinishedList). option_map_or (λ (list : FinishedList). list.own) o [])

@@ -4,7 +4,9 @@ use Rattle.std.proofs.Common.{◌≡◌, ℕ, Bool, List, Some}
 use Rattle.vdi_directory.specs.Decisions.{log_effects}
 use Rattle.cluster_script.specs.declared.statement.Statement.{Statement}
 use Rattle.sheep_node.specs.declared.event.Event.{Event}
-use Rattle.sheep_world.specs.Step.{EventOutcome, step}
+use Rattle.sheep_world.specs.Step.{EventOutcome}
+use Rattle.sheep_world.specs.RunsWithAsks.{Move}
+use Rattle.sheep_world.specs.Began.{MakesMove}
 use Rattle.overlap_law.specs.FirstCreates.{CreatesAlwaysComeFirst}
 use Rattle.overlap_law.specs.Holders.{is_available_disk}
 use Rattle.overlap_law.specs.MomentChanges.{MomentTrail, Still, Then, RunsAreInRange}
@@ -23,7 +25,7 @@ use Rattle.overlap_law.proofs.PublishedInRuns.{published-on_the_way}
 
 -- at each moment to which events lead what tables name was created
 abbrev TablesAlwaysAreMade : List Statement → Type 0
-TablesAlwaysAreMade script = (events : List Event) (moment : MomentWithPast) → run_with_past script events ≡ Some moment
+TablesAlwaysAreMade script = (events : List Move) (moment : MomentWithPast) → run_with_past script events ≡ Some moment
     → TablesAreMade (log_effects moment.world.log) (is_available_disk moment.world.log moment.past.unavailable) moment.world.hosts
     moment.past.attempts
 
@@ -35,7 +37,7 @@ module _ (script : List Statement) (range : RunsAreInRange script) (first : Crea
   abbrev pub IsLackedNowhere : MomentWithPast → Type 0
   IsLackedNowhere moment = NothingIsLacked (log_effects moment.world.log) (id_at moment) moment.world.hosts moment.world.wire
 
-  event_keeps : (events : List Event) (event : Event) (start end : MomentWithPast) → run_with_past script events ≡ Some start
+  event_keeps : (events : List Move) (event : Move) (start end : MomentWithPast) → run_with_past script events ≡ Some start
       → next_moment script event start ≡ Some end → IsLackedNowhere start → IsLackedNowhere end
   event_keeps events event start end run happens lacked = at_end (event_trail script event start end happens)
     where
@@ -48,13 +50,13 @@ module _ (script : List Statement) (range : RunsAreInRange script) (first : Crea
           (published-on_the_way script range events start start run Still))
           (searches-in_run script range first events start run).has lacked
 
-  pub lacked-in_run : (events : List Event) (moment : MomentWithPast) → run_with_past script events ≡ Some moment
+  pub lacked-in_run : (events : List Move) (moment : MomentWithPast) → run_with_past script events ≡ Some moment
       → IsLackedNowhere moment
   lacked-in_run =
       kept_at_events script IsLackedNowhere (overlap_opens script range).overlap.lacked
       (λ events event start end run then happens lacked. event_keeps events event start end run happens lacked)
 
-  pub missing-in_run : (events : List Event) (before : MomentWithPast) (event : Event) (made : EventOutcome)
-      → run_with_past script events ≡ Some before → step script event before.world ≡ Some made → NoObjectIsMissing script before made
+  pub missing-in_run : (events : List Move) (before : MomentWithPast) (event : Event) (made : EventOutcome)
+      → run_with_past script events ≡ Some before → MakesMove script event before.world made → NoObjectIsMissing script before made
   missing-in_run events before event made is happened =
       none_missing script range events before event made is (lacked-in_run events before is) happened

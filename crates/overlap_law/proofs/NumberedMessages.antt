@@ -1,5 +1,6 @@
 -- What a node knows of its levels' targets, that its recovery's messages have different numbers, and what may be told of a row.
-use Rattle.std.proofs.Common.{◌≡◌, ◌⊎◌, inl, inr, ⊎_elim, arith, ℕ, zero, suc, ◌+◌, ◌≤◌, ◌<◌, ◌==◌, true, false, List, [], ◌∷◌, Contains, Option, Some, None, refl, sym, ap, subst, ◌∙◌}
+use Rattle.std.proofs.Common.{◌≡◌, ◌⊎◌, inl, inr, ⊎_elim, arith, ℕ, zero, suc, ◌+◌, ◌≤◌, ◌<◌, ◌==◌, true, false, List, [], ◌∷◌, Contains}
+use Rattle.std.proofs.Common.{Option, Some, None, refl, sym, ap, subst, ◌∙◌}
 use Rattle.std.specs.Option.{option_or, option_map_or}
 use Rattle.std.proofs.lemmas.Bool.{cases_lt, eq-eqb, eqb-true, or_left, or_right}
 use Rattle.std.proofs.lemmas.List.Folds.{find-append}
@@ -26,7 +27,8 @@ use Rattle.vnode_table.specs.Targets.{targets_in}
 use Rattle.recovery.specs.Fits.{is_list, fits_message, fits_recovery}
 use Rattle.recovery.specs.Shown.{live_policy}
 use Rattle.recovery.specs.State.{Message, Search, Recovery, RecoveryState, is_listed, can_tick, has_number, message_of, all_unanswered}
-use Rattle.recovery.specs.Tick.{next_search, request_message, messages_to, asked_of, level_asked, level_messages, lists_asked, tick_messages}
+use Rattle.recovery.specs.Tick.{next_search, request_message, messages_to, asked_of, level_asked, level_messages, lists_asked}
+use Rattle.recovery.specs.Tick.{tick_messages}
 use Rattle.sheep_node.specs.declared.input.Input.{Input}
 use Rattle.sheep_node.specs.declared.input.Input.TheVariants as inputs
 use Rattle.sheep_node.specs.LogReading.{epochs_up_to}

@@ -1,5 +1,7 @@
 -- As a node steps, what it has, asks and says stays among the objects that are set apart, with those of the write that comes, if one does.
-use Rattle.std.proofs.Common.{◌≡◌, ◌≢◌, inl, inr, arith, ℕ, ◌==◌, ◌≤◌, Bool, true, false, cond, List, [], length, map, All, Contains, Option, Some, None, IfSome, Ok, unwrap_or, refl, sym, ap, subst, ◌∙◌}
+use Rattle.std.proofs.Common.{is_some}
+use Rattle.std.proofs.Common.{◌≡◌, ◌≢◌, inl, inr, arith, ℕ, ◌==◌, ◌≤◌, Bool, true, false, cond, List, [], length, map, All, Contains}
+use Rattle.std.proofs.Common.{Option, Some, None, IfSome, Ok, unwrap_or, refl, sym, ap, subst, ◌∙◌}
 use Rattle.std.specs.FinMap as tree
 use Rattle.std.proofs.lemmas.Bool.{eqb-true, eq-eqb}
 use Rattle.std.proofs.lemmas.List.Elements.{All-nil, All-weaker, All-contains_itself}
@@ -34,7 +36,8 @@ use Rattle.message_wire.specs.declared.packet.Packet.{Packet}
 use Rattle.message_wire.specs.declared.packet.Packet.TheVariants.{Request, Reply}
 use Rattle.sheep_world.specs.World.{Host, World, is_host_up}
 use Rattle.sheep_world.specs.BegunRequests.{WasBegun}
-use Rattle.sheep_world.specs.NodeCauses.{NodeCause, GuestAsks, RequestComes, ReplyComes, LossIsTold, EntryIsRead, EntryIsPut, RecoveryTicks, WorkIsRetried, input_of_cause, IsCause, progress_at_cause, world_after_cause}
+use Rattle.sheep_world.specs.NodeCauses.{NodeCause, GuestAsks, RequestComes, ReplyComes, LossIsTold, EntryIsRead, EntryIsPut, RecoveryTicks}
+use Rattle.sheep_world.specs.NodeCauses.{WorkIsRetried, ClientAsks, input_of_cause, IsCause, progress_at_cause, world_after_cause}
 use Rattle.sheep_world.specs.Began.{Began}
 use Rattle.sheep_world.specs.LogHolds.{MayGrow}
 use Rattle.sheep_world.specs.HoldsTogether.{RepliesFit}
@@ -54,6 +57,9 @@ use Rattle.overlap_law.proofs.RefusedInRuns.{found_brings, found_grows, replies_
 use Rattle.overlap_law.proofs.SendsOfChanges.{received_nothing, put_sends}
 use Rattle.overlap_law.proofs.SoundWorlds.{IsSoundWorld, asks_on_may, named_by}
 use Rattle.overlap_law.proofs.StartedAttempts.{IsStarted, next_is_new}
+use Rattle.overlap_law.proofs.AsksInCauses.{names_read}
+use Rattle.sheep_world.specs.ClientAsks.{is_read_ask}
+use Rattle.peer_proto.specs.declared.work.ObjWork.TheVariants as works
 
 -- ---- a world in which objects are set apart
 
@@ -80,6 +86,16 @@ new_objects (Some disk) (asks.Disk ask) = objects_asked disk.inode ask
 new_objects (Some disk) (asks.Vdi ask) = []
 new_objects (Some disk) (asks.Object work) = []
 new_objects (Some disk) (asks.Entry entry) = []
+
+-- a client's read asks for none
+read_within : (K : ℕ → Type 0) (disk : Option Disk) (ask : Ask) → is_read_ask ask ≡ true → IsNewWithin K disk ask
+read_within K disk (asks.Disk ask) reads = absurd (cc (reads))
+read_within K disk (asks.Vdi ask) reads = tt
+read_within K disk (asks.Object (works.Create oid policy size offset bytes)) reads = absurd (cc (reads))
+read_within K disk (asks.Object (works.Write oid policy offset bytes)) reads = tt
+read_within K disk (asks.Object (works.Read oid policy offset size)) reads = tt
+read_within K disk (asks.Object (works.ReadAll oid policy size)) reads = tt
+read_within K disk (asks.Entry entry) reads = tt
 
 -- what is set apart once a node steps for this
 abbrev pub made_after : (ℕ → List ℕ) → Host → NodeCause → ℕ → List ℕ
@@ -109,6 +125,7 @@ module _ (script : List Statement) (is_script : IsScript script) (grows : (world
   stays (EntryIsPut entry) caused q oid had = had
   stays RecoveryTicks caused q oid had = had
   stays WorkIsRetried caused q oid had = had
+  stays (ClientAsks req ask) caused q oid had = had
 
   -- ---- a write that comes
 
@@ -143,6 +160,7 @@ module _ (script : List Statement) (is_script : IsScript script) (grows : (world
   short_after (EntryIsPut entry) caused q = apart.short q
   short_after RecoveryTicks caused q = apart.short q
   short_after WorkIsRetried caused q = apart.short q
+  short_after (ClientAsks req ask) caused q = apart.short q
 
   module _ (cause : NodeCause) (caused : IsCause script world n host cause) where
     abbrev after : World
@@ -177,7 +195,8 @@ module _ (script : List Statement) (is_script : IsScript script) (grows : (world
           subst (IsStarted script (world_after_cause script n host (GuestAsks session req ask) world).guests) (sym (eqb-true q req same)) (
             session.number,
             begun_so (GuestAsks session req ask) caused session.number req
-                (found_brings script world began n host there (GuestAsks session req ask) caused req session.number ask refl),
+                (found_brings script world began n host there (GuestAsks session req ask) caused req session.number ask refl
+                (ap (λ (o : Option Statement). is_some o) caused.stands)),
           )
       by_number false other has = old_started (GuestAsks session req ask) caused q oid has
   started_after (RequestComes name to request) caused q oid has = old_started (RequestComes name to request) caused q oid has
@@ -187,6 +206,7 @@ module _ (script : List Statement) (is_script : IsScript script) (grows : (world
   started_after (EntryIsPut entry) caused q oid has = old_started (EntryIsPut entry) caused q oid has
   started_after RecoveryTicks caused q oid has = old_started RecoveryTicks caused q oid has
   started_after WorkIsRetried caused q oid has = old_started WorkIsRetried caused q oid has
+  started_after (ClientAsks req ask) caused q oid has = old_started (ClientAsks req ask) caused q oid has
 
   abbrev IsAsked : ℕ → Type 0
   IsAsked q = (line : Statement) × (request_at script q ≡ Some line)
@@ -208,6 +228,7 @@ module _ (script : List Statement) (is_script : IsScript script) (grows : (world
   asked_after (EntryIsPut entry) caused q oid has = apart.asked q oid has
   asked_after RecoveryTicks caused q oid has = apart.asked q oid has
   asked_after WorkIsRetried caused q oid has = apart.asked q oid has
+  asked_after (ClientAsks req ask) caused q oid has = apart.asked q oid has
 
   -- what comes is among what is set apart
   abbrev Set : NodeCause → ℕ → Type 0
@@ -245,6 +266,8 @@ module _ (script : List Statement) (is_script : IsScript script) (grows : (world
   input_within (EntryIsPut entry) caused = tt
   input_within RecoveryTicks caused = tt
   input_within WorkIsRetried caused = tt
+  input_within (ClientAsks req ask) caused =
+      read_within (Set (ClientAsks req ask)) (session_among 0 host.node.sessions).disk ask caused.reads
 
   -- ---- the step
 
@@ -288,6 +311,7 @@ module _ (script : List Statement) (is_script : IsScript script) (grows : (world
         by_cause (EntryIsPut entry) caused more has = tt
         by_cause RecoveryTicks caused more has = tt
         by_cause WorkIsRetried caused more has = tt
+        by_cause (ClientAsks req ask) caused more has = tt
 
     pub has_after : HasWithin L (node_step (input_of_cause cause) host.node).node
     has_after = stepped_has L host.node has_so (input_of_cause cause) brings
@@ -340,3 +364,6 @@ module _ (script : List Statement) (is_script : IsScript script) (grows : (world
   step_within WorkIsRetried caused =
       both WorkIsRetried caused (λ request same. absurd (cc (same))) tt
       (none_sent WorkIsRetried caused _ (received_nothing WorkIsRetried host.node tt).1)
+  step_within (ClientAsks req ask) caused =
+      both (ClientAsks req ask) caused (λ request same. absurd (cc (same))) (names_read ask caused.reads)
+      (none_sent (ClientAsks req ask) caused _ (received_nothing (ClientAsks req ask) host.node tt).1)

@@ -33,13 +33,13 @@ use Rattle.recovery.specs.State.{is_listed}
 use Rattle.sheep_node.specs.declared.course.Course.{Course}
 use Rattle.sheep_node.specs.declared.course.Course.TheVariants.{Waiting, Driving, Commanding, Checking, DoingWork, AwaitingDecision}
 use Rattle.sheep_node.specs.declared.course.Request as requests
-use Rattle.sheep_node.specs.declared.event.Event.{Event}
 use Rattle.sheep_node.specs.May.{has_numbers}
 use Rattle.sheep_world.specs.Began.{Began}
 use Rattle.sheep_world.specs.NodeCauses.{RequestComes, RequestIsHere}
 use Rattle.sheep_world.specs.World.{Host, is_host_up}
 use Rattle.sheep_world.proofs.LogFrontLaws.{all_read}
 use Rattle.sheep_world.proofs.RecoveryMessages.{same_asked}
+use Rattle.sheep_world.specs.RunsWithAsks.{Move}
 use Rattle.overlap_law.specs.AskedTargets.{IsTargetOf}
 use Rattle.overlap_law.specs.BornObjects.{IsBorn}
 use Rattle.overlap_law.specs.Each.{index_of_part}
@@ -100,7 +100,7 @@ some_pending oid pending waits none =
 
 -- ---- a message and who is asked
 
-module _ (script : List Statement) (range : RunsAreInRange script) (events : List Event) (start : MomentWithPast)
+module _ (script : List Statement) (range : RunsAreInRange script) (events : List Move) (start : MomentWithPast)
     (ran : run_with_past script events ≡ Some start) (good good_id : ℕ → Bool)
     (first : CreatesComeFirst start.past.attempts)
     (table_made : TablesAreMade (log_effects start.world.log) good_id start.world.hosts start.past.attempts)
@@ -262,8 +262,8 @@ module _ (script : List Statement) (range : RunsAreInRange script) (events : Lis
             good_so =
                 let same = (of_work lacks.asks).0 in
                 goods lacks.key.oid
-                (subst (λ (k : ℕ). (vid_of k ≡ vid) ⊎ (is_above (log_effects start.world.log) (vid_of k) vid ≡ true)) (sym same) found.chain)
-                (subst (IsBorn start.past.attempts) is_created.object
+                (subst (λ (k : ℕ). (vid_of k ≡ vid) ⊎ (is_above (log_effects start.world.log) (vid_of k) vid ≡ true)) (sym same)
+                found.chain) (subst (IsBorn start.past.attempts) is_created.object
                 (born_among start.past.attempts is_created.place is_created.create is_created.there is_created.creating))
 
             none_lacks : ⊥

@@ -1,5 +1,6 @@
 -- In each world of a run each object was set apart for a request, or is an inode object: so each node has rows of few objects.
-use Rattle.std.proofs.Common.{◌≡◌, ◌≢◌, inl, inr, ⊎_elim, arith, ℕ, ◌^◌, true, List, [], length, All, Contains, Some, refl, sym, ap, subst, ◌∙◌}
+use Rattle.std.proofs.Common.{◌≡◌, ◌≢◌, inl, inr, ⊎_elim, arith, ℕ, ◌^◌, true, List, [], length, All, Contains, Some, refl, sym, ap, subst}
+use Rattle.std.proofs.Common.{◌∙◌}
 use Rattle.std.specs.FinMap as tree
 use Rattle.std.proofs.lemmas.Bool.{le-leb}
 use Rattle.std.proofs.lemmas.List.Elements.{All-nil, All-weaker}
@@ -30,15 +31,17 @@ use Rattle.sheep_world.specs.World.{Host, World, is_host_up}
 use Rattle.sheep_world.specs.Opening.{format_entry, initial_world, initial_member_node}
 use Rattle.sheep_world.specs.MembershipChanges.{lost_host}
 use Rattle.sheep_world.specs.Step.{EventOutcome}
-use Rattle.sheep_world.specs.NodeCauses.{NodeCause, GuestAsks, RequestComes, ReplyComes, LossIsTold, EntryIsRead, EntryIsPut, RecoveryTicks, WorkIsRetried, input_of_cause, IsCause}
-use Rattle.sheep_world.specs.EventKinds.{log_after_return, EventKind, NodeStep, UntoldLoss, UnreadDelivery, NodeLoss, NodeLeave, NodeReweight, NodeJoin, NodeReturn, PhaseEnd}
+use Rattle.sheep_world.specs.NodeCauses.{NodeCause, GuestAsks, RequestComes, ReplyComes, LossIsTold, EntryIsRead, EntryIsPut, RecoveryTicks}
+use Rattle.sheep_world.specs.NodeCauses.{WorkIsRetried, ClientAsks, input_of_cause, IsCause}
+use Rattle.sheep_world.specs.EventKinds.{log_after_return, EventKind, NodeStep, UntoldLoss, UnreadDelivery, NodeLoss, NodeLeave}
+use Rattle.sheep_world.specs.EventKinds.{NodeReweight, NodeJoin, NodeReturn, PhaseEnd}
 use Rattle.sheep_world.specs.HostChanges.{host_after_step, host_after_return, joined_host}
 use Rattle.sheep_world.specs.Began.{Began, IsInvariant}
 use Rattle.sheep_world.specs.LogHolds.{MayGrow}
 use Rattle.sheep_world.specs.HoldsTogether.{RepliesFit}
 use Rattle.sheep_world.proofs.BegunRequestLaws.{Grows, guests_grow}
 use Rattle.sheep_world.proofs.BegunWorlds.{by_induction}
-use Rattle.sheep_world.proofs.EventInversion.{happens}
+use Rattle.sheep_world.proofs.ClientReads.{goes_by_kind}
 use Rattle.sheep_world.proofs.LogAtOpening.{opens_log}
 use Rattle.sheep_world.proofs.ReturningNodes.{stepped_renewed}
 use Rattle.sheep_world.proofs.ValidNodes.{first_may}
@@ -47,7 +50,8 @@ use Rattle.overlap_law.specs.RowsInRange.{CreatesAreInRange, ObjectsAreFew}
 use Rattle.overlap_law.proofs.CreatesInRuns.{creates_after, opens_creates}
 use Rattle.overlap_law.proofs.CreatesOnTheWire.{AllSo, SendsSo, RepliesBy, RepliesSo, wire_so}
 use Rattle.overlap_law.proofs.FittingReplies.{replies_fit}
-use Rattle.overlap_law.proofs.ObjectsAtSteps.{IsHostWithin, PacketWithin, ObjectsAreSetApart, made_after, short_after, started_after, asked_after, more, has_after, step_within}
+use Rattle.overlap_law.proofs.ObjectsAtSteps.{IsHostWithin, PacketWithin, ObjectsAreSetApart, made_after, short_after, started_after}
+use Rattle.overlap_law.proofs.ObjectsAtSteps.{asked_after, more, has_after, step_within}
 use Rattle.overlap_law.proofs.ObjectsCounted.{IsSetApart, IsCounted, keys_few, few_requests, number_of_request}
 use Rattle.overlap_law.proofs.ObjectsGrow.{ask_grows, said_grows, node_grows, requests_grow}
 use Rattle.overlap_law.proofs.ObjectsOfInputs.{back_requests}
@@ -142,6 +146,7 @@ module _ (script : List Statement) (is_script : IsScript script) (grows : (world
     replies_by n host there up (EntryIsPut entry) caused = tt
     replies_by n host there up RecoveryTicks caused = tt
     replies_by n host there up WorkIsRetried caused = tt
+    replies_by n host there up (ClientAsks req ask) caused = tt
 
     -- ---- where none does, no more is set apart
 
@@ -271,7 +276,7 @@ module _ (script : List Statement) (is_script : IsScript script) (grows : (world
           both.0,
           both.1,
           creates_after script is_script grows world began all.0 all.1 few all.2 event made happened both.0,
-          apart_after world began all.0 replies all.3 event made both.0 (happens script event world made happened),
+          apart_after world began all.0 replies all.3 event made both.0 (goes_by_kind script event world made happened),
         );
   }
 

@@ -18,7 +18,8 @@ use Rattle.guest_driver.specs.Pieces.{Piece, pieces}
 use Rattle.guest_driver.specs.PieceWorks.{Backing, Hole, Own, Inherited, entry_of, backing_of, read_piece, table_with_entry}
 use Rattle.guest_driver.specs.Refusals.{refusal_on}
 use Rattle.guest_driver.specs.Driver as drivers
-use Rattle.guest_driver.specs.Driver.{DriverStage, InPlace, Fetching, Creating, Entering, Driver, Reads, Writes, DriverStep, work_step, read_on, write_piece_on, write_on, write_done, begin_unless_refused, begin_driver, driver_on_done}
+use Rattle.guest_driver.specs.Driver.{DriverStage, InPlace, Fetching, Creating, Entering, Driver, Reads, Writes, DriverStep, work_step}
+use Rattle.guest_driver.specs.Driver.{read_on, write_piece_on, write_on, write_done, begin_unless_refused, begin_driver, driver_on_done}
 use Rattle.sheep_node.specs.declared.ask.Ask.{Ask}
 use Rattle.sheep_node.specs.declared.ask.Ask.TheVariants as asks
 use Rattle.sheep_node.specs.declared.input.Input.{Input}
@@ -180,7 +181,8 @@ module _ (K : ℕ → Type 0) where
       begins = λ disk ask is. begins_within disk ask is;
       goes_on = λ disk bytes driver step is before.
           let wanted = driver_goes_on-wanted disk.inode bytes driver step is in
-          still_within disk.inode step.inode wanted.vid wanted.spec (Driving step.driver) (goes_on_left disk.inode bytes driver step is before);
+          still_within disk.inode step.inode wanted.vid wanted.spec (Driving step.driver)
+          (goes_on_left disk.inode bytes driver step is before);
       beside = λ disk inode spec vid course is. still_within disk.inode inode vid spec course is;
       commands = λ disk op. tt;
       checks = λ so_far session req inode arrival on. tt;

@@ -1,6 +1,7 @@
 -- The objects that a node has rows of, has still to recover, was named or searches are among some, if those that it is asked to create, and
 -- that it is named, are.
-use Rattle.std.proofs.Common.{◌≡◌, ℕ, ◌+◌, ◌-◌, ◌==◌, nat_lt, nat_le, Bool, true, false, not, cond, List, [], ◌∷◌, length, map, filter, All, Option, Some, None, IfSome, Result, Ok, Err, unwrap_or, refl, sym, subst}
+use Rattle.std.proofs.Common.{◌≡◌, ℕ, ◌+◌, ◌-◌, ◌==◌, nat_lt, nat_le, Bool, true, false, not, cond, List, [], ◌∷◌, length, map, filter, All}
+use Rattle.std.proofs.Common.{Option, Some, None, IfSome, Result, Ok, Err, unwrap_or, refl, sym, subst}
 use Rattle.std.specs.List.{list_any}
 use Rattle.std.specs.Option.{option_map, option_map_or}
 use Rattle.std.specs.FinMap as tree
@@ -18,7 +19,8 @@ use Rattle.object_store.specs.declared.fault.StoreFault.{StoreFault}
 use Rattle.object_store.specs.declared.key.Key.{Key}
 use Rattle.object_store.specs.declared.row.RowCopy.{RowCopy}
 use Rattle.object_store.specs.Rows.{open_at, closed_all, purged}
-use Rattle.object_store.specs.Store.{AllRows, SeenRow, rows_of, open_row, on_open, write_in, write_at, create_in, with_rows, each_entry, each}
+use Rattle.object_store.specs.Store.{AllRows, SeenRow, rows_of, open_row, on_open, write_in, write_at, create_in, with_rows, each_entry}
+use Rattle.object_store.specs.Store.{each}
 use Rattle.object_store.specs.Store as stores
 use Rattle.peer_proto.specs.declared.ask.PeerAsk.{PeerAsk}
 use Rattle.peer_proto.specs.declared.ask.PeerAsk.TheVariants as asks
@@ -36,7 +38,8 @@ use Rattle.peer_service.specs.Serve.{piece_or_refusal, peer_say_step, peer_write
 use Rattle.recovery.specs.Shown.{live_policy, is_to_recover, shown_with_pending}
 use Rattle.recovery.specs.State.{Message, Search, RecoveryState, is_listed}
 use Rattle.recovery.specs.Steps.{to_recover, when_listed, at_start, recovery_from_epoch}
-use Rattle.recovery.specs.Level.{are_enough, with_part_found, with_object_missing, to_ask, one_lower, level_without_part, own_index, own_part, rows_found, level_over_by, level_over, is_of_search, searching}
+use Rattle.recovery.specs.Level.{are_enough, with_part_found, with_object_missing, to_ask, one_lower, level_without_part, own_index}
+use Rattle.recovery.specs.Level.{own_part, rows_found, level_over_by, level_over, is_of_search, searching}
 use Rattle.sheep_node.specs.State.{Node}
 use Rattle.sheep_node.specs.RecoveryView.{recovery_state_of}
 
@@ -295,7 +298,8 @@ module _ (K : ℕ → Type 0) where
       → IsStateWithin (recovery_from_epoch epoch members state)
   unfolding recovery_from_epoch
   begun_within epoch members state rows =
-      named_within (at_start epoch members state) (record { rows = rows; pending = tt; listed = All-nil K; searched = tt; asked = All-nil IsAskedWithin })
+      named_within (at_start epoch members state)
+      (record { rows = rows; pending = tt; listed = All-nil K; searched = tt; asked = All-nil IsAskedWithin })
 
   module _ (search : Search) (state : RecoveryState) (own : K search.oid) (is : IsStateWithin state) where
     asked_within : (level : ℕ) → IsStateWithin (to_ask search.oid level state)

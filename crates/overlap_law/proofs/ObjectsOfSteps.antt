@@ -31,18 +31,22 @@ use Rattle.recovery.specs.State.{Message, Search, Recovery, RecoveryState, searc
 use Rattle.recovery.specs.Steps as recovery_steps
 use Rattle.recovery.specs.Steps.{without_unanswered, search_after_answer, after_list, after_read, after_ask, message_end}
 use Rattle.recovery.specs.Level.{searching}
-use Rattle.recovery.specs.Tick.{request_message, lists_asked, asked_of, level_asked, level_messages, or_next, next_search, tick_messages, with_messages, state_after_tick}
+use Rattle.recovery.specs.Tick.{request_message, lists_asked, asked_of, level_asked, level_messages, or_next, next_search, tick_messages}
+use Rattle.recovery.specs.Tick.{with_messages, state_after_tick}
 use Rattle.sheep_node.specs.declared.input.Input.{Input}
 use Rattle.sheep_node.specs.declared.input.Input.TheVariants as inputs
 use Rattle.sheep_node.specs.State as nodes
 use Rattle.sheep_node.specs.State.{Node}
 use Rattle.sheep_node.specs.RecoveryView.{recovery_state_of, with_recovered_rows}
 use Rattle.sheep_node.specs.StepState.{StepState, at_first}
-use Rattle.sheep_node.specs.LogReading.{epoch_members, epochs_with_entry, peer_with_entry, node_with_entry, recovery_in_epoch, begins_recovery, recovery_with_entry, entry_read, come_back_with, on_back}
+use Rattle.sheep_node.specs.LogReading.{epoch_members, epochs_with_entry, peer_with_entry, node_with_entry, recovery_in_epoch}
+use Rattle.sheep_node.specs.LogReading.{begins_recovery, recovery_with_entry, entry_read, come_back_with, on_back}
 use Rattle.sheep_node.specs.Step.{on_request, recovery_stepped, on_put, on_recover_tick, node_step}
 use Rattle.sheep_node.specs.Changes.{input_received}
 use Rattle.sheep_node.proofs.StepResults.{step_peer, step_recovery}
-use Rattle.overlap_law.proofs.ObjectsOfRows.{AskWithin, SaidWithin, IsPeerWithin, IsStateWithin, HasWithin, IsAskedWithin, keys_made, union_within, served_within, entered_within, settled_within, read_within, back_within, named_within, begun_within, searching_within}
+use Rattle.overlap_law.proofs.ObjectsOfRows.{AskWithin, SaidWithin, IsPeerWithin, IsStateWithin, HasWithin, IsAskedWithin, keys_made}
+use Rattle.overlap_law.proofs.ObjectsOfRows.{union_within, served_within, entered_within, settled_within, read_within, back_within}
+use Rattle.overlap_law.proofs.ObjectsOfRows.{named_within, begun_within, searching_within}
 
 module _ (K : ℕ → Type 0) where
   -- ---- a message of a recovery ends, and a tick
@@ -161,7 +165,8 @@ module _ (K : ℕ → Type 0) where
   tick_asks first state is =
       cond_either (All (IsAskedWithin K)) (is_listed state.recovery)
       (option_map_or (level_messages first state) (next_search state) []) (lists_asked first state.recovery)
-      (by_search (next_search state) (next_within state is)) (each_listed state.recovery (enumerate_from first state.recovery.lists.waiting))
+      (by_search (next_search state) (next_within state is)) (each_listed state.recovery
+      (enumerate_from first state.recovery.lists.waiting))
     where
       by_policy : (search : Search) (o : Option Policy) → K search.oid
           → All (IsAskedWithin K) (option_map_or (level_asked first state search) o [])
@@ -202,7 +207,14 @@ module _ (K : ℕ → Type 0) where
   -- ---- a node
 
   pub none_had : (me : NodeId) (tries : ℕ) → HasWithin K (nodes.initial_node me tries)
-  none_had me tries = record { rows = keys_made K [] (All-nil K); pending = All-nil K; listed = All-nil K; searched = tt; asked = All-nil (IsAskedWithin K) }
+  none_had me tries =
+      record {
+        rows = keys_made K [] (All-nil K);
+        pending = All-nil K;
+        listed = All-nil K;
+        searched = tt;
+        asked = All-nil (IsAskedWithin K);
+      }
 
   module _ (node : Node) (is : HasWithin K node) where
     abbrev state : RecoveryState
@@ -231,7 +243,13 @@ module _ (K : ℕ → Type 0) where
         let back_is : IsPeerWithin K back = record { rows = recovering.rows; pending = recovering.pending } in
         let left = cond_either (IsPeerWithin K) (nat_lt back.settled settled) (peer_settled_to settled back) back
         (settled_within K back back_is settled) back_is in
-        record { rows = left.rows; pending = left.pending; listed = recovering.listed; searched = recovering.searched; asked = recovering.asked }
+        record {
+          rows = left.rows;
+          pending = left.pending;
+          listed = recovering.listed;
+          searched = recovering.searched;
+          asked = recovering.asked;
+        }
 
     comes_back_within : (entries : List Entry) → HasWithin K (on_back entries node)
     unfolding on_back

@@ -1,5 +1,6 @@
 -- What a node creates is an inode object, or one that was set apart for the write that creates it: so it is for each attempt of a step.
-use Rattle.std.proofs.Common.{◌≡◌, inl, arith, ℕ, true, ◌+◌, ◌*◌, ◌/◌, ◌%◌, ◌^◌, ◌<◌, ◌≤◌, List, [], ◌∷◌, map, All, Option, Some, None, refl, sym, subst, ◌∙◌}
+use Rattle.std.proofs.Common.{◌≡◌, inl, arith, ℕ, true, ◌+◌, ◌*◌, ◌/◌, ◌%◌, ◌^◌, ◌<◌, ◌≤◌, List, [], ◌∷◌, map, All, Option, Some, None}
+use Rattle.std.proofs.Common.{refl, sym, subst, ◌∙◌}
 use Rattle.std.specs.List.{enumerate_from}
 use Rattle.std.specs.FinMap as tree
 use Rattle.std.proofs.lemmas.List.Elements.{All-nil, All-cons, All-head, All-append}
@@ -23,7 +24,8 @@ use Rattle.guest_driver.specs.PieceWorks.{object_bytes}
 use Rattle.disk_check.specs.Check as checks
 use Rattle.disk_check.specs.Check.{Check, CheckStage, Comparing, WritingBack as Rewriting}
 use Rattle.vdi_ops.specs.declared.act.OpAct.TheVariants as op_acts
-use Rattle.vdi_ops.specs.Op.{Task, Opening, WritingBack, Tagging, Copying, Making, OpStage, Asked, Working, Publishing, Answered, IsWorkOfTask, IsAwaitedAtOpStage}
+use Rattle.vdi_ops.specs.Op.{Task, Opening, WritingBack, Tagging, Copying, Making, OpStage, Asked, Working, Publishing, Answered}
+use Rattle.vdi_ops.specs.Op.{IsWorkOfTask, IsAwaitedAtOpStage}
 use Rattle.object_id.specs.declared.oid.Vid.{Vid}
 use Rattle.vnode_table.specs.Targets.{targets_in}
 use Rattle.sheep_node.specs.declared.course.Course.{Course}
@@ -46,9 +48,11 @@ use Rattle.sheep_node.proofs.SessionViews.{open_in, IsSeen}
 use Rattle.sheep_node.proofs.SoundLaws.{works_sound_in_chain}
 use Rattle.sheep_node.proofs.StepChain.{step_chain}
 use Rattle.sheep_node.proofs.WantedChanges.{waits_well_in_chain}
-use Rattle.overlap_law.proofs.ObjectsOfRequests.{IsOwn, CreatesWithin, IsLeftWithin, IsCourseWithin, AreWithin, IsInputWithin, within_in_chain}
+use Rattle.overlap_law.proofs.ObjectsOfRequests.{IsOwn, CreatesWithin, IsLeftWithin, IsCourseWithin, AreWithin, IsInputWithin}
+use Rattle.overlap_law.proofs.ObjectsOfRequests.{within_in_chain}
 use Rattle.overlap_law.proofs.ObjectsOfRows.{AskWithin, SentWithin}
-use Rattle.overlap_law.proofs.SendsOfChanges.{next_sends_nothing, steps_send_nothing, end_sends_nothing, refusal_sends_nothing, denial_sends_nothing}
+use Rattle.overlap_law.proofs.SendsOfChanges.{next_sends_nothing, steps_send_nothing, end_sends_nothing, refusal_sends_nothing}
+use Rattle.overlap_law.proofs.SendsOfChanges.{denial_sends_nothing}
 
 -- an inode object that there may be is one of an id that there may be
 small_vid : (vid : ℕ) → IsOid (inode_number vid) → vid ≤ VID_MAX

@@ -4,7 +4,6 @@ use Rattle.std.proofs.lemmas.Option.{same_Some}
 use Rattle.cluster_script.specs.declared.statement.Statement.{Statement}
 use Rattle.gateway.specs.State.{Work}
 use Rattle.guest_driver.specs.InodeQueue.{is_on_inode}
-use Rattle.sheep_node.specs.declared.event.Event.{Event}
 use Rattle.sheep_node.specs.declared.course.Request.{Request}
 use Rattle.sheep_node.specs.State.{Node}
 use Rattle.sheep_node.specs.OpenLines.{HasInodeWork, HasOpenLines}
@@ -13,6 +12,7 @@ use Rattle.overlap_law.specs.MomentChanges.{RunsAreInRange}
 use Rattle.overlap_law.specs.Sessions.{AreOpen, AreOfOneSession, SessionsHaveOneInodeWork}
 use Rattle.overlap_law.proofs.NoRecoveredDue.{began-with_past}
 use Rattle.overlap_law.proofs.RoomOfSessions.{guests_sound}
+use Rattle.sheep_world.specs.RunsWithAsks.{Move}
 
 -- a line has one request in front
 pub one_on_inode : (node : Node) → HasOpenLines node → (session req other : ℕ) (work second : Work) (request another : Request)
@@ -41,7 +41,7 @@ one_on_inode node lines session req other work second request another are of_one
         } in
         absurd (are.apart (same_Some req other (sym ((lines.current session req).1 first) ∙ (lines.current session other).1 next)))
 
-module _ (script : List Statement) (range : RunsAreInRange script) (events : List Event) (moment : MomentWithPast)
+module _ (script : List Statement) (range : RunsAreInRange script) (events : List Move) (moment : MomentWithPast)
     (is : run_with_past script events ≡ Some moment) where
   pub one_inode_work-in_run : SessionsHaveOneInodeWork moment.world.hosts
   one_inode_work-in_run n host there up =

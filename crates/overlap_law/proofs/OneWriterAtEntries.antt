@@ -1,6 +1,7 @@
 -- There is one writer of an id after an entry more of the log, where there was one before: if what the entry takes the id from has nothing
 -- in flight any more, or has left by the entry.
-use Rattle.std.proofs.Common.{◌≡◌, ◌⊎◌, inl, inr, ⊎_elim, arith, ℕ, zero, suc, ◌-◌, ◌≤◌, Bool, true, false, cond, List, [], ◌∷◌, ◌++◌, slice_get, Option, Some, None, is_some, refl, sym, ap, ◌∙◌}
+use Rattle.std.proofs.Common.{◌≡◌, ◌⊎◌, inl, inr, ⊎_elim, arith, ℕ, zero, suc, ◌-◌, ◌≤◌, Bool, true, false, cond, List, [], ◌∷◌, ◌++◌}
+use Rattle.std.proofs.Common.{slice_get, Option, Some, None, is_some, refl, sym, ap, ◌∙◌}
 use Rattle.std.specs.List.{filter_map}
 use Rattle.std.proofs.lemmas.Bool.{both_ways}
 use Rattle.std.proofs.lemmas.Option.{same_Some}
@@ -71,8 +72,8 @@ module _ (log : List Entry) (entry : Entry) where
     bound_after : IsNewest ⊎ ((writer : Holder) × (writer_of (log_effects log) vid ≡ Some writer) × IsAsBefore writer)
     bound_after = ⊎_elim
         (λ (newest : IsNewest). inl newest)
-        (λ (kept : (writer : Holder) × (writer_of (log_effects longer) vid ≡ Some writer) × (writer_of (log_effects log) vid ≡ Some writer) × (gives vid does ≡ false)).
-        inr (kept.0, kept.2, (kept.1, grant_as_before kept.3)))
+        (λ (kept : (writer : Holder) × (writer_of (log_effects longer) vid ≡ Some writer) × (writer_of (log_effects log) vid ≡ Some writer)
+        × (gives vid does ≡ false)). inr (kept.0, kept.2, (kept.1, grant_as_before kept.3)))
         (newest_if (gives vid does) refl (writer_of (log_effects longer) vid) refl)
 
     pub bound_most : bound_of log vid ≤ epoch_of log
@@ -103,7 +104,9 @@ module _ (log : List Entry) (entry : Entry) where
     vid = vid_of (object_of attempt)
 
     abbrev IsOrWas : List Entry → Type 0
-    IsOrWas entries = IsUnderTheGrant entries attempt vid ⊎ (HasEnded wire attempt (bound_of entries vid) ⊎ IsFencedOff entries attempt (bound_of entries vid))
+    IsOrWas entries =
+        IsUnderTheGrant entries attempt vid ⊎ (HasEnded wire attempt (bound_of entries vid)
+        ⊎ IsFencedOff entries attempt (bound_of entries vid))
 
     -- it ended with the entry
     ends : bound_of longer vid ≡ epoch_of longer → EndsInOrder log entry wire attempt → IsOrWas longer
@@ -111,7 +114,12 @@ module _ (log : List Entry) (entry : Entry) where
         let rises = epoch_rises log entry in
         inr (inl (record { quiet = quiet; before = omega (arith, began, newest, rises) }))
     ends newest (inr (leave, rises)) =
-        inr (inr (record { left = epoch_of longer; leave = leave; before = omega (arith, began, rises); granted_later = omega (arith, newest) }))
+        inr (inr (record {
+          left = epoch_of longer;
+          leave = leave;
+          before = omega (arith, began, rises);
+          granted_later = omega (arith, newest);
+        }))
 
     under_after : IsUnderTheGrant log attempt vid
         → (takes_writer vid attempt.gateway does ≡ true → EndsInOrder log entry wire attempt) → IsOrWas longer
@@ -165,8 +173,9 @@ module _ (log : List Entry) (entry : Entry) where
       → ThereIsOneWriter log wire attempts → ThereIsOneWriter longer wire attempts
   one_writer_after wire attempts began owed one = record {
     each = λ j attempt got. ⊎_elim
-        (λ (under : IsUnderTheGrant log attempt (vid_of (object_of attempt))). under_after wire attempt (began j attempt got) under (owed j attempt got under))
-        (λ (other : HasEnded wire attempt (bound_of log (vid_of (object_of attempt))) ⊎ IsFencedOff log attempt (bound_of log (vid_of (object_of attempt)))).
+        (λ (under : IsUnderTheGrant log attempt (vid_of (object_of attempt))). under_after wire attempt (began j attempt got) under
+        (owed j attempt got under)) (λ (other : HasEnded wire attempt (bound_of log (vid_of (object_of attempt)))
+        ⊎ IsFencedOff log attempt (bound_of log (vid_of (object_of attempt)))).
         ⊎_elim (ended_after wire attempt (began j attempt got)) (fenced_after wire attempt (began j attempt got)) other)
         (one.each j attempt got);
   }

@@ -1,5 +1,6 @@
 -- A command goes on with what its session has open: step by step, from the request on.
-use Rattle.std.proofs.Common.{◌≡◌, ℕ, Bool, true, false, List, Option, Some, None, IfSome, option_map, option_and_then, refl, sym, ap, subst, ◌∙◌}
+use Rattle.std.proofs.Common.{◌≡◌, ℕ, Bool, true, false, List, Option, Some, None, IfSome, option_map, option_and_then, refl, sym, ap}
+use Rattle.std.proofs.Common.{subst, ◌∙◌}
 use Rattle.std.proofs.lemmas.Option.{same_Some}
 use Rattle.object_id.specs.declared.oid.Vid.{Vid}
 use Rattle.object_id.specs.declared.node.NodeId.{NodeId}
@@ -17,8 +18,10 @@ use Rattle.vdi_directory.specs.declared.decision.Decision.TheVariants as decisio
 use Rattle.vdi_directory.specs.Chains.{chain_of}
 use Rattle.vdi_directory.specs.Effects.{header_of}
 use Rattle.vdi_ops.specs.Entries.{first_entry, command_refusal}
-use Rattle.vdi_ops.specs.Op.{Task, Opening, WritingBack, Tagging, Copying, Making, OpStage, Asked, Working, Publishing, Answered, disk_change_at, Op, OpStep}
-use Rattle.vdi_ops.specs.Steps.{first_step, begin_command, tag_step, copy_step, step_after_grant, step_after_decision, decided_at, on_decision, task_done, done_at, op_on_done}
+use Rattle.vdi_ops.specs.Op.{Task, Opening, WritingBack, Tagging, Copying, Making, OpStage, Asked, Working, Publishing, Answered}
+use Rattle.vdi_ops.specs.Op.{disk_change_at, Op, OpStep}
+use Rattle.vdi_ops.specs.Steps.{first_step, begin_command, tag_step, copy_step, step_after_grant, step_after_decision, decided_at}
+use Rattle.vdi_ops.specs.Steps.{on_decision, task_done, done_at, op_on_done}
 use Rattle.sheep_node.specs.Courses.{inode_open, disk_after}
 use Rattle.sheep_node.specs.Guests.{seen_by_command}
 use Rattle.sheep_node.proofs.ValidSteps.{given}
@@ -31,7 +34,9 @@ Opened = Option (Bool × ℕ)
 
 module _ (me : NodeId) (session : ℕ) (step : OpStep) where
   abbrev Begins : Option Disk → VdiAsk → Type 0
-  Begins disk ask = command_refusal (seen_by_command disk) ask ≡ None → option_map (first_step me session) (first_entry me session (inode_open disk) ask) ≡ Some step
+  Begins disk ask =
+      command_refusal (seen_by_command disk) ask ≡ None → option_map (first_step me session) (first_entry me session (inode_open disk) ask)
+      ≡ Some step
       → IsOpenAtStage (opened_as disk) step.op.stage
 
   abbrev IsOpenAtStep : Option Disk → OpStep → Type 0
@@ -51,7 +56,8 @@ module _ (me : NodeId) (session : ℕ) (step : OpStep) where
     where
       by_kind : (b : Bool) → disk.snapshot ≡ b → IsOpenAtStage (opened_as (Some disk)) step.op.stage
       by_kind true snapshot =
-          let refused = ap (λ (b : Bool). command_refusal (Some (record { inode = disk.inode; snapshot = b })) (Snapshot tag)) (sym snapshot) ∙ allowed in
+          let refused = ap (λ (b : Bool). command_refusal (Some (record { inode = disk.inode; snapshot = b })) (Snapshot tag))
+          (sym snapshot) ∙ allowed in
           absurd (cc (refused))
       by_kind false working =
           given (IsOpenAtStep (Some disk)) is (disk.inode.vid, ap (λ (b : Bool). Some (b, disk.inode.vid)) working)
@@ -86,7 +92,8 @@ module _ (op : Op) where
     where
       by_stage : (stage : OpStage) → done_at bytes op stage ≡ Some step → IsOpenAtStage opened stage → IsOpenAtStage opened step.op.stage
       by_stage (Asked entry) next is = absurd (cc (next))
-      by_stage (Working vid task) next is = given (λ (s : OpStep). IsOpenAtStage opened s.op.stage) next (task_open opened vid bytes task is)
+      by_stage (Working vid task) next is =
+          given (λ (s : OpStep). IsOpenAtStage opened s.op.stage) next (task_open opened vid bytes task is)
       by_stage (Publishing entry made) next is = absurd (cc (next))
       by_stage (Answered change) next is = absurd (cc (next))
 
@@ -131,24 +138,28 @@ module _ (op : Op) where
   decision_open known disk entry decisions.None is = tt
   decision_open known disk entry (decisions.Granted vid) is = by_header (header_of known vid.0)
     where
-      by_header : (header : Option Header) → IfSome (option_and_then (step_after_grant op vid (chain_of known vid.0) (inode_open disk) entry) header) (IsOpenAt disk)
+      by_header : (header : Option Header)
+          → IfSome (option_and_then (step_after_grant op vid (chain_of known vid.0) (inode_open disk) entry) header) (IsOpenAt disk)
       by_header None = tt
       by_header (Some header) = granted_open vid (chain_of known vid.0) disk entry header is
   decision_open known disk entry (decisions.Refused cause) is = tt
 
   pub decided_open : (known : List Effect) (disk : Option Disk) (decision : Decision) (step : OpStep)
-      → on_decision known (inode_open disk) decision op ≡ Some step → IsOpenAtStage (opened_as disk) op.stage → IsOpenAtStage (opened_as disk) step.op.stage
+      → on_decision known (inode_open disk) decision op ≡ Some step → IsOpenAtStage (opened_as disk) op.stage
+      → IsOpenAtStage (opened_as disk) step.op.stage
   unfolding on_decision
   decided_open known disk decision step next is = subst (λ (o : Option OpStep). IfSome o (IsOpenAt disk)) next (by_stage op.stage is)
     where
-      by_stage : (stage : OpStage) → IsOpenAtStage (opened_as disk) stage → IfSome (decided_at known (inode_open disk) decision op stage) (IsOpenAt disk)
+      by_stage : (stage : OpStage) → IsOpenAtStage (opened_as disk) stage
+          → IfSome (decided_at known (inode_open disk) decision op stage) (IsOpenAt disk)
       by_stage (Asked entry) is = decision_open known disk entry decision is
       by_stage (Working vid task) is = tt
       by_stage (Publishing entry made) is = tt
       by_stage (Answered change) is = tt
 
 -- what a step leaves open is what it began with, or the command has its reply
-pub left_open : (stage : OpStage) (disk : Option Disk) → IsOpenAtStage (opened_as disk) stage → IsOpenAtStage (opened_as (disk_after (disk_change_at stage) disk)) stage
+pub left_open : (stage : OpStage) (disk : Option Disk) → IsOpenAtStage (opened_as disk) stage
+    → IsOpenAtStage (opened_as (disk_after (disk_change_at stage) disk)) stage
 left_open (Asked entry) disk is = is
 left_open (Working vid task) disk is = is
 left_open (Publishing entry made) disk is = is

@@ -23,7 +23,9 @@ use Rattle.sheep_node.specs.declared.course.Course.TheVariants.{Waiting, Driving
 use Rattle.sheep_node.specs.State.{Node, new_session}
 use Rattle.sheep_node.specs.StepState.{StepState, at_first, session_in, request_ended}
 use Rattle.sheep_node.specs.Courses.{disk_after, after_driver_step, after_command_step}
-use Rattle.sheep_node.specs.Changes.{Outcome, without_ended_work, input_received, RequestSteps, DiskBegins, DiskGoesOn, CommandBegins, CommandGoesOn, CommandDecided, CheckBegins, CheckGoesOn, ObjectBegins, ObjectIsDone, EntryBegins, EntryDecided, WorkIsNext, Change, Leads}
+use Rattle.sheep_node.specs.Changes.{Outcome, without_ended_work, input_received, RequestSteps, DiskBegins, DiskGoesOn, CommandBegins}
+use Rattle.sheep_node.specs.Changes.{CommandGoesOn, CommandDecided, CheckBegins, CheckGoesOn, ObjectBegins, ObjectIsDone, EntryBegins}
+use Rattle.sheep_node.specs.Changes.{EntryDecided, WorkIsNext, Change, Leads}
 use Rattle.sheep_node.proofs.QueueChanges.{same_view}
 use Rattle.sheep_node.proofs.ReceivedInputs.{received_keeps}
 use Rattle.sheep_node.proofs.StepChain.{kept_by_chain}
@@ -62,15 +64,18 @@ plain_open opened (AwaitingDecision entry) plain = tt
 
 -- ---- sessions change, but not in what they have open
 
-alike_open : (requests : Requests) (old new : Sessions) → ((q : ℕ) → opened_in q new ≡ opened_in q old) → AreOpenSo requests old → AreOpenSo requests new
+alike_open : (requests : Requests) (old new : Sessions) → ((q : ℕ) → opened_in q new ≡ opened_in q old) → AreOpenSo requests old
+    → AreOpenSo requests new
 alike_open requests old new same all req request got =
     subst (λ (opened : Option (Bool × ℕ)). IsOpenAtCourse opened request.course) (sym (same request.session)) (all req request got)
 
 -- one of them
-pub one_alike : (requests : Requests) (sessions : Sessions) (number : ℕ) (session : Session) → opened_as session.disk ≡ opened_in number sessions
+pub one_alike : (requests : Requests) (sessions : Sessions) (number : ℕ) (session : Session)
+    → opened_as session.disk ≡ opened_in number sessions
     → AreOpenSo requests sessions → AreOpenSo requests (tree.insert sessions number session)
 one_alike requests sessions number session same =
-    alike_open requests sessions (tree.insert sessions number session) (same_view (λ (s : Session). opened_as s.disk) sessions number session same)
+    alike_open requests sessions (tree.insert sessions number session)
+    (same_view (λ (s : Session). opened_as s.disk) sessions number session same)
 
 -- its line of works
 lined_open : (requests : Requests) (sessions : Sessions) (number : ℕ) (queue : InodeQueue) → AreOpenSo requests sessions
@@ -80,7 +85,8 @@ lined_open requests sessions number queue =
 
 -- ---- a request is put anew, or goes
 
-put_open : (requests : Requests) (sessions : Sessions) (req session : ℕ) (course : Course) → IsOpenAtCourse (opened_in session sessions) course
+put_open : (requests : Requests) (sessions : Sessions) (req session : ℕ) (course : Course)
+    → IsOpenAtCourse (opened_in session sessions) course
     → AreOpenSo requests sessions → AreOpenSo (tree.insert requests req (record { session = session; course = course })) sessions
 put_open requests sessions req session course so all q request got = ⊎_elim
     (λ (own : (q ≡ req) × (record { session = session; course = course } ≡ request)).
@@ -88,7 +94,8 @@ put_open requests sessions req session course so all q request got = ⊎_elim
     (λ (other : (q ≢ req) × (tree.get requests q ≡ Some request)). all q request other.1)
     (get-insert_cases requests req (record { session = session; course = course }) q request got)
 
-gone_open : (requests : Requests) (sessions : Sessions) (req : ℕ) → AreOpenSo requests sessions → AreOpenSo (tree.remove requests req) sessions
+gone_open : (requests : Requests) (sessions : Sessions) (req : ℕ) → AreOpenSo requests sessions
+    → AreOpenSo (tree.remove requests req) sessions
 gone_open requests sessions req all q request got = ⊎_elim
     (λ (own : q ≡ req).
     let none : tree.get (tree.remove requests req) q ≡ None = ap (tree.get (tree.remove requests req)) own ∙ get-remove_same requests req in
@@ -96,13 +103,16 @@ gone_open requests sessions req all q request got = ⊎_elim
     (λ (other : q ≢ req). all q request (sym (get-remove_other requests req q other) ∙ got))
     (cases_eq q req)
 
-ended_open : (session req : ℕ) (reply : GuestRsp) (so_far : StepState) → AreOpenSoFar so_far → AreOpenSoFar (request_ended session req reply so_far)
+ended_open : (session req : ℕ) (reply : GuestRsp) (so_far : StepState) → AreOpenSoFar so_far
+    → AreOpenSoFar (request_ended session req reply so_far)
 unfolding request_ended
 ended_open session req reply so_far all =
-    one_alike (tree.remove so_far.node.requests req) so_far.node.sessions session _ refl (gone_open so_far.node.requests so_far.node.sessions req all)
+    one_alike (tree.remove so_far.node.requests req) so_far.node.sessions session _ refl
+    (gone_open so_far.node.requests so_far.node.sessions req all)
 
 -- a read or write takes a step: its disk stays the same, but for the table
-driven_open : (session req : ℕ) (disk : Disk) (step : drivers.DriverStep) (so_far : StepState) → (session_in session so_far).disk ≡ Some disk
+driven_open : (session req : ℕ) (disk : Disk) (step : drivers.DriverStep) (so_far : StepState)
+    → (session_in session so_far).disk ≡ Some disk
     → IsWantedStep disk.inode step → AreOpenSoFar so_far → AreOpenSoFar (after_driver_step session req disk step so_far)
 driven_open session req disk step so_far on wanted all =
     let after : Session = record (session_in session so_far) { disk = Some (record disk { inode = step.inode }) } in
@@ -125,7 +135,8 @@ command_open session req step so_far so sole all q request got = ⊎_elim
     (λ (same : request.session ≡ session). by_kind other.0 other.1 same (is_command request.course) refl)
     (λ (apart : request.session ≢ session).
     subst (λ (opened : Option (Bool × ℕ)). IsOpenAtCourse opened request.course)
-    (sym (ap (λ (o : Option Session). opened_as (unwrap_or o new_session).disk) (get-insert_other so_far.node.sessions session after request.session apart)))
+    (sym (ap (λ (o : Option Session). opened_as (unwrap_or o new_session).disk)
+    (get-insert_other so_far.node.sessions session after request.session apart)))
     (all q request other.1))
     (cases_eq request.session session))
     (get-insert_cases so_far.node.requests req new q request got)
@@ -139,7 +150,8 @@ command_open session req step so_far so sole all q request got = ⊎_elim
     sessions : Sessions
     sessions = tree.insert so_far.node.sessions session after
 
-    by_kind : q ≢ req → tree.get so_far.node.requests q ≡ Some request → request.session ≡ session → (b : Bool) → is_command request.course ≡ b
+    by_kind : q ≢ req → tree.get so_far.node.requests q ≡ Some request → request.session ≡ session → (b : Bool)
+        → is_command request.course ≡ b
         → IsOpenAtCourse (opened_in request.session sessions) request.course
     by_kind apart there same true command = absurd (apart (sole q request there command same))
     by_kind apart there same false plain = plain_open (opened_in request.session sessions) request.course plain
@@ -162,13 +174,14 @@ module _ (read unread : List Entry) (input : Input) (node : Node) (meets : Meets
   abbrev Is : StepState → Type 0
   Is = AreAwaitedSoFar read node.me unread (entry_of_input input)
 
-  steps_open : (so_far : StepState) (session req : ℕ) (next : Outcome) (moved : StepState) → RequestSteps input node so_far session req next moved
+  steps_open : (so_far : StepState) (session req : ℕ) (next : Outcome) (moved : StepState)
+      → RequestSteps input node so_far session req next moved
       → Is so_far → AreOpenSoFar so_far → AreOpenSoFar moved
   steps_open so_far session req next moved (DiskBegins ask disk there on may) so all =
       driven_open session req disk (drivers.begin_driver disk ask) so_far on (driver_begins-wanted disk ask) all
   steps_open so_far session req next moved (DiskGoesOn number work attempt status bytes driver disk step ends on is) so all =
-      driven_open session req disk step (without_ended_work session req work status so_far) on (driver_goes_on-wanted disk.inode bytes driver step is)
-      (freed_open session req work status so_far all)
+      driven_open session req disk step (without_ended_work session req work status so_far) on
+      (driver_goes_on-wanted disk.inode bytes driver step is) (freed_open session req work status so_far all)
   steps_open so_far session req next moved (CommandBegins ask step arrival is) so all =
       command_open session req step so_far
       (begins_open so_far.node.me session step (session_in session so_far).disk ask arrival.refused is)
@@ -181,20 +194,24 @@ module _ (read unread : List Entry) (input : Input) (node : Node) (meets : Meets
       command_open session req step (without_ended_work session req work status so_far)
       (goes_on_open op (opened_in session (without_ended_work session req work status so_far).node.sessions) bytes step is
       (freed req (record { session = session; course = Commanding op }) there))
-      (λ other request got command of. so.commands.apart other req request (record { session = session; course = Commanding op }) got there command refl of)
-      freed
+      (λ other request got command of. so.commands.apart other req request (record { session = session; course = Commanding op }) got there
+      command refl of) freed
   steps_open so_far session req next moved (CommandDecided entry op step from peer there waits is) so all =
       command_open session req step so_far
       (decided_open op (effects_of so_far.node.peer) (session_in session so_far).disk (decision_on entry node.peer) step is
       (all req (record { session = session; course = Commanding op }) there))
-      (λ other request got command of. so.commands.apart other req request (record { session = session; course = Commanding op }) got there command refl of)
-      all
-  steps_open so_far session req next moved (CheckBegins inode arrival on) so all = sole_open session req (Checking (begin_check inode).check) so_far refl all
+      (λ other request got command of. so.commands.apart other req request (record { session = session; course = Commanding op }) got there
+      command refl of) all
+  steps_open so_far session req next moved (CheckBegins inode arrival on) so all =
+      sole_open session req (Checking (begin_check inode).check) so_far refl all
   steps_open so_far session req next moved (CheckGoesOn number work attempt status bytes check step ends is) so all =
-      sole_open session req (Checking step.check) (without_ended_work session req work status so_far) refl (freed_open session req work status so_far all)
+      sole_open session req (Checking step.check) (without_ended_work session req work status so_far) refl
+      (freed_open session req work status so_far all)
   steps_open so_far session req next moved (ObjectBegins asked arrival) so all = sole_open session req (DoingWork asked) so_far refl all
-  steps_open so_far session req next moved (ObjectIsDone number work attempt status bytes asked ends) so all = freed_open session req work status so_far all
-  steps_open so_far session req next moved (EntryBegins entry arrival) so all = sole_open session req (AwaitingDecision entry) so_far refl all
+  steps_open so_far session req next moved (ObjectIsDone number work attempt status bytes asked ends) so all =
+      freed_open session req work status so_far all
+  steps_open so_far session req next moved (EntryBegins entry arrival) so all =
+      sole_open session req (AwaitingDecision entry) so_far refl all
   steps_open so_far session req next moved (EntryDecided entry wanted from peer there waits) so all = all
 
   parts : (so_far : StepState) → Is so_far → AreOpenSoFar so_far → IsKeptByParts AreOpenSo lined_open input node so_far
@@ -205,7 +222,8 @@ module _ (read unread : List Entry) (input : Input) (node : Node) (meets : Meets
       one_alike (tree.insert so_far.node.requests req (record { session = session; course = Waiting ask })) so_far.node.sessions session _
       refl (put_open so_far.node.requests so_far.node.sessions req session (Waiting ask) tt all))
 
-  pub next_open : (so_far : StepState) (session req : ℕ) (asked : Work) (lined : StepState) → WorkIsNext input node so_far session req asked lined → Is so_far
+  pub next_open : (so_far : StepState) (session req : ℕ) (asked : Work) (lined : StepState)
+      → WorkIsNext input node so_far session req asked lined → Is so_far
       → AreOpenSoFar so_far → AreOpenSoFar lined
   next_open so_far session req asked lined comes so all =
       next_holds AreOpenSo lined_open so_far (parts so_far so all) all session req asked lined comes
@@ -216,8 +234,12 @@ module _ (read unread : List Entry) (input : Input) (node : Node) (meets : Meets
   pub chain_open : {first so_far : StepState} → Leads input node first so_far → Is first → AreOpenSoFar first → AreOpenSoFar so_far
   chain_open leads so all =
       (kept_by_chain (λ (s : StepState). Is s × AreOpenSoFar s)
-      (λ so_far next change both. (change_awaited read unread input node meets so_far next change both.0, change_open so_far next change both.0 both.1))
-      leads (so, all)).1
+      (λ so_far next change both. (
+        change_awaited read unread input node meets so_far next change both.0,
+        change_open so_far next change
+            both.0 both.1,
+      )) leads (so, all)).1
 
-pub received_open : (input : Input) (node : Node) → AreOpenSo node.requests node.sessions → AreOpenSoFar (input_received input (at_first node))
+pub received_open : (input : Input) (node : Node) → AreOpenSo node.requests node.sessions
+    → AreOpenSoFar (input_received input (at_first node))
 received_open = received_keeps (λ works requests sessions. AreOpenSo requests sessions) none_open

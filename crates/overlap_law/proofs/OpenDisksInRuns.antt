@@ -4,7 +4,6 @@ use Rattle.std.specs.FinMap as tree
 use Rattle.std.proofs.Math.Seq.{drop-length}
 use Rattle.cluster_script.specs.declared.statement.Statement.{Statement}
 use Rattle.cluster_script.specs.Settings.{tries_of}
-use Rattle.sheep_node.specs.declared.event.Event.{Event}
 use Rattle.sheep_node.specs.declared.input.Input.TheVariants as inputs
 use Rattle.sheep_node.specs.Changes.{input_received, Leads}
 use Rattle.sheep_node.specs.State as nodes
@@ -18,6 +17,7 @@ use Rattle.sheep_world.specs.HostChanges.{HostsKeep}
 use Rattle.sheep_world.specs.NodeCauses.{NodeCause, input_of_cause, IsCause, log_after_cause}
 use Rattle.sheep_world.specs.Opening.{format_entry}
 use Rattle.sheep_world.proofs.BegunWorlds.{each_where}
+use Rattle.sheep_world.specs.RunsWithAsks.{Move}
 use Rattle.overlap_law.specs.CommandDisks.{OpenDisksFitCommands}
 use Rattle.overlap_law.specs.Past.{MomentWithPast, run_with_past}
 use Rattle.overlap_law.specs.MomentChanges.{MomentChange, MomentTrail, RunsAreInRange}
@@ -89,7 +89,7 @@ module _ (script : List Statement) (range : RunsAreInRange script) where
         hosts_along script (λ (n : ℕ) (host : Host). AreOpenSo host.node.requests host.node.sessions) open_in_worlds start began in_step
         trail
 
-  pub disks_fit-in_run : (events : List Event) (start moment : MomentWithPast) → run_with_past script events ≡ Some start
+  pub disks_fit-in_run : (events : List Move) (start moment : MomentWithPast) → run_with_past script events ≡ Some start
       → MomentTrail script start moment → OpenDisksFitCommands moment.world.hosts
   disks_fit-in_run events start moment is trail = record {
     each = λ n host there up req request got. along_trail start (began-with_past script events start is) trail n host there req request got;

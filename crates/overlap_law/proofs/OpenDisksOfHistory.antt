@@ -1,10 +1,10 @@
--- In each run in range a working disk that a session has open, in which no command goes on, is one of the history, as large as its inode says.
+-- In each run in range a working disk that a session has open, in which no command goes on, is one of the history, as large as its inode
+-- says.
 use Rattle.std.proofs.Common.{◌≡◌, List, Some, sym, ap, ◌∙◌, arith}
 use Rattle.std.specs.Prelude.{◌/◌}
 use Rattle.std.proofs.lemmas.Option.{same_Some}
 use Rattle.object_id.specs.declared.entry.VdiSpec.{VdiSpec}
 use Rattle.cluster_script.specs.declared.statement.Statement.{Statement}
-use Rattle.sheep_node.specs.declared.event.Event.{Event}
 use Rattle.vdi_directory.specs.Decisions.{log_effects}
 use Rattle.vdi_directory.specs.States.{Working, is_live_state, state_of}
 use Rattle.vdi_directory.proofs.DecisionLaws.{held-works}
@@ -20,8 +20,9 @@ use Rattle.overlap_law.proofs.HoldersInWorlds.{working_held}
 use Rattle.overlap_law.proofs.InsideDisks.{open_spec}
 use Rattle.overlap_law.proofs.NoRecoveredDue.{began-with_past}
 use Rattle.overlap_law.proofs.RunsByChanges.{on_the_way}
+use Rattle.sheep_world.specs.RunsWithAsks.{Move}
 
-pub working_of_history : (script : List Statement) → RunsAreInRange script → (events : List Event) (moment : MomentWithPast)
+pub working_of_history : (script : List Statement) → RunsAreInRange script → (events : List Move) (moment : MomentWithPast)
     → run_with_past script events ≡ Some moment → WorkingDisksAreOfHistory moment
 working_of_history script range events moment run = record {
   each = λ n host there up session disk opened working alone.

@@ -1,10 +1,12 @@
 -- A request's open item stays among those of its block, as long as the request doesn't end.
-use Rattle.std.proofs.Common.{◌≡◌, ℕ, ◌==◌, Bool, true, false, not, ◌&&◌, cond, List, [], ◌∷◌, ◌++◌, map, Contains, Some, refl, ap, subst, ◌∙◌}
+use Rattle.std.proofs.Common.{◌≡◌, ℕ, ◌==◌, Bool, true, false, not, ◌&&◌, cond, List, [], ◌∷◌, ◌++◌, map, Contains, Some, refl, ap, subst}
+use Rattle.std.proofs.Common.{◌∙◌}
 use Rattle.std.specs.Option.{option_map_or}
 use Rattle.std.proofs.lemmas.List.Elements.{Contains-append_left, Contains-push}
 use Rattle.proof_tools.proofs.Lists.{Contains-filter, Contains-map}
 use Rattle.disk_history.specs.declared.event.HistEvent.{HistEvent}
-use Rattle.disk_history.specs.declared.event.HistEvent.TheVariants.{Create, Copy, Delete, WriteStart, WriteDone, WriteRefused, WriterLost, Read}
+use Rattle.disk_history.specs.declared.event.HistEvent.TheVariants.{Create, Copy, Delete, WriteStart, WriteDone, WriteRefused, WriterLost}
+use Rattle.disk_history.specs.declared.event.HistEvent.TheVariants.{Read}
 use Rattle.disk_history.specs.Ledger.{Mark, Acknowledged, Lost, Item, is_item_of, item_with_mark}
 use Rattle.overlap_law.specs.DiskEvents.{ends_write_of, HasOpenItem}
 use Rattle.overlap_law.proofs.BlockItems.{apart_back, new_item, items_then}

@@ -6,13 +6,14 @@ use Rattle.std.proofs.lemmas.List.Elements.{Contains-append_cases}
 use Rattle.std.proofs.lemmas.List.Sums.{fold-append}
 use Rattle.object_id.specs.declared.entry.Entry.{Entry}
 use Rattle.disk_history.specs.declared.event.HistEvent.{HistEvent}
-use Rattle.disk_history.specs.declared.event.HistEvent.TheVariants.{Create, Copy, Delete, WriteStart, WriteDone, WriteRefused, WriterLost, Read}
+use Rattle.disk_history.specs.declared.event.HistEvent.TheVariants.{Create, Copy, Delete, WriteStart, WriteDone, WriteRefused, WriterLost}
+use Rattle.disk_history.specs.declared.event.HistEvent.TheVariants.{Read}
 use Rattle.disk_history.specs.Changes.{items_in}
 use Rattle.disk_history.specs.Ledger.{Item, Ledger, empty_ledger, has_block, ledger_after}
 use Rattle.cluster_script.specs.declared.statement.Statement.{Statement}
 use Rattle.sheep_world.specs.EventKinds.{outcome_of_step}
 use Rattle.sheep_world.specs.NodeCauses.{GuestAsks}
-use Rattle.sheep_node.specs.declared.event.Event.{Event}
+use Rattle.sheep_world.specs.RunsWithAsks.{Move}
 use Rattle.overlap_law.specs.DiskEvents.{begins_by_others, is_asked_in, ends_write_of, HasOpenItem, WritesUnderWayAreOpen}
 use Rattle.overlap_law.specs.Headline.{ledger_of}
 use Rattle.overlap_law.specs.MomentChanges.{RunsAreInRange}
@@ -104,7 +105,7 @@ module _ (script : List Statement) (range : RunsAreInRange script) (req : ℕ) w
         let begun = begun_in history req disk.inode.vid block coded bytes old in
         absurd (cc (unbegun, begun))) there_is
 
-pub under_way-in_run : (script : List Statement) → RunsAreInRange script → (events : List Event) (moment : MomentWithPast)
+pub under_way-in_run : (script : List Statement) → RunsAreInRange script → (events : List Move) (moment : MomentWithPast)
     → run_with_past script events ≡ Some moment → WritesUnderWayAreOpen moment.past.history moment.world.hosts
 under_way-in_run script range events moment is = record {
   each = λ n host there up req block opened coded bytes way there_is has.

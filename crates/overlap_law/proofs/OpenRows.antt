@@ -1,5 +1,6 @@
 -- Open rows: each covers its node's epoch, and a row that does is open.
-use Rattle.std.proofs.Common.{◌≡◌, arith, ℕ, zero, suc, nat_eq, nat_le, Bool, true, false, cond, List, [], ◌∷◌, find, Some, refl, ap, subst, ◌∙◌, slice_get}
+use Rattle.std.proofs.Common.{◌≡◌, arith, ℕ, zero, suc, nat_eq, nat_le, Bool, true, false, cond, List, [], ◌∷◌, find, Some, refl, ap, subst}
+use Rattle.std.proofs.Common.{◌∙◌, slice_get}
 use Rattle.std.specs.List.{list_any}
 use Rattle.std.proofs.lemmas.Bool.{and_from, and_parts, eq-eqb, leb-true, or_left, or_right}
 use Rattle.std.proofs.lemmas.Option.{same_Some}

@@ -11,7 +11,6 @@ use Rattle.object_id.specs.declared.entry.VdiSpec.{VdiSpec}
 use Rattle.cluster_script.specs.declared.statement.Statement.{Statement}
 use Rattle.disk_history.specs.Ledger as histories
 use Rattle.guest_driver.specs.declared.disk.Disk.{Disk}
-use Rattle.sheep_node.specs.declared.event.Event.{Event}
 use Rattle.vdi_directory.specs.declared.effect.Effect.{Effect}
 use Rattle.vdi_directory.specs.declared.effect.Effect.TheVariants as effects
 use Rattle.vdi_directory.specs.Decisions.{outcome, log_effects}
@@ -40,6 +39,7 @@ use Rattle.overlap_law.proofs.RunsByChanges.{on_the_way}
 use Rattle.overlap_law.proofs.SharedInRuns.{sharing_in_world}
 use Rattle.overlap_law.proofs.SharedTables.{IsSharedDisk}
 use Rattle.overlap_law.proofs.SnapshotChains.{state_then}
+use Rattle.sheep_world.specs.RunsWithAsks.{Move}
 
 -- ---- what was published is never freed
 
@@ -127,7 +127,7 @@ snapped_shown vid = by_entries (λ (log : List Entry). was_snapped log vid ≡ t
 
 -- ---- an open snapshot
 
-pub snapshots_of_history : (script : List Statement) → RunsAreInRange script → (events : List Event) (moment : MomentWithPast)
+pub snapshots_of_history : (script : List Statement) → RunsAreInRange script → (events : List Move) (moment : MomentWithPast)
     → run_with_past script events ≡ Some moment → OpenSnapshotsAreOfHistory moment
 snapshots_of_history script range events moment run = record {
   each = λ n host there session disk opened snapshot.

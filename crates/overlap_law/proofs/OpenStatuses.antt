@@ -1,6 +1,7 @@
--- What a node knows of the messages of its open attempts after a step: each was open before, with what was known of its messages then, or what the
--- input told; or it began in the step, and nothing came of its messages yet.
-use Rattle.std.proofs.Common.{◌≡◌, ◌≢◌, ◌⊎◌, inl, inr, ⊎_elim, arith, ℕ, zero, suc, ◌+◌, ◌≤◌, ◌<◌, ◌==◌, Bool, true, false, cond, List, [], ◌∷◌, Some, slice_get, refl, sym, ap, subst, ◌∙◌}
+-- What a node knows of the messages of its open attempts after a step: each was open before, with what was known of its messages then, or
+-- what the input told; or it began in the step, and nothing came of its messages yet.
+use Rattle.std.proofs.Common.{◌≡◌, ◌≢◌, ◌⊎◌, inl, inr, ⊎_elim, arith, ℕ, zero, suc, ◌+◌, ◌≤◌, ◌<◌, ◌==◌, Bool, true, false, cond, List, []}
+use Rattle.std.proofs.Common.{◌∷◌, Some, slice_get, refl, sym, ap, subst, ◌∙◌}
 use Rattle.std.specs.List.{enumerate_from}
 use Rattle.std.specs.Ordering.{nat_cmp}
 use Rattle.std.specs.FinMap as tree
@@ -30,7 +31,8 @@ use Rattle.sheep_node.specs.StepState.{StepState, at_first}
 use Rattle.sheep_node.specs.LogReading.{entry_read, on_back}
 use Rattle.sheep_node.specs.Step.{on_request, recovery_stepped, on_put, on_recover_tick, node_step}
 use Rattle.sheep_node.specs.Changes as changes
-use Rattle.sheep_node.specs.Changes.{input_received, IsTold, IsSoundStep, LearnsStatus, without_ended_work, ToWork, ToEntry, ToReply, attempt_in, with_open_attempt, without_denied_work, zones_of_members, WorkIsNext, Leads}
+use Rattle.sheep_node.specs.Changes.{input_received, IsTold, IsSoundStep, LearnsStatus, without_ended_work, ToWork, ToEntry, ToReply}
+use Rattle.sheep_node.specs.Changes.{attempt_in, with_open_attempt, without_denied_work, zones_of_members, WorkIsNext, Leads}
 use Rattle.sheep_node.proofs.AwaitedWorks.{Works}
 use Rattle.sheep_node.proofs.NumberChanges.{HasOneWorkAndNumber, change_keeps_both, both_in_chain}
 use Rattle.sheep_node.proofs.OneWorkChanges.{StepHasOneWork, never_alone}
@@ -40,7 +42,8 @@ use Rattle.sheep_world.proofs.AskedWorks.{ToldIsBelow, AsksOn, StepAsksOn, asks_
 use Rattle.overlap_law.specs.Attempts.{receivers}
 use Rattle.overlap_law.proofs.AttemptLists.{got_map}
 use Rattle.overlap_law.proofs.MarkedMessages.{number-marked, receivers-marked}
-use Rattle.overlap_law.proofs.OpenAttempts.{WasOpen, Fewer, open_of, gone_fewer, ended_fewer, refused_fewer, denied_fewer, all_stay, steps_fewer, next_fewer}
+use Rattle.overlap_law.proofs.OpenAttempts.{WasOpen, Fewer, open_of, gone_fewer, ended_fewer, refused_fewer, denied_fewer, all_stay}
+use Rattle.overlap_law.proofs.OpenAttempts.{steps_fewer, next_fewer}
 use Rattle.overlap_law.proofs.SendsOfChanges.{SendsNothing, next_sends_nothing, count_above}
 
 -- what was open between was open before
@@ -61,10 +64,12 @@ open_through old mid req work current later earlier = record {
 }
 
 -- the numbers of messages that are numbered from one on
-numbered_from : {X : Type 0} (first : ℕ) (xs : List X) (place : ℕ) (x : ℕ × X) → slice_get (enumerate_from first xs) place ≡ Some x → first ≤ x.0
+numbered_from : {X : Type 0} (first : ℕ) (xs : List X) (place : ℕ) (x : ℕ × X) → slice_get (enumerate_from first xs) place ≡ Some x
+    → first ≤ x.0
 numbered_from {X = X} first [] place x got = absurd (cc (got))
 numbered_from {X = X} first (y ∷ xs) zero x got = let same = ap (λ (e : ℕ × X). e.0) (same_Some (first, y) x got) in omega (arith, same)
-numbered_from {X = X} first (y ∷ xs) (suc place) x got = let above = numbered_from {X = X} (first + 1) xs place x got in omega (arith, above)
+numbered_from {X = X} first (y ∷ xs) (suc place) x got =
+    let above = numbered_from {X = X} (first + 1) xs place x got in omega (arith, above)
 
 module _ (input : Input) (node : Node) where
   -- a message of an open attempt was one before
@@ -73,7 +78,8 @@ module _ (input : Input) (node : Node) where
     pub m : Message
     pub at : slice_get open_so.before.messages place ≡ Some m
     pub number_so : message.number ≡ m.number
-    pub status_so : (message.status ≡ m.status) ⊎ (IsTold input message.number message.status × (is_awaited_in message.number open_so.was ≡ true))
+    pub status_so : (message.status ≡ m.status) ⊎ (IsTold input message.number message.status
+        × (is_awaited_in message.number open_so.was ≡ true))
 
   -- or was sent in this step
   pub record IsNewMessage (message : Message) : Type 0 where
@@ -82,7 +88,8 @@ module _ (input : Input) (node : Node) where
 
   abbrev pub KnowsOf : Works → Type 0
   KnowsOf works = (req : ℕ) (work : Work) (current : gateways.Attempt) (place : ℕ) (message : Message) → tree.get works req ≡ Some work
-      → work.stage ≡ Open current → slice_get current.messages place ≡ Some message → WasMessage req work current place message ⊎ IsNewMessage message
+      → work.stage ≡ Open current → slice_get current.messages place ≡ Some message
+      → WasMessage req work current place message ⊎ IsNewMessage message
 
   -- the work of a request waited for a number
   abbrev pub WaitedFor : ℕ → ℕ → Type 0
@@ -123,7 +130,8 @@ module _ (input : Input) (node : Node) where
       (λ (other : (q ≢ req) × (tree.get middle q ≡ Some work)). all q work current place message (less q work other.1) stage at)
       (get-insert_cases middle req now q work (ap (λ (works : Works). tree.get works q) (sym put) ∙ got))
 
-  marked_known : (given : ToldIsBelow input node.sends) (so_far : StepState) (req number : ℕ) (work : Work) (attempt : gateways.Attempt) (status : Status)
+  marked_known : (given : ToldIsBelow input node.sends) (so_far : StepState) (req number : ℕ) (work : Work) (attempt : gateways.Attempt)
+      (status : Status)
       → LearnsStatus input node so_far req number work attempt status → WaitedFor number req → KnowsSoFar so_far
       → KnowsOf (tree.insert so_far.node.gateway.works req (record work { stage = Open (attempt_with_status number status attempt) }))
   marked_known given so_far req number work attempt status learns waited all q other current place message got stage at =
@@ -143,13 +151,16 @@ module _ (input : Input) (node : Node) where
         epoch_so = sym (ap (λ (a : gateways.Attempt). a.epoch) same);
         targets_so = sym (ap (λ (a : gateways.Attempt). receivers a.messages) same) ∙ receivers-marked number status attempt.messages;
         numbers_so = λ place message got.
-            let (m, found, is) = got_map (λ (message : Message). cond (message.number == number) (record message { status = status }) message) attempt.messages place message
+            let (m, found, is) = got_map (λ (message : Message). cond (message.number == number) (record message { status = status })
+            message) attempt.messages place message
             (ap (λ (a : gateways.Attempt). slice_get a.messages place) same ∙ got) in
             (m, found, sym (ap (λ (m : Message). m.number) is) ∙ number-marked number status m (m.number == number));
       } in
-      let (m, found, is) = got_map (λ (message : Message). cond (message.number == number) (record message { status = status }) message) attempt.messages place message
+      let (m, found, is) = got_map (λ (message : Message). cond (message.number == number) (record message { status = status }) message)
+      attempt.messages place message
       (ap (λ (a : gateways.Attempt). slice_get a.messages place) same ∙ at) in
-      let number_so : message.number ≡ m.number = sym (ap (λ (m : Message). m.number) is) ∙ number-marked number status m (m.number == number) in
+      let number_so : message.number ≡ m.number = sym (ap (λ (m : Message). m.number) is)
+      ∙ number-marked number status m (m.number == number) in
       ⊎_elim
       (λ (was : WasMessage q work attempt place m).
       inl (record {
@@ -168,16 +179,22 @@ module _ (input : Input) (node : Node) where
       (λ (elsewhere : (q ≢ req) × (tree.get works q ≡ Some other)). all q other current place message elsewhere.1 stage at)
       (get-insert_cases works req now q other got)
     where
-      by_number : (b : Bool) {q : ℕ} {w : Work} {a : gateways.Attempt} {p : ℕ} → (m : Message) → (m.number == number) ≡ b → (message : Message)
-          → cond (m.number == number) (record m { status = status }) m ≡ message → message.number ≡ m.number → q ≡ req → (was : WasMessage q w a p m)
-          → (message.status ≡ was.m.status) ⊎ (IsTold input message.number message.status × (is_awaited_in message.number was.open_so.was ≡ true))
+      by_number : (b : Bool) {q : ℕ} {w : Work} {a : gateways.Attempt} {p : ℕ} → (m : Message) → (m.number == number) ≡ b
+          → (message : Message)
+          → cond (m.number == number) (record m { status = status }) m ≡ message → message.number ≡ m.number → q ≡ req
+          → (was : WasMessage q w a p m)
+          → (message.status ≡ was.m.status) ⊎ (IsTold input message.number message.status
+          × (is_awaited_in message.number was.open_so.was ≡ true))
       by_number true m tie message is number_so own was =
           let same : m.number ≡ number = eqb-true m.number number tie in
-          let marked : message.status ≡ status = sym (ap (λ (m : Message). m.status) (sym (ap (λ (b : Bool). cond b (record m { status = status }) m) tie) ∙ is)) in
+          let marked : message.status ≡ status = sym (ap (λ (m : Message). m.status)
+          (sym (ap (λ (b : Bool). cond b (record m { status = status }) m) tie) ∙ is)) in
           let (w, there, waits) = waited in
-          let old : w ≡ was.open_so.was = same_Some w was.open_so.was (sym there ∙ ap (tree.get node.gateway.works) (sym own) ∙ was.open_so.there) in
+          let old : w ≡ was.open_so.was = same_Some w was.open_so.was (sym there ∙ ap (tree.get node.gateway.works) (sym own)
+          ∙ was.open_so.there) in
           inr (
-            subst (λ (s : Status). IsTold input message.number s) (sym marked) (subst (λ (k : ℕ). IsTold input k status) (sym (number_so ∙ same)) learns.told),
+            subst (λ (s : Status). IsTold input message.number s) (sym marked)
+                (subst (λ (k : ℕ). IsTold input k status) (sym (number_so ∙ same)) learns.told),
             (λ i. is_awaited_in ((number_so ∙ same) i) (sym old i)) ∙ waits,
           )
       by_number false m tie message is number_so own was =
@@ -198,14 +215,17 @@ module _ (input : Input) (node : Node) where
       still_new false m tie message is new =
           sym (ap (λ (m : Message). m.status) (sym (ap (λ (b : Bool). cond b (record m { status = status }) m) tie) ∙ is)) ∙ new.unanswered
 
-  opened_known : (so_far : StepState) (session req : ℕ) (asked : Work) (lined : StepState) → WorkIsNext input node so_far session req asked lined
+  opened_known : (so_far : StepState) (session req : ℕ) (asked : Work) (lined : StepState)
+      → WorkIsNext input node so_far session req asked lined
       → node.sends ≤ so_far.node.sends → KnowsSoFar so_far → KnowsSoFar (with_open_attempt req asked lined)
   opened_known so_far session req asked lined comes above all q other current place message got stage at =
       let now : Work = record asked { stage = Open (attempt_in asked lined.node) } in
       ⊎_elim
       (λ (own : (q ≡ req) × (now ≡ other)).
-      let same : attempt_in asked lined.node ≡ current = open_of (attempt_in asked lined.node) current (ap (λ (w : Work). w.stage) own.1 ∙ stage) in
-      let places = targets_asked asked.work asked.ended (targets_in lined.node.epochs lined.node.peer.epoch (oid_of asked.work) (policy_of asked.work)) in
+      let same : attempt_in asked lined.node ≡ current = open_of (attempt_in asked lined.node) current
+      (ap (λ (w : Work). w.stage) own.1 ∙ stage) in
+      let places = targets_asked asked.work asked.ended (targets_in lined.node.epochs lined.node.peer.epoch (oid_of asked.work)
+      (policy_of asked.work)) in
       let (e, found, is) = got_map (message_for asked.work) (enumerate_from lined.node.sends places) place message
       (ap (λ (a : gateways.Attempt). slice_get a.messages place) same ∙ at) in
       let low : lined.node.sends ≤ e.0 = numbered_from lined.node.sends places place e found in
@@ -219,31 +239,40 @@ module _ (input : Input) (node : Node) where
   module _ (given : ToldIsBelow input node.sends) where
     -- what is told of in the middle of a step was waited for
     abbrev pub ToldWasWaited : StepState → Type 0
-    ToldWasWaited so_far = (number : ℕ) (status : Status) → IsTold input number status → (req : ℕ) (work : Work) → tree.get so_far.node.gateway.works req ≡ Some work
+    ToldWasWaited so_far =
+        (number : ℕ) (status : Status) → IsTold input number status → (req : ℕ) (work : Work) → tree.get so_far.node.gateway.works req
+        ≡ Some work
         → is_awaited_in number work ≡ true → WaitedFor number req
 
-    change_known : (so_far next : StepState) → StepHasOneWork so_far → node.sends ≤ so_far.node.sends → ToldWasWaited so_far → changes.Change input node so_far next
+    change_known : (so_far next : StepState) → StepHasOneWork so_far → node.sends ≤ so_far.node.sends → ToldWasWaited so_far
+        → changes.Change input node so_far next
         → KnowsSoFar so_far → KnowsSoFar next
     change_known so_far next good above waited (changes.Marks req number work attempt status learns over) all =
-        marked_known given so_far req number work attempt status learns (waited number status learns.told req work learns.there learns.awaited) all
+        marked_known given so_far req number work attempt status learns
+        (waited number status learns.told req work learns.there learns.awaited) all
     change_known so_far next good above waited (changes.Fails session req number work attempt status course ends done why) all =
-        shut_known so_far.node.gateway.works so_far.node.gateway.works next.node.gateway.works req (record work { ended = work.ended + 1; stage = Ended })
-        (all_stay so_far.node.gateway.works) refl (λ current is. absurd (cc (is))) all
+        shut_known so_far.node.gateway.works so_far.node.gateway.works next.node.gateway.works req
+        (record work { ended = work.ended + 1; stage = Ended }) (all_stay so_far.node.gateway.works) refl (λ current is. absurd (cc (is)))
+        all
     change_known so_far next good above waited (changes.Stops session req number work attempt status course bytes ends over) all =
         fewer_known so_far.node.gateway.works next.node.gateway.works (gone_fewer so_far.node.gateway.works req) all
     change_known so_far next good above waited (changes.Refuses session req number work attempt status course cause ends done why) all =
         fewer_known so_far.node.gateway.works next.node.gateway.works
-        (refused_fewer so_far.node.gateway.works session req cause course (without_ended_work session req work status so_far) (gone_fewer so_far.node.gateway.works req)) all
-    change_known so_far next good above waited (changes.Opens session req asked lined comes enough) all = opened_known so_far session req asked lined comes above all
+        (refused_fewer so_far.node.gateway.works session req cause course (without_ended_work session req work status so_far)
+        (gone_fewer so_far.node.gateway.works req)) all
+    change_known so_far next good above waited (changes.Opens session req asked lined comes enough) all =
+        opened_known so_far session req asked lined comes above all
     change_known so_far next good above waited (changes.Holds session req asked lined comes short touched) all =
         shut_known so_far.node.gateway.works lined.node.gateway.works next.node.gateway.works req
-        (record asked { stage = WaitsForMembers (record { 0 = lined.node.peer.epoch }) }) (next_fewer so_far session req asked lined comes) refl
-        (λ current is. absurd (cc (is))) all
+        (record asked { stage = WaitsForMembers (record { 0 = lined.node.peer.epoch }) }) (next_fewer so_far session req asked lined comes)
+        refl (λ current is. absurd (cc (is))) all
     change_known so_far next good above waited (changes.Denies session req asked lined request comes short untouched there own) all =
         fewer_known so_far.node.gateway.works next.node.gateway.works
-        (denied_fewer so_far.node.gateway.works req (Halt (zones_of_members lined.node) (zones_for asked.work)) request (without_denied_work session req asked lined)
-        (λ q other got. next_fewer so_far session req asked lined comes q other (gone_fewer lined.node.gateway.works req q other got))) all
-    change_known so_far next good above waited (changes.Strays req work gateway there none apart) all = absurd (never_alone req work so_far there none good)
+        (denied_fewer so_far.node.gateway.works req (Halt (zones_of_members lined.node) (zones_for asked.work)) request
+        (without_denied_work session req asked lined) (λ q other got. next_fewer so_far session req asked lined comes q other
+        (gone_fewer lined.node.gateway.works req q other got))) all
+    change_known so_far next good above waited (changes.Strays req work gateway there none apart) all =
+        absurd (never_alone req work so_far there none good)
     change_known so_far next good above waited (changes.Lines session req work moved steps waits) all =
         fewer_known so_far.node.gateway.works next.node.gateway.works (steps_fewer so_far session req (ToWork work) moved steps) all
     change_known so_far next good above waited (changes.Appends session req entry moved steps) all =
@@ -266,10 +295,12 @@ module _ (input : Input) (node : Node) where
         by_input (inputs.Guest req session ask) = same_works
         by_input (inputs.Request request) = same_works
         by_input (inputs.Reply rsp) =
-            cond_either (λ (start : StepState). Fewer node.gateway.works start.node.gateway.works) (gateway_states.gateway_awaits rsp.number node.gateway) (at_first node)
+            cond_either (λ (start : StepState). Fewer node.gateway.works start.node.gateway.works)
+            (gateway_states.gateway_awaits rsp.number node.gateway) (at_first node)
             (recovery_stepped (recovery_steps.recovery_on_reply rsp (recovery_state_of node)) (at_first node)) same_works same_works
         by_input (inputs.Lost number) =
-            cond_either (λ (start : StepState). Fewer node.gateway.works start.node.gateway.works) (gateway_states.gateway_awaits number node.gateway) (at_first node)
+            cond_either (λ (start : StepState). Fewer node.gateway.works start.node.gateway.works)
+            (gateway_states.gateway_awaits number node.gateway) (at_first node)
             (recovery_stepped (recovery_steps.recovery_on_loss number (recovery_state_of node)) (at_first node)) same_works same_works
         by_input (inputs.LogEntry entry) = same_works
         by_input inputs.Put = by_outbox node.outbox
@@ -316,7 +347,8 @@ module _ (input : Input) (node : Node) where
             change_keeps_asks input start.node node sound below so_far next change so.0 so.1,
           )) leads (
             both_in_chain input node sound start changes.Still,
-            subst (AsksOn input start.node start.node.me start.node.gateway.works start.node.sends) (sym sends_so) (asks_at_first input start.node),
+            subst (AsksOn input start.node start.node.me start.node.gateway.works start.node.sends) (sym sends_so)
+                (asks_at_first input start.node),
           )).1 in
           let (w, was, same, waited) = asks.was req number work there (below number status told) waits in
           (w, received_fewer req w was, waited)
@@ -324,8 +356,8 @@ module _ (input : Input) (node : Node) where
       pub known_so_far : (so_far : StepState) → Leads input node (input_received input (at_first node)) so_far → KnowsSoFar so_far
       known_so_far so_far changes.Still = first_known so_far.node.gateway.works received_fewer
       known_so_far last (changes.Then {so_far} {next} leads change) =
-          change_known so_far next (both_in_chain input node sound so_far leads).0 (count_above so_far leads) (told_waited so_far leads) change
-          (known_so_far so_far leads)
+          change_known so_far next (both_in_chain input node sound so_far leads).0 (count_above so_far leads) (told_waited so_far leads)
+          change (known_so_far so_far leads)
 
       -- and so it is at the end of the step
       pub knows_after : KnowsOf (node_step input node).node.gateway.works

@@ -7,7 +7,6 @@ use Rattle.object_id.specs.declared.entry.Entry.{Entry}
 use Rattle.cluster_script.specs.declared.statement.Statement.{Statement}
 use Rattle.vdi_directory.specs.Decisions.{log_effects}
 use Rattle.guest_driver.specs.declared.disk.Disk.{Disk}
-use Rattle.sheep_node.specs.declared.event.Event.{Event}
 use Rattle.sheep_node.specs.declared.session.Session.{Session}
 use Rattle.sheep_node.specs.State.{Node}
 use Rattle.sheep_node.specs.StepFacts.{read_after}
@@ -20,6 +19,7 @@ use Rattle.sheep_world.specs.HostChanges.{host_after_step}
 use Rattle.sheep_world.specs.NodeCauses.{input_of_cause, event_of_cause, host_with_node, log_after_cause}
 use Rattle.sheep_world.proofs.BegunWorlds.{goes_on}
 use Rattle.sheep_world.proofs.LogFrontLaws.{all_read}
+use Rattle.sheep_world.specs.RunsWithAsks.{Move}
 use Rattle.overlap_law.specs.MomentChanges.{MomentTrail, RunsAreInRange}
 use Rattle.overlap_law.specs.OpenTables.{EntriesAreOfTheChain}
 use Rattle.overlap_law.specs.Past.{MomentWithPast, run_with_past}
@@ -100,7 +100,7 @@ module _ (script : List Statement) (range : RunsAreInRange script) where
         subst (λ (o : Option Disk). IfSome o (λ (disk : Disk). HasChainTable (log_effects log) disk.inode)) on
         ((all n host there).each_session number session got).disk
 
-  module _ (events : List Event) (start moment : MomentWithPast) (ran : run_with_past script events ≡ Some start)
+  module _ (events : List Move) (start moment : MomentWithPast) (ran : run_with_past script events ≡ Some start)
       (trail : MomentTrail script start moment) where
     pub whole_there : AreWholeBy moment.world.log moment.world.hosts
     whole_there = along_trail start (began-with_past script events start ran) trail

@@ -14,12 +14,12 @@ use Rattle.cluster_script.specs.declared.statement.Statement.{Statement}
 use Rattle.guest_driver.specs.declared.disk.Disk.{Disk}
 use Rattle.vdi_ops.specs.Op.{Op, OpStage, Asked, Working, Publishing, Answered, Task, Opening, WritingBack, Tagging, Copying, Making}
 use Rattle.sheep_node.specs.declared.course.Course.TheVariants.{Commanding}
-use Rattle.sheep_node.specs.declared.event.Event.{Event}
 use Rattle.sheep_node.specs.declared.session.Session.{Session}
 use Rattle.sheep_node.specs.State.{new_session}
 use Rattle.sheep_world.specs.Began.{Began}
 use Rattle.sheep_world.specs.NodeCauses.{input_of_cause, host_with_node}
 use Rattle.sheep_world.specs.World.{Host}
+use Rattle.sheep_world.specs.RunsWithAsks.{Move}
 use Rattle.overlap_law.specs.CommandDisks.{opened_as, opened_in, IsOpenAtStage, IsOpenAtLast}
 use Rattle.overlap_law.specs.Each.{EachUp}
 use Rattle.overlap_law.specs.Fates.{IsCreated}
@@ -45,7 +45,7 @@ use Rattle.overlap_law.proofs.RunsByChanges.{on_the_way}
 abbrev IsOpenBy : Requests → Sessions → ℕ → ℕ → Type 0
 IsOpenBy requests sessions number vid = opened_in number sessions ≡ Some (false, vid)
 
-module _ (script : List Statement) (range : RunsAreInRange script) (events : List Event) (start : MomentWithPast)
+module _ (script : List Statement) (range : RunsAreInRange script) (events : List Move) (start : MomentWithPast)
     (is : run_with_past script events ≡ Some start) where
   began : Began script start.world
   began = began-with_past script events start is
@@ -143,7 +143,7 @@ module _ (script : List Statement) (range : RunsAreInRange script) where
       (opened_from number vid (input_of_cause on.cause) on.host.node so_far next within.change opened)
 
   -- in the form of the invariant
-  pub working_inode : (events : List Event) (start moment : MomentWithPast) → run_with_past script events ≡ Some start
+  pub working_inode : (events : List Move) (start moment : MomentWithPast) → run_with_past script events ≡ Some start
       → MomentTrail script start moment → EachUp moment.world.hosts (λ n node. (number : ℕ) (session : Session) (disk : Disk)
       → tree.get node.sessions number ≡ Some session → session.disk ≡ Some disk → disk.snapshot ≡ false
       → IsCreated moment.past.attempts (inode_number disk.inode.vid) node.peer.epoch)

@@ -1,6 +1,7 @@
 -- Where an input leaves a recovery's list finished, it was finished before in the same epoch; or what is pending is known by it just now:
 -- the objects that were named, and those of which the node has rows, as far as the node has to recover them.
-use Rattle.std.proofs.Common.{◌≡◌, ◌⊎◌, inl, inr, ⊎_elim, ℕ, ◌==◌, ◌||◌, nat_lt, not, Bool, true, false, cond, if◌then◌else◌, List, [], ◌∷◌, length, map, filter, Option, Some, None, refl, sym, ap, subst, ◌∙◌}
+use Rattle.std.proofs.Common.{◌≡◌, ◌⊎◌, inl, inr, ⊎_elim, ℕ, ◌==◌, ◌||◌, nat_lt, not, Bool, true, false, cond, if◌then◌else◌, List, [], ◌∷◌}
+use Rattle.std.proofs.Common.{length, map, filter, Option, Some, None, refl, sym, ap, subst, ◌∙◌}
 use Rattle.std.specs.Option.{option_map_or}
 use Rattle.std.specs.List.{list_any}
 use Rattle.std.specs.FinMap as tree
@@ -33,11 +34,13 @@ use Rattle.recovery.specs.Frame.{Frame}
 use Rattle.recovery.specs.Shown.{NodeView, is_to_recover, shown_with_pending}
 use Rattle.recovery.specs.State.{Message, Recovery, RecoveryState, is_listed, message_of, search_on}
 use Rattle.recovery.specs.Steps as recovery_steps
-use Rattle.recovery.specs.Steps.{to_recover, at_start, recovery_from_epoch, without_unanswered, after_list, after_read, after_ask, message_end}
+use Rattle.recovery.specs.Steps.{to_recover, at_start, recovery_from_epoch, without_unanswered, after_list, after_read, after_ask}
+use Rattle.recovery.specs.Steps.{message_end}
 use Rattle.recovery.proofs.StepLemmas.{frame_of_end, frame_of_tick}
 use Rattle.sheep_node.specs.declared.input.Input.{Input}
 use Rattle.sheep_node.specs.declared.input.Input.TheVariants as inputs
-use Rattle.sheep_node.specs.LogReading.{epoch_members, peer_with_entry, node_with_entry, recovery_in_epoch, begins_recovery, with_settled, entry_read, come_back_with, on_back}
+use Rattle.sheep_node.specs.LogReading.{epoch_members, peer_with_entry, node_with_entry, recovery_in_epoch, begins_recovery, with_settled}
+use Rattle.sheep_node.specs.LogReading.{entry_read, come_back_with, on_back}
 use Rattle.sheep_node.specs.RecoveryView.{shown_node, recovery_state_of, with_recovered_rows}
 use Rattle.sheep_node.specs.State.{Node}
 use Rattle.sheep_node.specs.Step.{on_request, recovery_stepped, on_put, on_recover_tick}

@@ -26,9 +26,9 @@ use Rattle.sheep_node.specs.StepState.{StepState}
 use Rattle.sheep_node.specs.WantedWorks.{IsWantedAt}
 use Rattle.sheep_node.specs.declared.course.Course.TheVariants.{Commanding}
 use Rattle.sheep_node.specs.declared.course.Request.{Request}
-use Rattle.sheep_node.specs.declared.event.Event.{Event}
 use Rattle.sheep_world.specs.NodeCauses.{input_of_cause, host_with_node}
 use Rattle.sheep_world.specs.World.{Host}
+use Rattle.sheep_world.specs.RunsWithAsks.{Move}
 use Rattle.overlap_law.specs.Attempts.{AttemptRecord}
 use Rattle.overlap_law.specs.MomentChanges.{MomentChange, MomentTrail, RunsAreInRange}
 use Rattle.overlap_law.specs.OpenedTables.{ReadsIt, WroteIt, OpenedInodesHaveTables, EntriesReadAreKept}
@@ -63,7 +63,7 @@ SnapshotReadsAreAlone script good_id start before = (stepping : SteppingNode) (s
     → IsEntryToCome before.world.hosts before.past.attempts vid.0 index j one
     → entry_by index one ≡ u32_at (INODE_HEADER_BYTES + 4 * index) bytes
 
-module _ (script : List Statement) (range : RunsAreInRange script) (events : List Event) (start before : MomentWithPast)
+module _ (script : List Statement) (range : RunsAreInRange script) (events : List Move) (start before : MomentWithPast)
     (ran : run_with_past script events ≡ Some start) (trail : MomentTrail script start before) (good_id : ℕ → Bool)
     (kept : EntriesReadAreKept script good_id start before) (alone : SnapshotReadsAreAlone script good_id start before)
     (back : WrittenBackHaveTables (log_effects before.world.log) good_id before.world.hosts) where
@@ -144,7 +144,7 @@ module _ (script : List Statement) (range : RunsAreInRange script) (events : Lis
 -- ---- what is read of a snapshot
 
 -- it is all that may come, since a snapshot's inode may come to have one entry alone
-reads_alone : (script : List Statement) → RunsAreInRange script → (events : List Event) (start before : MomentWithPast)
+reads_alone : (script : List Statement) → RunsAreInRange script → (events : List Move) (start before : MomentWithPast)
     → run_with_past script events ≡ Some start → MomentTrail script start before → (good_id : ℕ → Bool)
     → ReadsAreToCome script good_id start before
     → SnappedStayFrozen (log_effects before.world.log) good_id before.world.hosts before.past.attempts
@@ -166,7 +166,7 @@ reads_alone script range events start before ran trail good_id reads frozen on s
 
 -- ---- together
 
-pub inodes_kept : (script : List Statement) → RunsAreInRange script → (events : List Event) (start before after : MomentWithPast)
+pub inodes_kept : (script : List Statement) → RunsAreInRange script → (events : List Move) (start before after : MomentWithPast)
     → run_with_past script events ≡ Some start → MomentTrail script start before → MomentChange script start before after
     → (good_id : ℕ → Bool) → EntriesReadAreKept script good_id start before → ReadsAreToCome script good_id start before
     → InodesStay (log_effects before.world.log) good_id before.world.hosts before.past.attempts

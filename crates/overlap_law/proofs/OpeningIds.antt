@@ -34,11 +34,11 @@ use Rattle.vdi_ops.specs.Steps.{on_decision}
 use Rattle.vdi_ops.specs.Steps.{done_at, task_done, op_on_done}
 use Rattle.sheep_node.specs.declared.course.Course.TheVariants.{Commanding}
 use Rattle.sheep_node.specs.declared.course.Request.{Request}
-use Rattle.sheep_node.specs.declared.event.Event.{Event}
 use Rattle.sheep_world.specs.Began.{Began}
 use Rattle.sheep_world.specs.NodeCauses.{input_of_cause, host_with_node}
 use Rattle.sheep_world.specs.World.{Host}
 use Rattle.sheep_world.proofs.LogFrontLaws.{all_read}
+use Rattle.sheep_world.specs.RunsWithAsks.{Move}
 use Rattle.overlap_law.specs.LastReads.{was_snapped}
 use Rattle.overlap_law.specs.Each.{EachUp}
 use Rattle.overlap_law.specs.MomentChanges.{MomentChange, MomentTrail, RunsAreInRange, KeptByChanges}
@@ -344,6 +344,6 @@ module _ (script : List Statement) (range : RunsAreInRange script) where
     keeps = λ start before after began change has. keeps_whole start before after began change has;
   }
 
-  pub openings_in_run : (events : List Event) (start moment : MomentWithPast) → run_with_past script events ≡ Some start
+  pub openings_in_run : (events : List Move) (start moment : MomentWithPast) → run_with_past script events ≡ Some start
       → MomentTrail script start moment → OpeningsAreWhole moment
   openings_in_run events start moment ran trail = (on_the_way script HasWhole kept_whole events start moment ran trail).openings

@@ -1,5 +1,5 @@
--- The moment that a script opens with has the invariant: its nodes have read of themselves alone, and nobody has asked, written or recovered
--- anything.
+-- The moment that a script opens with has the invariant: its nodes have read of themselves alone, and nobody has asked, written or
+-- recovered anything.
 use Rattle.std.proofs.Common.{◌≡◌, ⊎_elim, ℕ, true, false, List, [], ◌∷◌, All, Option, Some, None, slice_get, refl, sym, ap, subst, ◌∙◌}
 use Rattle.std.specs.Ordering.{nat_cmp}
 use Rattle.std.specs.FinMap as tree
@@ -132,7 +132,8 @@ module _ (script : List Statement) where
     pub no_session : {P : Type 0} (number : ℕ) (session : Session) → tree.get host.node.sessions number ≡ Some session → P
     no_session number session there =
         let (me, bare) = bare_at n host got in
-        let none = ap (λ (m : tree.FinMap nat_cmp Session). tree.get m number) bare.sessions ∙ tree.get-empty {X = Session} nat_cmp number in
+        let none = ap (λ (m : tree.FinMap nat_cmp Session). tree.get m number) bare.sessions
+        ∙ tree.get-empty {X = Session} nat_cmp number in
         absurd (cc (none, there))
 
     no_work : {P : Type 0} (req : ℕ) (work : Work) → tree.get host.node.gateway.works req ≡ Some work → P
@@ -146,7 +147,8 @@ module _ (script : List Statement) where
         (λ (opened : IsOpen host.node work). no_work opened.req opened.open_work opened.there)
         (λ (lined : IsInLine host.node work). no_session lined.number lined.session lined.there)
 
-    nothing_unanswered : {P : Type 0} (place : ℕ) (message : Message) → slice_get (all_unanswered host.node.recovery) place ≡ Some message → P
+    nothing_unanswered : {P : Type 0} (place : ℕ) (message : Message) → slice_get (all_unanswered host.node.recovery) place ≡ Some message
+        → P
     nothing_unanswered place message there =
         let (me, bare) = bare_at n host got in
         let none = ap (λ (recovery : Recovery). slice_get (all_unanswered recovery) place) bare.recovery in
@@ -173,7 +175,8 @@ module _ (script : List Statement) where
     is_finished_list : is_listed host.node.recovery ≡ true
     is_finished_list = let (me, bare) = bare_at n host got in ap is_listed bare.recovery
 
-    nothing_told : {P : Type 0} (from : NodeId) (epoch oid level : ℕ) (row : Option RowCopy) → ToldRow first.world.wire n host.node from epoch oid level row → P
+    nothing_told : {P : Type 0} (from : NodeId) (epoch oid level : ℕ) (row : Option RowCopy)
+        → ToldRow first.world.wire n host.node from epoch oid level row → P
     nothing_told {P} from epoch oid level row = ⊎_elim
         (λ (on_its_way : IsRowUnderWay first.world.wire n host.node.recovery from epoch oid level row).
         nothing_own on_its_way.place on_its_way.message on_its_way.unanswered)
@@ -253,7 +256,9 @@ module _ (script : List Statement) where
           above = λ n host got up search on. no_search n host got search on;
         };
         asked = record { each = λ n host got up search policy on. no_search n host got search on };
-        row_told = record { each = λ n host got up from epoch oid level row policy told. nothing_told n host got from epoch oid level (Some row) told };
+        row_told = record {
+          each = λ n host got up from epoch oid level row policy told. nothing_told n host got from epoch oid level (Some row) told;
+        };
         row_told_since = record {
           each = λ n host got up from epoch oid level row policy told. nothing_told n host got from epoch oid level (Some row) told;
         };
@@ -316,10 +321,14 @@ module _ (script : List Statement) where
           own = λ n host got up work vid index to_do. nothing_to_do n host got work to_do.to_do;
         };
         to_make = record { each = λ n host got up work vid index unit disk spec to_do. nothing_to_do n host got work to_do };
-        to_write = record { each = λ n host got up req place unit request opened disk piece on. no_request n host got req request on.there };
+        to_write = record {
+          each = λ n host got up req place unit request opened disk piece on. no_request n host got req request on.there;
+        };
         alone = record {
-          entry = λ n host got up req index unit place request opened disk item payload stage piece rest on. no_request n host got req request on.there;
-          bytes = λ n host got up req index unit place request opened disk item payload stage piece rest on. no_request n host got req request on.there;
+          entry = λ n host got up req index unit place request opened disk item payload stage piece rest on. no_request n host got req
+              request on.there;
+          bytes = λ n host got up req index unit place request opened disk item payload stage piece rest on. no_request n host got req
+              request on.there;
         };
         read = record {
           long = λ n host got up req request told piece rest there. no_request n host got req request there;

@@ -46,7 +46,6 @@ use Rattle.vdi_ops.proofs.TableLemmas.{objects_most}
 use Rattle.sheep_node.specs.declared.course.Course.{Course}
 use Rattle.sheep_node.specs.declared.course.Course.TheVariants.{Commanding}
 use Rattle.sheep_node.specs.declared.course.Request.{Request}
-use Rattle.sheep_node.specs.declared.event.Event.{Event}
 use Rattle.sheep_node.specs.declared.input.Input.{Input}
 use Rattle.sheep_node.specs.declared.input.Input.TheVariants as inputs
 use Rattle.object_id.specs.declared.entry.Entry.{Entry}
@@ -58,8 +57,9 @@ use Rattle.sheep_node.specs.StepState.{StepState}
 use Rattle.sheep_world.specs.World.{Host}
 use Rattle.sheep_world.specs.Began.{Began}
 use Rattle.sheep_world.specs.NodeCauses.{NodeCause, GuestAsks, RequestComes, ReplyComes, LossIsTold, EntryIsRead, EntryIsPut}
-use Rattle.sheep_world.specs.NodeCauses.{RecoveryTicks, WorkIsRetried, input_of_cause, IsCause, host_with_node}
+use Rattle.sheep_world.specs.NodeCauses.{RecoveryTicks, WorkIsRetried, ClientAsks, input_of_cause, IsCause, host_with_node}
 use Rattle.sheep_world.proofs.RecoveryMessages.{same_said}
+use Rattle.sheep_world.specs.RunsWithAsks.{Move}
 use Rattle.overlap_law.specs.Attempts.{AttemptRecord, object_of, attempts_on}
 use Rattle.overlap_law.specs.Fates.{IsCreated}
 use Rattle.overlap_law.specs.Holders.{is_dead_by_log}
@@ -114,7 +114,7 @@ module _ (script : List Statement) (range : RunsAreInRange script) (start : Mome
 
 -- ---- in the middle of a step
 
-module _ (script : List Statement) (range : RunsAreInRange script) (events : List Event) (start : MomentWithPast)
+module _ (script : List Statement) (range : RunsAreInRange script) (events : List Move) (start : MomentWithPast)
     (ran : run_with_past script events ≡ Some start) (stepping : SteppingNode) (is : IsStepping script start.world stepping)
     (by : StepsByChanges stepping.cause) (so_far : StepState) (leads : LeadsInStep stepping (first_in_step stepping) so_far)
     (trail : MomentTrail script start (moment_in_step script stepping start so_far)) where
@@ -178,6 +178,7 @@ module _ (script : List Statement) (range : RunsAreInRange script) (events : Lis
   told_reply (EntryIsPut entry) so number bytes some told = absurd told
   told_reply RecoveryTicks so number bytes some told = absurd told
   told_reply WorkIsRetried so number bytes some told = absurd told
+  told_reply (ClientAsks req ask) so number bytes some told = absurd told
 
   -- the message was unanswered at the beginning too
   pub record WasAwaitedAtFirst (req number : ℕ) (work : Work) : Type 0 where
@@ -370,7 +371,7 @@ module _ (script : List Statement) (range : RunsAreInRange script) (events : Lis
 
 -- ---- every moment in the middle of a step
 
-pub reads_name : (script : List Statement) → RunsAreInRange script → (events : List Event) (start before : MomentWithPast)
+pub reads_name : (script : List Statement) → RunsAreInRange script → (events : List Move) (start before : MomentWithPast)
     → run_with_past script events ≡ Some start → MomentTrail script start before → (live : ℕ → Bool)
     → CallsLive live before.world.log before.past.attempts
     → OwnEntriesAreMade live before.past.attempts → ReadsAreLast before.world.hosts before.world.wire before.past.attempts

@@ -1,5 +1,6 @@
 -- The traffic of an attempt that opens: its messages are sent, and where it creates or writes, an attempt begins.
-use Rattle.std.proofs.Common.{◌≡◌, arith, ℕ, ◌+◌, ◌&&◌, Bool, true, false, not, cond, List, [], ◌++◌, fold, map, length, Contains, Option, Some, None, Ok, option_map, slice_get, refl, sym, ap, subst, ◌∙◌, append-nil}
+use Rattle.std.proofs.Common.{◌≡◌, arith, ℕ, ◌+◌, ◌&&◌, Bool, true, false, not, cond, List, [], ◌++◌, fold, map, length, Contains, Option}
+use Rattle.std.proofs.Common.{Some, None, Ok, option_map, slice_get, refl, sym, ap, subst, ◌∙◌, append-nil}
 use Rattle.std.specs.List.{enumerate_from}
 use Rattle.std.specs.Option.{option_to_list}
 use Rattle.std.specs.FinMap as tree
@@ -60,10 +61,12 @@ module _ (script : List Statement) (world : World) (stepping : SteppingNode) (kn
 
   pub me_so_far : (so_far : StepState) → LeadsInStep stepping (first_in_step stepping) so_far → so_far.node.me.0 ≡ stepping.n
   me_so_far so_far leads =
-      ap (λ (u : Untouched). u.me.0) (in_order_so_far so_far leads).same ∙ ap (λ (me : NodeId). me.0) (me_received input host.node) ∙ known.numbered
+      ap (λ (u : Untouched). u.me.0) (in_order_so_far so_far leads).same ∙ ap (λ (me : NodeId). me.0) (me_received input host.node)
+      ∙ known.numbered
 
   -- what was sent by a point of the step is sent at its end
-  sent_at_end : (next : StepState) → LeadsInStep stepping next (last_in_step stepping) → (send : NodeId × PeerReq) → Contains next.outputs.sends send
+  sent_at_end : (next : StepState) → LeadsInStep stepping next (last_in_step stepping) → (send : NodeId × PeerReq)
+      → Contains next.outputs.sends send
       → Contains (last_in_step stepping).outputs.sends send
   sent_at_end next rest send there =
       let (more, is) = sends_lead next (last_in_step stepping) rest in
@@ -71,14 +74,16 @@ module _ (script : List Statement) (world : World) (stepping : SteppingNode) (kn
 
   -- sends of the node, which can be read
   abbrev pub AreReadable : List (NodeId × PeerReq) → Type 0
-  AreReadable sends = (send : NodeId × PeerReq) → Contains sends send → (send.1.from.0 ≡ stepping.n) × (ask_in (ask_bytes send.1) ≡ Ok send.1)
+  AreReadable sends =
+      (send : NodeId × PeerReq) → Contains sends send → (send.1.from.0 ≡ stepping.n) × (ask_in (ask_bytes send.1) ≡ Ok send.1)
 
   pub readable_at : (next : StepState) → LeadsInStep stepping next (last_in_step stepping) → AreReadable next.outputs.sends
   readable_at next rest send there =
       let sent = sent_at_end next rest send there in
       (ap (λ (me : NodeId). me.0) (known.asking.own send sent) ∙ known.numbered, known.asking.read send sent)
 
-  module _ (so_far : StepState) (leads : LeadsInStep stepping (first_in_step stepping) so_far) (session req : ℕ) (asked : Work) (lined : StepState)
+  module _ (so_far : StepState) (leads : LeadsInStep stepping (first_in_step stepping) so_far) (session req : ℕ) (asked : Work)
+      (lined : StepState)
       (comes : WorkIsNext input host.node so_far session req asked lined) where
     abbrev work : ObjWork
     work = asked.work
@@ -128,7 +133,8 @@ module _ (script : List Statement) (world : World) (stepping : SteppingNode) (kn
         abbrev attempt : AttemptRecord
         attempt = beginning (host_with_node host lined.node) lined.node.sends req work current request
 
-        asks_so : (place : ℕ) (target : NodeId) → slice_get attempt.targets place ≡ Some target → Contains sends (target, message_request_at attempt place)
+        asks_so : (place : ℕ) (target : NodeId) → slice_get attempt.targets place ≡ Some target
+            → Contains sends (target, message_request_at attempt place)
         asks_so place target among =
             let (message, found, node) = got_map (λ (message : Message). message.node) current.messages place target among in
             let is = message_at_place work lined.node.sends 0 targets place message
@@ -145,9 +151,11 @@ module _ (script : List Statement) (world : World) (stepping : SteppingNode) (kn
                 ask = ask_for work ((is.index_so ∙ ap (index_at (policy_of work) (kind_of (oid_of work))) place_so) i);
               },
             ))
-            (Contains-map (send_of lined.node.gateway.me epoch work) current.messages message (contains_at current.messages place message found))
+            (Contains-map (send_of lined.node.gateway.me epoch work) current.messages message
+            (contains_at current.messages place message found))
 
-        numbered : (place : ℕ) (message : Message) → slice_get current.messages place ≡ Some message → message.number ≡ lined.node.sends + place
+        numbered : (place : ℕ) (message : Message) → slice_get current.messages place ≡ Some message
+            → message.number ≡ lined.node.sends + place
         numbered place message got =
             (message_at_place work lined.node.sends 0 targets place message
             (ap (λ (places : List (ℕ × NodeId)). slice_get (map (message_for work) (enumerate_from lined.node.sends places)) place)
@@ -192,8 +200,10 @@ module _ (script : List Statement) (world : World) (stepping : SteppingNode) (kn
           first = count;
           count = length-map current.messages (λ (message : Message). message.node)
               ∙ sym (length-map current.messages (send_of lined.node.gateway.me epoch work));
-          whole = length-map current.messages (λ (message : Message). Flying) ∙ sym (length-map current.messages (λ (message : Message). message.node));
-          flying = λ place fate got. let (message, found, is) = got_map (λ (message : Message). Flying) current.messages place fate got in sym is;
+          whole = length-map current.messages (λ (message : Message). Flying)
+              ∙ sym (length-map current.messages (λ (message : Message). message.node));
+          flying = λ place fate got. let (message, found, is) = got_map (λ (message : Message). Flying) current.messages place fate
+              got in sym is;
           asks = asks_so;
           of_attempt = sent_so;
           up = not-true stepping.host.is_lost (and_parts (not stepping.host.is_lost) (has_numbers stepping.host.node) known.up).0;
@@ -201,33 +211,40 @@ module _ (script : List Statement) (world : World) (stepping : SteppingNode) (kn
           current = current;
           opened = opened_so;
           unanswered = λ place message got.
-              let (target, found, is) = got_map (message_for work) (enumerate_from lined.node.sends (targets_asked work asked.ended targets)) place message got in
+              let (target, found, is) = got_map (message_for work) (enumerate_from lined.node.sends
+              (targets_asked work asked.ended targets)) place message got in
               sym (ap (λ (m : Message). m.status) is);
         }
 
       pub opening_traffic : (wire : Wire) (attempts : List AttemptRecord)
-          → Traffic (hosts_in_step stepping world so_far) (hosts_in_step stepping world opened) wire attempts (fold wire_with_request wire sends)
-          (attempts ++ option_to_list (beginning_with (host_with_node host lined.node) lined.node.sends req work (Open current)))
+          → Traffic (hosts_in_step stepping world so_far) (hosts_in_step stepping world opened) wire attempts
+          (fold wire_with_request wire sends) (attempts ++ option_to_list
+          (beginning_with (host_with_node host lined.node) lined.node.sends req work (Open current)))
       opening_traffic wire attempts =
           by_making (is_making work) refl (is_first lined.node.sends current.messages) refl (tree.get lined.node.requests req) refl
         where
           none : AskNothingMade sends
-              → Traffic (hosts_in_step stepping world so_far) (hosts_in_step stepping world opened) wire attempts (fold wire_with_request wire sends) (attempts ++ [])
-          none nothing = subst (Traffic (hosts_in_step stepping world so_far) (hosts_in_step stepping world opened) wire attempts (fold wire_with_request wire sends)) (sym (append-nil attempts))
-              (kinds.RequestsAreSent stepping.n sends sent_by_node nothing)
+              → Traffic (hosts_in_step stepping world so_far) (hosts_in_step stepping world opened) wire attempts
+              (fold wire_with_request wire sends) (attempts ++ [])
+          none nothing =
+              subst (Traffic (hosts_in_step stepping world so_far) (hosts_in_step stepping world opened) wire attempts
+              (fold wire_with_request wire sends)) (sym (append-nil attempts)) (kinds.RequestsAreSent stepping.n sends sent_by_node nothing)
 
           -- the request of the work is there
           there_is : tree.get lined.node.requests req ≡ None → ⊥
           there_is gone =
-              let there = (comes_free so_far session req asked lined comes known.sound (both_in_chain input host.node known.sound so_far leads).0).there in
+              let there = (comes_free so_far session req asked lined comes known.sound
+              (both_in_chain input host.node known.sound so_far leads).0).there in
               cc (there, gone)
 
           by_making : (b : Bool) → is_making work ≡ b → (c : Bool) → is_first lined.node.sends current.messages ≡ c
               → (o : Option Request) → tree.get lined.node.requests req ≡ o
-              → Traffic (hosts_in_step stepping world so_far) (hosts_in_step stepping world opened) wire attempts (fold wire_with_request wire sends)
-              (attempts ++ option_to_list (cond (b && c) (option_map (beginning (host_with_node host lined.node) lined.node.sends req work current) o) None))
+              → Traffic (hosts_in_step stepping world so_far) (hosts_in_step stepping world opened) wire attempts
+              (fold wire_with_request wire sends) (attempts ++ option_to_list
+              (cond (b && c) (option_map (beginning (host_with_node host lined.node) lined.node.sends req work current) o) None))
           by_making false making c first o found = none (reads_ask_nothing lined.node.gateway.me epoch work making current.messages)
           by_making true making false first o found =
               none (no_first_asks_nothing lined.node.gateway.me epoch work asked.ended lined.node.sends targets making first)
           by_making true making true first None found = absurd (there_is found)
-          by_making true making true first (Some request) found = kinds.AttemptBegins stepping.n sends (attempt making request) (begun_by_sends making request)
+          by_making true making true first (Some request) found =
+              kinds.AttemptBegins stepping.n sends (attempt making request) (begun_by_sends making request)

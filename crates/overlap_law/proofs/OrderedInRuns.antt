@@ -4,8 +4,8 @@ use Rattle.std.specs.List.{slice_get}
 use Rattle.std.specs.FinMap as tree
 use Rattle.std.proofs.lemmas.Bool.{both_ways}
 use Rattle.cluster_script.specs.declared.statement.Statement.{Statement}
-use Rattle.sheep_node.specs.declared.event.Event.{Event}
 use Rattle.sheep_world.specs.Began.{Began}
+use Rattle.sheep_world.specs.RunsWithAsks.{Move}
 use Rattle.overlap_law.specs.Attempts.{AttemptRecord}
 use Rattle.overlap_law.specs.Fates.{AreInOrder, AttemptsAreOrdered}
 use Rattle.overlap_law.specs.MomentChanges.{MomentChange, MomentTrail, RunsAreInRange, KeptByChanges}
@@ -27,7 +27,8 @@ record HasOrder (moment : MomentWithPast) : Type 0 where
   ordered : AttemptsAreOrdered moment.world.wire moment.past.attempts
 
 module _ (script : List Statement) (range : RunsAreInRange script) where
-  module _ (start before after : MomentWithPast) (began : Began script start.world) (change : MomentChange script start before after) (has : HasOrder before)
+  module _ (start before after : MomentWithPast) (began : Began script start.world) (change : MomentChange script start before after)
+      (has : HasOrder before)
       (attempt : AttemptRecord) (more : after.past.attempts ≡ before.past.attempts ++ attempt ∷ []) where
     in_order : (j : ℕ) (other : AttemptRecord) → slice_get before.past.attempts j ≡ Some other → other.gateway.0 ≡ attempt.gateway.0
         → IsQuiet before.world.wire other → AreInOrder before.world.wire other attempt
@@ -40,7 +41,8 @@ module _ (script : List Statement) (range : RunsAreInRange script) where
         record {
           epochs = omega (arith, rises, is, before_it);
           flying = λ place target packet.
-              absurd (both_ways (is_name_in_wire before.world.wire (message_name_at other place)) (quiet.none place target packet.among) packet.there);
+              absurd (both_ways (is_name_in_wire before.world.wire (message_name_at other place)) (quiet.none place target packet.among)
+              packet.there);
         }
 
   in_turn : (start before after : MomentWithPast) → Began script start.world → MomentChange script start before after → HasOrder before
@@ -52,14 +54,18 @@ module _ (script : List Statement) (range : RunsAreInRange script) where
           under = begins_before script range start began change attempt more;
           behind = λ j other got object gateway session since.
               in_order start before after began change has attempt more j other got gateway
-              (quiet_then script range start before after began change (makers_apart-after script range start began change) has.writers attempt more j other got object
-              gateway);
+              (quiet_then script range start before after began change (makers_apart-after script range start began change) has.writers
+              attempt more j other got object gateway);
         }) has.writers.one;
   }
 
   kept_order : KeptByChanges script HasOrder
   kept_order = record {
-    opens = record { writers = (kept_one script range).opens; came = λ j attempt got. absurd (cc (got)); ordered = record { each = λ j first got. absurd (cc (got)) } };
+    opens = record {
+      writers = (kept_one script range).opens;
+      came = λ j attempt got. absurd (cc (got));
+      ordered = record { each = λ j first got. absurd (cc (got)) };
+    };
     keeps = λ start before after began change has. record {
       writers = (kept_one script range).keeps start before after began change has.writers;
       came = gateways_come script range start began change has.writers.tied has.came;
@@ -68,6 +74,6 @@ module _ (script : List Statement) (range : RunsAreInRange script) where
     };
   }
 
-  pub ordered-in_run : (events : List Event) (start moment : MomentWithPast) → run_with_past script events ≡ Some start
+  pub ordered-in_run : (events : List Move) (start moment : MomentWithPast) → run_with_past script events ≡ Some start
       → MomentTrail script start moment → AttemptsAreOrdered moment.world.wire moment.past.attempts
   ordered-in_run events start moment is trail = (on_the_way script HasOrder kept_order events start moment is trail).ordered

@@ -50,6 +50,8 @@ use Rattle.overlap_law.proofs.ClosedFirstStages.{begins_first}
 use Rattle.overlap_law.proofs.DriverEntries.{no_inode}
 use Rattle.overlap_law.proofs.EntryWrites.{entry_start, entry_size}
 use Rattle.overlap_law.proofs.KnownDisks.{Few, kind-of_inode}
+use Rattle.peer_proto.specs.declared.work.ObjWork.TheVariants as works
+use Rattle.gateway.specs.Work.{is_making}
 
 -- a work has no entry
 abbrev pub HasNone : ObjWork → Type 0
@@ -57,6 +59,13 @@ HasNone work = (vid index : ℕ) → HasEntry work vid index → ⊥
 
 pub read_none : (vid : ℕ) (spec : VdiSpec) → HasNone (read_inode vid spec)
 read_none vid spec other index has = let covered = has.covered in cc (covered)
+
+-- nor has what makes nothing
+pub idle_none : (work : ObjWork) → is_making work ≡ false → HasNone work
+idle_none (works.Create oid policy size offset bytes) idle vid index has = absurd (cc (idle))
+idle_none (works.Write oid policy offset bytes) idle vid index has = absurd (cc (idle))
+idle_none (works.Read oid policy offset size) idle vid index has = let covered = has.covered in cc (covered)
+idle_none (works.ReadAll oid policy size) idle vid index has = let covered = has.covered in cc (covered)
 
 -- a tag stands before the table
 pub tag_none : (inode : Content) (tag : List ℕ) → IsVid inode.vid → length tag ≤ TEXT_BYTES → HasNone (write_tag inode tag)

@@ -19,16 +19,19 @@ use Rattle.sheep_node.proofs.StepResults.{me_received}
 use Rattle.overlap_law.proofs.RecoveredEntries.{IsOwnEnd, PutsOnlyItsEnd}
 
 -- what an input by itself leaves in the outbox was there
-pub outbox_received : (p : Entry → Bool) (input : Input) (node : Node) → list_any p (input_received input (at_first node)).node.outbox ≡ true
+pub outbox_received : (p : Entry → Bool) (input : Input) (node : Node)
+    → list_any p (input_received input (at_first node)).node.outbox ≡ true
     → list_any p node.outbox ≡ true
 unfolding entry_read on_request on_recover_tick on_back
 outbox_received p (inputs.Guest req session ask) node there = there
 outbox_received p (inputs.Request request) node there = there
 outbox_received p (inputs.Reply rsp) node there =
-    cond_either (λ (so_far : StepState). list_any p so_far.node.outbox ≡ true → list_any p node.outbox ≡ true) (gateways.gateway_awaits rsp.number node.gateway) (at_first node)
+    cond_either (λ (so_far : StepState). list_any p so_far.node.outbox ≡ true → list_any p node.outbox ≡ true)
+    (gateways.gateway_awaits rsp.number node.gateway) (at_first node)
     (recovery_stepped (recovery_steps.recovery_on_reply rsp (recovery_state_of node)) (at_first node)) (λ is. is) (λ is. is) there
 outbox_received p (inputs.Lost number) node there =
-    cond_either (λ (so_far : StepState). list_any p so_far.node.outbox ≡ true → list_any p node.outbox ≡ true) (gateways.gateway_awaits number node.gateway) (at_first node)
+    cond_either (λ (so_far : StepState). list_any p so_far.node.outbox ≡ true → list_any p node.outbox ≡ true)
+    (gateways.gateway_awaits number node.gateway) (at_first node)
     (recovery_stepped (recovery_steps.recovery_on_loss number (recovery_state_of node)) (at_first node)) (λ is. is) (λ is. is) there
 outbox_received p (inputs.LogEntry entry) node there = there
 outbox_received p inputs.Put node there = by_outbox node.outbox refl there
@@ -37,7 +40,8 @@ outbox_received p inputs.Put node there = by_outbox node.outbox refl there
     or_later true b is = refl
     or_later false b is = is
 
-    by_outbox : (outbox : List Entry) → node.outbox ≡ outbox → list_any p (on_put outbox (at_first node)).node.outbox ≡ true → list_any p node.outbox ≡ true
+    by_outbox : (outbox : List Entry) → node.outbox ≡ outbox → list_any p (on_put outbox (at_first node)).node.outbox ≡ true
+        → list_any p node.outbox ≡ true
     by_outbox [] is there = there
     by_outbox (entry ∷ later) is there = ap (list_any p) is ∙ or_later (p entry) (list_any p later) there
 outbox_received p inputs.RecoverTick node there = there
@@ -52,13 +56,14 @@ pub ends_received : (input : Input) (node : Node) → EndsAreOwn node → EndsAr
 ends_received input node own epoch by there =
     ap (λ (me : NodeId). me.0) (me_received input node) ∙ own epoch by (outbox_received (recovers epoch by) input node there)
 
-pub ends_so_far : (input : Input) (node : Node) (so_far : StepState) → PutsOnlyItsEnd (input_received input (at_first node)).node so_far → EndsAreOwn node
+pub ends_so_far : (input : Input) (node : Node) (so_far : StepState) → PutsOnlyItsEnd (input_received input (at_first node)).node so_far
+    → EndsAreOwn node
     → EndsAreOwn so_far.node
 ends_so_far input node so_far puts own epoch by there = ⊎_elim
     (λ (old : list_any (recovers epoch by) (input_received input (at_first node)).node.outbox ≡ true).
     ap (λ (me : NodeId). me.0) (puts.me_so ∙ me_received input node) ∙ own epoch by (outbox_received (recovers epoch by) input node old))
-    (λ (end : IsOwnEnd (input_received input (at_first node)).node so_far.node.recovered epoch by). ap (λ (me : NodeId). me.0) puts.me_so ∙ end.by_node)
-    (puts.puts epoch by there)
+    (λ (end : IsOwnEnd (input_received input (at_first node)).node so_far.node.recovered epoch by). ap (λ (me : NodeId). me.0) puts.me_so
+    ∙ end.by_node) (puts.puts epoch by there)
 
 pub opening_ends : (me : NodeId) (tries : ℕ) → EndsAreOwn (initial_node me tries)
 opening_ends me tries epoch by there = absurd (cc (there))

@@ -1,16 +1,14 @@
 -- The whole invariant holds in each moment of a run in range: each conjunct from what is proved of it.
-use Rattle.std.proofs.Common.{◌≡◌, List, [], ◌∷◌, ◌++◌, Option, Some, None, refl, ◌∙◌}
-use Rattle.std.specs.Option.{option_map}
+use Rattle.std.proofs.Common.{◌≡◌, List, [], ◌∷◌, ◌++◌, Some}
 use Rattle.cluster_script.specs.declared.statement.Statement.{Statement}
-use Rattle.sheep_node.specs.declared.event.Event.{Event}
-use Rattle.sheep_world.specs.Step.{EventOutcome, step}
+use Rattle.sheep_world.specs.RunsWithAsks.{Move}
 use Rattle.vdi_directory.specs.Decisions.{log_effects}
 use Rattle.overlap_law.specs.Groups.{WrittenIsKept, PiecesAreKept}
 use Rattle.overlap_law.specs.Headline.{ledger_of}
 use Rattle.overlap_law.specs.KeptSoFar.{IsKeptSoFar, KeepsFacts}
 use Rattle.overlap_law.specs.MomentChanges.{RunsAreInRange, Still}
 use Rattle.overlap_law.specs.Overlap.{OverlapOf}
-use Rattle.overlap_law.specs.Past.{MomentWithPast, moment_after, next_moment, run_with_past}
+use Rattle.overlap_law.specs.Past.{MomentWithPast, next_moment, run_with_past}
 use Rattle.overlap_law.specs.TiedAttempts.{IsTied}
 use Rattle.overlap_law.proofs.CarriedBlocks.{blocks_written}
 use Rattle.overlap_law.proofs.CarriedTables.{good_id_at}
@@ -24,12 +22,12 @@ use Rattle.overlap_law.proofs.LegalReplies.{legal-in_run}
 use Rattle.overlap_law.proofs.NoRecoveredDue.{began-with_past}
 use Rattle.overlap_law.proofs.ReadSoFar.{read_so_far}
 use Rattle.overlap_law.proofs.RunsByChanges.{on_the_way}
-use Rattle.overlap_law.proofs.RunsWithOneMore.{run_with_one_more}
+use Rattle.overlap_law.proofs.RunsWithOneMore.{run_with_next}
 use Rattle.overlap_law.proofs.SoundAlike.{sound_unless_written}
 use Rattle.overlap_law.proofs.SoundCodedRuns.{coded-in_run}
 use Rattle.overlap_law.proofs.TiedInRuns.{kept_tied}
 
-module _ (script : List Statement) (range : RunsAreInRange script) (events : List Event) (moment : MomentWithPast)
+module _ (script : List Statement) (range : RunsAreInRange script) (events : List Move) (moment : MomentWithPast)
     (run : run_with_past script events ≡ Some moment) where
   written_kept : WrittenIsKept (ledger_of moment.past.history) (log_effects moment.world.log) (good_id_at moment) moment.world.hosts
       moment.past.attempts
@@ -87,18 +85,13 @@ module _ (script : List Statement) (range : RunsAreInRange script) (events : Lis
       }
 
 -- a run with one event more
-run_then : (script : List Statement) (events : List Event) (event : Event) (before after : MomentWithPast)
+run_then : (script : List Statement) (events : List Move) (event : Move) (before after : MomentWithPast)
     → run_with_past script events ≡ Some before → next_moment script event before ≡ Some after
     → run_with_past script (events ++ event ∷ []) ≡ Some after
-run_then script events event before after run happens = by_made (step script event before.world) refl happens
-  where
-    by_made : (o : Option EventOutcome) → step script event before.world ≡ o → option_map (moment_after script event before) o ≡ Some after
-        → run_with_past script (events ++ event ∷ []) ≡ Some after
-    by_made None at none = absurd (cc (none))
-    by_made (Some made) at so = run_with_one_more script event made events before at run ∙ so
+run_then script events event before after run happens = run_with_next script event events before after happens run
 
 -- so it does behind each event that may happen in a run
-pub overlap_holds_behind : (script : List Statement) → RunsAreInRange script → (events : List Event) (event : Event)
+pub overlap_holds_behind : (script : List Statement) → RunsAreInRange script → (events : List Move) (event : Move)
     (before after : MomentWithPast) → run_with_past script events ≡ Some before → next_moment script event before ≡ Some after
     → OverlapOf script after
 overlap_holds_behind script range events event before after run happens =

@@ -1,5 +1,6 @@
 -- What the invariant of the overlap gives at once.
-use Rattle.std.proofs.Common.{◌≡◌, ◌⊎◌, inl, inr, ⊎_elim, ℕ, zero, suc, ◌<◌, ◌==◌, ◌||◌, not, Bool, true, false, cond, List, [], ◌∷◌, length, filter, Option, Some, None, refl, subst, slice_get, Ok, arith}
+use Rattle.std.proofs.Common.{◌≡◌, ◌⊎◌, inl, inr, ⊎_elim, ℕ, zero, suc, ◌<◌, ◌==◌, ◌||◌, not, Bool, true, false, cond, List, [], ◌∷◌}
+use Rattle.std.proofs.Common.{length, filter, Option, Some, None, refl, subst, slice_get, Ok, arith}
 use Rattle.std.specs.Option.{option_map_or}
 use Rattle.std.specs.List.{last_or}
 use Rattle.std.specs.FinMap as tree
@@ -45,16 +46,19 @@ pub record IsPassed (passes : AttemptRecord → Bool) (attempts : List AttemptRe
   pub there : slice_get attempts place ≡ Some found
   pub passed : passes found ≡ true
 
-passed_if : (passes : AttemptRecord → Bool) (attempt : AttemptRecord) (attempts : List AttemptRecord) (k : ℕ) (found : AttemptRecord) (b : Bool) → passes attempt ≡ b
+passed_if : (passes : AttemptRecord → Bool) (attempt : AttemptRecord) (attempts : List AttemptRecord) (k : ℕ) (found : AttemptRecord)
+    (b : Bool) → passes attempt ≡ b
     → ((i : ℕ) → slice_get (filter passes attempts) i ≡ Some found → IsPassed passes attempts found)
-    → slice_get (cond b (attempt ∷ filter passes attempts) (filter passes attempts)) k ≡ Some found → IsPassed passes (attempt ∷ attempts) found
+    → slice_get (cond b (attempt ∷ filter passes attempts) (filter passes attempts)) k ≡ Some found
+    → IsPassed passes (attempt ∷ attempts) found
 passed_if passes attempt attempts zero found true is later e = record { place = 0; there = e; passed = cc (is, e) }
 passed_if passes attempt attempts (suc k) found true is later e =
     let rest = later k e in record { place = suc rest.place; there = rest.there; passed = rest.passed }
 passed_if passes attempt attempts k found false is later e =
     let rest = later k e in record { place = suc rest.place; there = rest.there; passed = rest.passed }
 
-pub filter-passed : (passes : AttemptRecord → Bool) (attempts : List AttemptRecord) (k : ℕ) (found : AttemptRecord) → slice_get (filter passes attempts) k ≡ Some found
+pub filter-passed : (passes : AttemptRecord → Bool) (attempts : List AttemptRecord) (k : ℕ) (found : AttemptRecord)
+    → slice_get (filter passes attempts) k ≡ Some found
     → IsPassed passes attempts found
 filter-passed passes [] k found e = absurd (cc)
 filter-passed passes (attempt ∷ attempts) k found e = passed_if
@@ -95,7 +99,8 @@ complete_lists {good} {listed} {hosts} {attempts} complete oid is_good = record 
       complete.each n host there oid base.epoch is_listed is_good below (base-there oid attempts base h);
 }
 
-pub gives-complete : (moment : MomentWithPast) → Overlap moment → EachGood moment.world moment.past (CompleteLists moment.past.listed moment.world.hosts)
+pub gives-complete : (moment : MomentWithPast) → Overlap moment
+    → EachGood moment.world moment.past (CompleteLists moment.past.listed moment.world.hosts)
 gives-complete moment o = complete_lists o.searches.complete
 
 pub gone-fenced : (log : List Entry) (hosts : Hosts) (wire : Wire) → TheGoneAreFenced log hosts wire
@@ -127,7 +132,8 @@ none-missing recovered node [] none there = absurd (cc)
 none-missing recovered node (member ∷ members) none there = none_missing_if
     recovered node member members (filter (λ (other : Member). not (recovered other.node.0)) members) (recovered member.node.0)
     (is_member_node node member) refl refl none there
-    (λ (fewer : (length (filter (λ (other : Member). not (recovered other.node.0)) members) == 0) ≡ true) (in' : is_member node members ≡ true).
+    (λ (fewer : (length (filter (λ (other : Member). not (recovered other.node.0)) members) == 0) ≡ true)
+    (in' : is_member node members ≡ true).
     none-missing recovered node members fewer in')
 
 settled-complete : (log : List Entry) (epoch : ℕ) → 1 < epoch → is_settled log epoch ≡ true → (length (missing_in log epoch) == 0) ≡ true

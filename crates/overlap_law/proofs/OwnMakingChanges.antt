@@ -15,7 +15,8 @@ none_own = none_at MakesOwnOf
 
 -- in the middle of a step
 pub own_in_chain : (input : Input) (node : Node) → IsSoundStep input node → ChecksAreFew input node
-    → AreOwnMakings node.gateway.works node.requests node.sessions → (so_far : StepState) → Leads input node (input_received input (at_first node)) so_far
+    → AreOwnMakings node.gateway.works node.requests node.sessions → (so_far : StepState)
+    → Leads input node (input_received input (at_first node)) so_far
     → AreOwnMakings so_far.node.gateway.works so_far.node.requests so_far.node.sessions
 own_in_chain input node sound few all so_far leads =
     (kept_by_chain (WorksWell input node)

@@ -30,7 +30,6 @@ use Rattle.guest_driver.specs.PieceWorks.{write_entry, table_with_entry}
 use Rattle.vdi_ops.specs.Op.{Op}
 use Rattle.vdi_ops.specs.Tables.{kept_entry}
 use Rattle.sheep_node.specs.declared.course.Course.TheVariants.{Commanding}
-use Rattle.sheep_node.specs.declared.event.Event.{Event}
 use Rattle.sheep_node.specs.declared.input.Input.TheVariants as inputs
 use Rattle.sheep_node.specs.AwaitedEntry.{waits_for_entry}
 use Rattle.sheep_node.specs.Changes.{HasRequest}
@@ -40,6 +39,7 @@ use Rattle.sheep_node.proofs.ValidityChanges.{AnySent, course_valid, inode_valid
 use Rattle.sheep_world.specs.World.{Host}
 use Rattle.sheep_world.specs.Began.{Began}
 use Rattle.sheep_world.specs.NodeCauses.{input_of_cause, host_with_node}
+use Rattle.sheep_world.specs.RunsWithAsks.{Move}
 use Rattle.overlap_law.specs.Fates.{IsCreated}
 use Rattle.overlap_law.specs.MomentChanges as moments
 use Rattle.overlap_law.specs.MomentChanges.{MomentChange, RunsAreInRange}
@@ -185,7 +185,7 @@ module _ (script : List Statement) (range : RunsAreInRange script) (start : Mome
 
 -- ---- every change
 
-pub tables_stay_made : (script : List Statement) → RunsAreInRange script → (events : List Event) (start before after : MomentWithPast)
+pub tables_stay_made : (script : List Statement) → RunsAreInRange script → (events : List Move) (start before after : MomentWithPast)
     → run_with_past script events ≡ Some start → MomentChange script start before after → (good_id : ℕ → Bool)
     → WorksNameWhatIsMade (log_effects before.world.log) good_id before.world.hosts before.past.attempts
     → ReadsNameWhatIsMade script start before

@@ -1,6 +1,7 @@
 -- Each change of a moment leaves the levels that a search has passed without as many rows as a read needs, and leaves nothing missing that
 -- was made: a level is passed only where too few rows were told of.
-use Rattle.std.proofs.Common.{◌≡◌, inl, inr, ⊎_elim, arith, ℕ, ◌≤◌, ◌<◌, ◌-◌, Bool, true, false, List, [], length, map, Option, Some, None, is_some, option_map, refl, sym, ap, subst, ◌∙◌}
+use Rattle.std.proofs.Common.{◌≡◌, inl, inr, ⊎_elim, arith, ℕ, ◌≤◌, ◌<◌, ◌-◌, Bool, true, false, List, [], length, map, Option, Some, None}
+use Rattle.std.proofs.Common.{is_some, option_map, refl, sym, ap, subst, ◌∙◌}
 use Rattle.std.specs.FinMap as tree
 use Rattle.std.proofs.lemmas.Bool.{cases_lt}
 use Rattle.std.proofs.lemmas.Option.{same_Some}
@@ -21,7 +22,6 @@ use Rattle.peer_service.specs.State.{Peer, header_at, object_policy}
 use Rattle.recovery.specs.Shown.{shown_with_pending}
 use Rattle.recovery.specs.State.{Search, Recovery, RecoveryState, is_listed, still_on, search_on}
 use Rattle.recovery.specs.Steps.{to_recover, at_start, recovery_from_epoch}
-use Rattle.sheep_node.specs.declared.event.Event.{Event}
 use Rattle.sheep_node.specs.declared.input.Input.TheVariants as inputs
 use Rattle.sheep_node.specs.LogReading.{epoch_members, come_back_with, on_back}
 use Rattle.sheep_node.specs.RecoveryView.{recovery_state_of}
@@ -32,6 +32,7 @@ use Rattle.sheep_world.specs.Began.{Began}
 use Rattle.sheep_world.specs.EventKinds.{log_after_return}
 use Rattle.sheep_world.specs.NodeCauses.{NodeCause, IsCause, input_of_cause}
 use Rattle.sheep_world.specs.World.{Host, is_host_up}
+use Rattle.sheep_world.specs.RunsWithAsks.{Move}
 use Rattle.overlap_law.specs.Each.{policy_in}
 use Rattle.overlap_law.specs.Holders.{targets_by}
 use Rattle.overlap_law.specs.MomentChanges.{MomentChange, MomentTrail, RunsAreInRange}
@@ -92,7 +93,7 @@ back_misses entries node =
     let back : Node = come_back_with entries node in
     begun_misses back.peer.epoch (map (λ (member : Member). member.node) (epoch_members back)) (recovery_state_of back)
 
-module _ (script : List Statement) (range : RunsAreInRange script) (events : List Event) (start before after : MomentWithPast)
+module _ (script : List Statement) (range : RunsAreInRange script) (events : List Move) (start before after : MomentWithPast)
     (is : run_with_past script events ≡ Some start) (trail : MomentTrail script start before)
     (change : MomentChange script start before after) where
   pub terms_so : TermsHold before

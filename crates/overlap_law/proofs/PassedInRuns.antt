@@ -3,7 +3,6 @@ use Rattle.std.proofs.Common.{◌≡◌, ℕ, Bool, true, List, Some, None, refl
 use Rattle.cluster_script.specs.declared.statement.Statement.{Statement}
 use Rattle.vdi_directory.specs.Decisions.{log_effects}
 use Rattle.recovery.specs.State.{Recovery, still_on}
-use Rattle.sheep_node.specs.declared.event.Event.{Event}
 use Rattle.overlap_law.specs.Holders.{targets_by}
 use Rattle.overlap_law.specs.MomentChanges.{MomentTrail, RunsAreInRange}
 use Rattle.overlap_law.specs.Past.{MomentWithPast, first_moment, run_with_past}
@@ -12,6 +11,7 @@ use Rattle.overlap_law.proofs.AnswerersInMoments.{opening_recovery}
 use Rattle.overlap_law.proofs.KeptInRuns.{KeptOnTheWay, kept_on_the_way}
 use Rattle.overlap_law.proofs.PassedChanges.{passed_after}
 use Rattle.overlap_law.proofs.TrueRows.{rows_true-on_the_way}
+use Rattle.sheep_world.specs.RunsWithAsks.{Move}
 
 -- of every object
 abbrev pub AllLackRows : MomentWithPast → Type 0
@@ -34,7 +34,7 @@ module _ (script : List Statement) (range : RunsAreInRange script) where
       passed_after script range events start before after is trail change (λ (oid : ℕ). true)
       (rows_true-on_the_way script range events start before is trail (λ (oid : ℕ). true)) holds
 
-  pub passed-on_the_way : (events : List Event) (start moment : MomentWithPast) → run_with_past script events ≡ Some start
+  pub passed-on_the_way : (events : List Move) (start moment : MomentWithPast) → run_with_past script events ≡ Some start
       → MomentTrail script start moment → (good : ℕ → Bool)
       → PassedLevelsLackRows (targets_by moment.world.log) moment.world.log (log_effects moment.world.log) good moment.world.hosts
   passed-on_the_way events start moment is trail good =

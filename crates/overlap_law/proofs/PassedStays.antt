@@ -1,6 +1,7 @@
--- Each change of a moment leaves a level that a search has passed without as many rows as a read needs: who is a member of the recovery's epoch
--- came to it, and makes no row of an earlier level any more.
-use Rattle.std.proofs.Common.{◌≡◌, ◌⊎◌, inl, inr, ⊎_elim, arith, ℕ, zero, suc, ◌+◌, ◌≤◌, ◌<◌, ◌==◌, nat_le, Bool, true, false, cond, List, [], ◌∷◌, ◌++◌, fold, length, filter, filter_map, Option, Some, None, is_some, refl, ap, ◌∙◌, slice_get}
+-- Each change of a moment leaves a level that a search has passed without as many rows as a read needs: who is a member of the recovery's
+-- epoch came to it, and makes no row of an earlier level any more.
+use Rattle.std.proofs.Common.{◌≡◌, ◌⊎◌, inl, inr, ⊎_elim, arith, ℕ, zero, suc, ◌+◌, ◌≤◌, ◌<◌, ◌==◌, nat_le, Bool, true, false, cond, List}
+use Rattle.std.proofs.Common.{[], ◌∷◌, ◌++◌, fold, length, filter, filter_map, Option, Some, None, is_some, refl, ap, ◌∙◌, slice_get}
 use Rattle.std.specs.List.{find, list_any, cons_option}
 use Rattle.std.specs.Option.{option_map, option_map_or}
 use Rattle.std.specs.FinMap as tree
@@ -20,10 +21,10 @@ use Rattle.object_store.specs.Store.{SeenRow, rows_of}
 use Rattle.vdi_directory.specs.declared.effect.Effect.{Effect}
 use Rattle.vdi_directory.specs.Decisions.{log_effects}
 use Rattle.recovery.specs.State.{Search, is_listed, still_on, search_on}
-use Rattle.sheep_node.specs.declared.event.Event.{Event}
 use Rattle.sheep_node.specs.RecoveryView.{recovery_state_of}
 use Rattle.sheep_world.specs.World.{Host}
 use Rattle.sheep_world.specs.Began.{Began}
+use Rattle.sheep_world.specs.RunsWithAsks.{Move}
 use Rattle.overlap_law.specs.Holders.{targets_by}
 use Rattle.overlap_law.specs.Past.{MomentWithPast, run_with_past}
 use Rattle.overlap_law.specs.Each.{row_covers, holds_level, has_reached, policy_in}
@@ -32,7 +33,8 @@ use Rattle.overlap_law.specs.Searches.{index_held, with_number, indexes_held, Pa
 use Rattle.overlap_law.specs.MomentChanges.{MomentChange, MomentTrail, RunsAreInRange}
 use Rattle.overlap_law.proofs.BeyondInMoments.{recovers_own}
 use Rattle.overlap_law.proofs.EarlierLevels.{had_row}
-use Rattle.overlap_law.proofs.IndexesHeld.{AllBelow, held, new_number, one_more_below, longer_fold, need_of_copy, place_of, targets_apart_in, index_of_target, any_found}
+use Rattle.overlap_law.proofs.IndexesHeld.{AllBelow, held, new_number, one_more_below, longer_fold, need_of_copy, place_of}
+use Rattle.overlap_law.proofs.IndexesHeld.{targets_apart_in, index_of_target, any_found}
 use Rattle.overlap_law.proofs.FinishedInMoments.{TermsHold, kept_terms}
 use Rattle.overlap_law.proofs.FirstSearchesInRuns.{listing-on_the_way, search_first-on_the_way}
 use Rattle.overlap_law.proofs.HeldLevels.{members_came}
@@ -162,7 +164,8 @@ holds_index o oid level some = by_test (holds_level o oid level) refl
     by_test : (b : Bool) → holds_level o oid level ≡ b → b ≡ true
     by_test true is = refl
     by_test false none =
-        let no : is_some (index_held o oid level) ≡ false = ap (λ (k : Option ℕ). is_some k) (none_held o oid level none) in absurd (cc (no, some))
+        let no : is_some (index_held o oid level) ≡ false = ap (λ (k : Option ℕ). is_some k) (none_held o oid level none) in absurd
+        (cc (no, some))
 
 some_held : (o : Option Host) (oid level : ℕ) → holds_level o oid level ≡ true → is_some (index_held o oid level) ≡ true
 some_held None oid level holds = absurd (cc (holds))
@@ -173,11 +176,13 @@ some_held (Some host) oid level holds =
 -- ---- over a change of a moment
 
 module _ (script : List Statement) (range : RunsAreInRange script) (start before after : MomentWithPast) (began : Began script start.world)
-    (change : MomentChange script start before after) (grows : LogGrows before.world.log after.world.log) (some : 1 ≤ length before.world.log)
-    (is_log : IsLog before.world.log) (effects : List Effect) (placed : RowsAreAtTargets (targets_by before.world.log) effects before.world.hosts)
-    (oid level epoch : ℕ) (policy : Policy) (policy_so : policy_in effects oid ≡ Some policy) (below : level < epoch)
+    (change : MomentChange script start before after) (grows : LogGrows before.world.log after.world.log)
+    (some : 1 ≤ length before.world.log)
+    (is_log : IsLog before.world.log) (effects : List Effect) (placed : RowsAreAtTargets (targets_by before.world.log) effects
+    before.world.hosts) (oid level epoch : ℕ) (policy : Policy) (policy_so : policy_in effects oid ≡ Some policy) (below : level < epoch)
     (begun : epoch ≤ epoch_of before.world.log)
-    (came : (node : NodeId) → is_member node.0 (members_in before.world.log epoch) ≡ true → has_reached before.world.hosts epoch node ≡ true) where
+    (came : (node : NodeId) → is_member node.0 (members_in before.world.log epoch) ≡ true → has_reached before.world.hosts epoch node
+    ≡ true) where
   abbrev in_epoch : NodeId → Bool
   in_epoch node = is_member node.0 (members_in before.world.log epoch)
 
@@ -227,18 +232,21 @@ module _ (script : List Statement) (range : RunsAreInRange script) (start before
       by_test true holds =
           let no_more : i ≡ 0 + i = omega arith in
           inr (index_of_target before.world.log effects before.world.hosts placed oid level policy policy_so node holds
-          ∙ ap (option_map (index_at policy (kind_of oid))) (place_of targets i node (targets_apart_in before.world.log level oid policy is_log level_begun) at)
+          ∙ ap (option_map (index_at policy (kind_of oid))) (place_of targets i node
+          (targets_apart_in before.world.log level oid policy is_log level_begun) at)
           ∙ ap (λ (b : Bool). Some (cond b i 0)) strips ∙ ap (λ (k : ℕ). Some k) no_more)
       by_test false none = inl (none_held (tree.get before.world.hosts node.0) oid level none)
 
   pub stays_passed : length (indexes_held (targets_by before.world.log) before.world.log before.world.hosts oid level epoch policy)
       < need_of policy (kind_of oid)
-      → length (indexes_held (targets_by after.world.log) after.world.log after.world.hosts oid level epoch policy) < need_of policy (kind_of oid)
+      → length (indexes_held (targets_by after.world.log) after.world.log after.world.hosts oid level epoch policy) < need_of policy
+      (kind_of oid)
   stays_passed few =
       let same : length (indexes_held (targets_by after.world.log) after.world.log after.world.hosts oid level epoch policy)
       ≡ length (held index_now in_epoch [] targets)
       = λ i. length (fold with_number [] (filter_map index_now
-      (filter (λ (node : NodeId). is_member node.0 (same_members before.world.log after.world.log grows some epoch begun i)) (same_targets i)))) in
+      (filter (λ (node : NodeId). is_member node.0 (same_members before.world.log after.world.log grows some epoch begun i))
+      (same_targets i)))) in
       let most = no_more_fold [] (filter_map index_now (filter in_epoch targets)) in
       let fewer = fewer_now in
       by_strips (is_in_strips policy (kind_of oid)) refl same most fewer
@@ -266,10 +274,12 @@ module _ (script : List Statement) (range : RunsAreInRange script) (start before
 
 -- ---- what the invariant says was passed
 
-module _ (script : List Statement) (range : RunsAreInRange script) (events : List Event) (start before after : MomentWithPast)
-    (is : run_with_past script events ≡ Some start) (trail : MomentTrail script start before) (change : MomentChange script start before after)
+module _ (script : List Statement) (range : RunsAreInRange script) (events : List Move) (start before after : MomentWithPast)
+    (is : run_with_past script events ≡ Some start) (trail : MomentTrail script start before)
+    (change : MomentChange script start before after)
     (good : ℕ → Bool)
-    (lack : PassedLevelsLackRows (targets_by before.world.log) before.world.log (log_effects before.world.log) good before.world.hosts) where
+    (lack : PassedLevelsLackRows (targets_by before.world.log) before.world.log (log_effects before.world.log) good
+    before.world.hosts) where
   terms : TermsHold before
   terms = on_the_way script TermsHold (kept_terms script range) events start before is trail
 
@@ -279,22 +289,26 @@ module _ (script : List Statement) (range : RunsAreInRange script) (events : Lis
     listed true so = refl
     listed false unlisted =
         let none : search_on (recovery_state_of was.node) ≡ None
-        = ap (still_on was.node.peer.pending) ((listing-on_the_way script range events start before is trail).search n was at up unlisted) in
+        = ap (still_on was.node.peer.pending) ((listing-on_the_way script range events start before is trail).search n was at up
+        unlisted) in
         absurd (cc (none, on))
 
-    pub still_passed : (policy : Policy) (level : ℕ) → good search.oid ≡ true → policy_in (log_effects before.world.log) search.oid ≡ Some policy
+    pub still_passed : (policy : Policy) (level : ℕ) → good search.oid ≡ true
+        → policy_in (log_effects before.world.log) search.oid ≡ Some policy
         → search.level < level → level < was.node.recovery.epoch
-        → length (indexes_held (targets_by after.world.log) after.world.log after.world.hosts search.oid level was.node.recovery.epoch policy)
+        → length (indexes_held (targets_by after.world.log) after.world.log after.world.hosts search.oid level was.node.recovery.epoch
+        policy)
         < need_of policy (kind_of search.oid)
     still_passed policy level good_so policy_so passed below =
-        let later : 1 < was.node.recovery.epoch = (let above = (search_first-on_the_way script range events start before is trail).above n was at up search on in omega (arith, above, passed, below)) in
+        let later : 1 < was.node.recovery.epoch = (let above = (search_first-on_the_way script range events start before is trail).above n
+        was at up search on in omega (arith, above, passed, below)) in
         let own : was.node.recovery.epoch ≡ was.node.peer.epoch
         = recovers_own before.world.log n was (terms.sound.each n was at) (terms.stood.stood n was at up) later in
         let most = epoch_within before.world.log n was.node.me was.node.peer (terms.sound.each n was at).read in
-        stays_passed script range start before after (began-with_past script events start is) change (log_grows script change) terms.stood.some
-        (on_the_way script (λ (m : MomentWithPast). IsLog m.world.log) (kept_log script range) events start before is trail)
-        (log_effects before.world.log) (placed-on_the_way script range events start before is trail) search.oid level was.node.recovery.epoch policy policy_so below
-        (omega (arith, own, most))
+        stays_passed script range start before after (began-with_past script events start is) change (log_grows script change)
+        terms.stood.some (on_the_way script (λ (m : MomentWithPast). IsLog m.world.log) (kept_log script range) events start before is
+        trail) (log_effects before.world.log) (placed-on_the_way script range events start before is trail) search.oid level
+        was.node.recovery.epoch policy policy_so below (omega (arith, own, most))
         (members_came before.world.log before.world.hosts (are_present before terms.sound) terms.answers.answered n was at
         (listed (is_listed was.node.recovery) refl) later)
         (lack.each n was at up search policy level on good_so policy_so passed below)

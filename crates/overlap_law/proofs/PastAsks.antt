@@ -24,7 +24,8 @@ use Rattle.sheep_node.proofs.StepChain.{step_chain}
 use Rattle.sheep_world.specs.World.{Host, World, is_host_up}
 use Rattle.sheep_world.specs.Opening.{initial_member_node}
 use Rattle.sheep_world.specs.WireMatch.{asked_by, asked_by_gateway, asked_by_recovery}
-use Rattle.sheep_world.specs.NodeCauses.{NodeCause, GuestAsks, RequestComes, ReplyComes, LossIsTold, EntryIsRead, EntryIsPut, RecoveryTicks, WorkIsRetried, input_of_cause, event_of_cause, IsCause, world_after_cause}
+use Rattle.sheep_world.specs.NodeCauses.{NodeCause, GuestAsks, RequestComes, ReplyComes, LossIsTold, EntryIsRead, EntryIsPut, RecoveryTicks}
+use Rattle.sheep_world.specs.NodeCauses.{WorkIsRetried, ClientAsks, input_of_cause, event_of_cause, IsCause, world_after_cause}
 use Rattle.sheep_world.specs.EventKinds.{log_after_return, outcome_of_step}
 use Rattle.sheep_world.specs.HostChanges.{HostsKeep}
 use Rattle.sheep_world.specs.Began.{Began}
@@ -97,7 +98,8 @@ module _ (script : List Statement) (range : RunsAreInRange script) (world : Worl
 
     by_changes : (cause : NodeCause) → StepsByChanges cause → SendsInThePast (input_of_cause cause) host.node
     by_changes cause by send there =
-        no_more (sends_in_epoch (received_nothing cause host.node by).1 (node_step (input_of_cause cause) host.node) (step_chain (input_of_cause cause) host.node) send there)
+        no_more (sends_in_epoch (received_nothing cause host.node by).1 (node_step (input_of_cause cause) host.node)
+        (step_chain (input_of_cause cause) host.node) send there)
 
     no_sends : (sends : List (NodeId × PeerReq)) → sends ≡ [] → {P : Type 0} (send : NodeId × PeerReq) → Contains sends send → P
     no_sends sends none send there = absurd (Contains-nil send (subst (λ (all : List (NodeId × PeerReq)). Contains all send) none there))
@@ -109,12 +111,14 @@ module _ (script : List Statement) (range : RunsAreInRange script) (world : Worl
     sends_past (ReplyComes name from rsp) rises send there = by_changes (ReplyComes name from rsp) tt send there
     sends_past (LossIsTold name packet) rises send there = by_changes (LossIsTold name packet) tt send there
     sends_past (EntryIsRead entry) rises send there = by_changes (EntryIsRead entry) tt send there
-    sends_past (EntryIsPut entry) rises send there = no_sends (node_step inputs.Put host.node).outputs.sends (put_sends host.node) send there
+    sends_past (EntryIsPut entry) rises send there =
+        no_sends (node_step inputs.Put host.node).outputs.sends (put_sends host.node) send there
     sends_past RecoveryTicks rises send there =
         let own = ticked_in_epoch host.node send there in
         let before = past.recovers in
         omega (arith, own, before, rises)
     sends_past WorkIsRetried rises send there = by_changes WorkIsRetried tt send there
+    sends_past (ClientAsks req ask) rises send there = by_changes (ClientAsks req ask) tt send there
 
     asks_after : (cause : NodeCause) → tree.get world.hosts n ≡ Some host → is_host_up host ≡ true → IsCause script world n host cause
         → Began script (world_after_cause script n host cause world) → AsksInThePast (node_step (input_of_cause cause) host.node).node
@@ -139,27 +143,31 @@ module _ (script : List Statement) (range : RunsAreInRange script) where
   asks_kept : HostsKeep script (Began script) AsksWhereBegun
   asks_kept = record {
     opens = λ member begun.
-        idle_asks member.node (tries_of script) (initial_member_node script member) (stepped_idle member.node (tries_of script) (opening_members script));
+        idle_asks member.node (tries_of script) (initial_member_node script member)
+        (stepped_idle member.node (tries_of script) (opening_members script));
     stays = λ event world made h began n host so begun. so began;
-    steps = λ world n host cause began there up caused so next. asks_after script range world began n host (so began) cause there up caused next;
+    steps = λ world n host cause began there up caused so next. asks_after script range world began n host (so began) cause there up caused
+        next;
     fails = λ world n host began so. so;
     returns = λ world n host began there so next.
         let log = log_after_return script n world in
         asks_nothing (node_step (inputs.Back log) host.node).node
-        (asked_by-renewed host.node.me host.node.gateway.tries (node_step (inputs.Back log) host.node).node (stepped_renewed log host.node).node_so)
-        (no_more (back_recovers log host.node));
+        (asked_by-renewed host.node.me host.node.gateway.tries (node_step (inputs.Back log) host.node).node
+        (stepped_renewed log host.node).node_so) (no_more (back_recovers log host.node));
     joins = λ world n began control next.
-        asks_nothing (nodes.initial_node (record { 0 = n }) (tries_of script)) (asked_by-opening (record { 0 = n }) (tries_of script)) (no_more refl);
+        asks_nothing (nodes.initial_node (record { 0 = n }) (tries_of script)) (asked_by-opening (record { 0 = n }) (tries_of script))
+        (no_more refl);
   }
 
-  pub asks_in_past : (world : World) → Began script world → (n : ℕ) (host : Host) → tree.get world.hosts n ≡ Some host → AsksInThePast host.node
+  pub asks_in_past : (world : World) → Began script world → (n : ℕ) (host : Host) → tree.get world.hosts n ≡ Some host
+      → AsksInThePast host.node
   asks_in_past world began n host there =
       each_where script (Began script) AsksWhereBegun (λ world begun. begun) asks_kept world began n host there began
 
   pub step_in_past : (world : World) (began : Began script world) (stepping : SteppingNode) → IsStepping script world stepping
       → SendsInThePast (input_of_cause stepping.cause) stepping.host.node
   step_in_past world began stepping is =
-      sends_past script range world began stepping.n stepping.host (asks_in_past world began stepping.n stepping.host is.there) stepping.cause
-      (stepped_rises script range world began stepping.n stepping.host stepping.cause is.there
+      sends_past script range world began stepping.n stepping.host (asks_in_past world began stepping.n stepping.host is.there)
+      stepping.cause (stepped_rises script range world began stepping.n stepping.host stepping.cause is.there
       (goes_on script (event_of_cause stepping.n stepping.cause) world
       (outcome_of_step script stepping.n stepping.host stepping.cause world) began is.made))

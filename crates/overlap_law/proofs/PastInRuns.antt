@@ -3,9 +3,9 @@ use Rattle.std.proofs.Common.{◌≡◌, List, Some}
 use Rattle.cluster_script.specs.declared.statement.Statement.{Statement}
 use Rattle.message_wire.specs.declared.packet.Packet.TheVariants.{Request}
 use Rattle.message_wire.specs.Message.{message_name}
-use Rattle.sheep_node.specs.declared.event.Event.{Event}
 use Rattle.sheep_world.specs.Began.{Began}
 use Rattle.sheep_world.specs.WireMatch.{asked_by}
+use Rattle.sheep_world.specs.RunsWithAsks.{Move}
 use Rattle.overlap_law.specs.Past.{MomentWithPast, run_with_past}
 use Rattle.overlap_law.specs.Flight.{FlyInThePast, RequestsAreOfThePast}
 use Rattle.overlap_law.specs.MomentChanges.{MomentChange, RunsAreInRange, KeptByChanges}
@@ -20,11 +20,12 @@ use Rattle.overlap_law.proofs.TrafficOfChanges.{traffic}
 use Rattle.overlap_law.proofs.TrafficPast.{traffic_past}
 
 module _ (script : List Statement) (range : RunsAreInRange script) where
-  pub change_past : (start before after : MomentWithPast) → Began script start.world → MomentChange script start before after → IsTied before
+  pub change_past : (start before after : MomentWithPast) → Began script start.world → MomentChange script start before after
+      → IsTied before
       → FlyInThePast before.world.hosts before.world.wire → FlyInThePast after.world.hosts after.world.wire
   change_past start before after began change tied past =
-      traffic_past before.world.hosts after.world.hosts before.world.wire before.past.attempts (epochs_rise script range start began change) tied.numbers.given past
-      (traffic script range start began change)
+      traffic_past before.world.hosts after.world.hosts before.world.wire before.past.attempts (epochs_rise script range start began change)
+      tied.numbers.given past (traffic script range start began change)
 
   abbrev Holds : MomentWithPast → Type 0
   Holds moment = IsTied moment × FlyInThePast moment.world.hosts moment.world.wire
@@ -43,7 +44,7 @@ module _ (script : List Statement) (range : RunsAreInRange script) where
         );
       }
 
-  pub past_in_run : (events : List Event) (moment : MomentWithPast) → run_with_past script events ≡ Some moment
+  pub past_in_run : (events : List Move) (moment : MomentWithPast) → run_with_past script events ≡ Some moment
       → RequestsAreOfThePast moment.world.hosts moment.world.wire
   past_in_run events moment is = record {
     flying = (run-kept script Holds kept_past events moment is).1;

@@ -20,7 +20,6 @@ use Rattle.peer_service.specs.State.{Peer}
 use Rattle.recovery.specs.Shown.{live_policy, first_in}
 use Rattle.recovery.specs.State.{Message, Search, Recovery, RecoveryState, search_at, all_unanswered, is_listed, search_on}
 use Rattle.recovery.specs.Tick.{asked_of, level_asked, level_messages, lists_asked, or_next, next_search, tick_messages}
-use Rattle.sheep_node.specs.declared.event.Event.{Event}
 use Rattle.sheep_node.specs.declared.input.Input.{Input}
 use Rattle.sheep_node.specs.declared.input.Input.TheVariants as inputs
 use Rattle.sheep_node.specs.State as nodes
@@ -37,6 +36,7 @@ use Rattle.sheep_world.specs.EventKinds.{log_after_return}
 use Rattle.sheep_world.specs.HostChanges.{HostsKeep}
 use Rattle.sheep_world.specs.Began.{Began}
 use Rattle.sheep_world.proofs.BegunWorlds.{each_where}
+use Rattle.sheep_world.specs.RunsWithAsks.{Move}
 use Rattle.overlap_law.specs.Past.{MomentWithPast, run_with_past}
 use Rattle.overlap_law.specs.MomentChanges.{MomentTrail, RunsAreInRange}
 use Rattle.overlap_law.proofs.FirstSearches.{is_on}
@@ -178,7 +178,7 @@ module _ (script : List Statement) (range : RunsAreInRange script) where
   abbrev IsOfThePast : ℕ → Recovery → Peer → Type 0
   IsOfThePast n recovery peer = AskOfThePast (all_unanswered recovery)
 
-  pub past-on_the_way : (events : List Event) (start moment : MomentWithPast) → run_with_past script events ≡ Some start
+  pub past-on_the_way : (events : List Move) (start moment : MomentWithPast) → run_with_past script events ≡ Some start
       → MomentTrail script start moment → (n : ℕ) (host : Host) → tree.get moment.world.hosts n ≡ Some host
       → AskOfThePast (all_unanswered host.node.recovery)
   past-on_the_way events start moment is trail = recoveries-on_the_way script IsOfThePast past-in_world events start moment is trail

@@ -1,6 +1,7 @@
 -- In every world of a run in range what is pending at a node is of its own epoch, by a finished list, and the node is a target of it: a
 -- node that recovers stays a member, until it is lost.
-use Rattle.std.proofs.Common.{◌≡◌, arith, ℕ, suc, ◌+◌, ◌≤◌, ◌<◌, true, List, [], ◌∷◌, ◌++◌, filter, length, Option, Some, None, option_map, refl, sym, ap, subst, ◌∙◌}
+use Rattle.std.proofs.Common.{◌≡◌, arith, ℕ, suc, ◌+◌, ◌≤◌, ◌<◌, true, List, [], ◌∷◌, ◌++◌, filter, length, Option, Some, None, option_map}
+use Rattle.std.proofs.Common.{refl, sym, ap, subst, ◌∙◌}
 use Rattle.std.specs.FinMap as tree
 use Rattle.std.proofs.lemmas.Option.{same_Some}
 use Rattle.object_id.specs.declared.entry.Entry.{Entry}
@@ -9,7 +10,6 @@ use Rattle.epoch_log.specs.Epochs.{begins_epoch, epoch_of, members_in}
 use Rattle.epoch_log.proofs.EpochLemmas.{epoch_of-append, members_in-append}
 use Rattle.cluster_script.specs.declared.statement.Statement.{Statement}
 use Rattle.cluster_script.specs.Settings.{tries_of}
-use Rattle.sheep_node.specs.declared.event.Event.{Event}
 use Rattle.sheep_node.specs.declared.input.Input.TheVariants as inputs
 use Rattle.sheep_node.specs.State as nodes
 use Rattle.sheep_node.specs.LogReading.{epoch_members, is_epoch_member, node_with_entry, entry_read}
@@ -19,7 +19,8 @@ use Rattle.sheep_node.proofs.PeerLog.{entries_reading}
 use Rattle.sheep_world.specs.World.{Host, World, is_host_up}
 use Rattle.sheep_world.specs.Opening.{format_entry, initial_world}
 use Rattle.sheep_world.specs.MembershipChanges.{join_of, last_weight}
-use Rattle.sheep_world.specs.NodeCauses.{NodeCause, GuestAsks, RequestComes, ReplyComes, LossIsTold, EntryIsRead, EntryIsPut, RecoveryTicks, WorkIsRetried, input_of_cause, IsCause}
+use Rattle.sheep_world.specs.NodeCauses.{NodeCause, GuestAsks, RequestComes, ReplyComes, LossIsTold, EntryIsRead, EntryIsPut, RecoveryTicks}
+use Rattle.sheep_world.specs.NodeCauses.{WorkIsRetried, ClientAsks, input_of_cause, IsCause}
 use Rattle.sheep_world.specs.EventKinds.{log_after_return}
 use Rattle.sheep_world.specs.HostChanges.{HostsKeep}
 use Rattle.sheep_world.specs.Run as runs
@@ -28,6 +29,7 @@ use Rattle.sheep_world.proofs.BegunWorlds.{each_where}
 use Rattle.sheep_world.proofs.LogFrontLaws.{all_read, read_one}
 use Rattle.sheep_world.proofs.NextEntries.{reads-may}
 use Rattle.sheep_world.proofs.NodesByTheLog.{by_the_log}
+use Rattle.sheep_world.specs.RunsWithAsks.{Move}
 use Rattle.overlap_law.specs.Past.{MomentWithPast, no_past, run_with_past, without_past}
 use Rattle.overlap_law.specs.MomentChanges.{RunsAreInRange, Still}
 use Rattle.overlap_law.specs.NodeEpochs.{TheUpHaveStayed}
@@ -40,20 +42,20 @@ use Rattle.overlap_law.proofs.TermsInRuns.{stayed-on_the_way}
 
 -- a world that a run reaches has a past
 pub record HasPast (script : List Statement) (world : World) : Type 0 where
-  pub events : List Event
+  pub events : List Move
   pub moment : MomentWithPast
   pub is : run_with_past script events ≡ Some moment
   pub world_so : moment.world ≡ world
 
 pub has_past : (script : List Statement) (world : World) → Began script world → HasPast script world
 has_past script world began =
-    by_moment (run_with_past script began.events) refl (past-follows script began.events ∙ began.runs)
+    by_moment (run_with_past script began.moves) refl (past-follows script began.moves ∙ began.runs)
   where
-    by_moment : (o : Option MomentWithPast) → run_with_past script began.events ≡ o → option_map without_past o ≡ Some began.moment
+    by_moment : (o : Option MomentWithPast) → run_with_past script began.moves ≡ o → option_map without_past o ≡ Some began.moment
         → HasPast script world
     by_moment None is same = absurd (cc (same))
     by_moment (Some moment) is same = record {
-      events = began.events;
+      events = began.moves;
       moment = moment;
       is = is;
       world_so = ap (λ (m : runs.Moment). m.world) (same_Some (without_past moment) began.moment same) ∙ began.world_so;
@@ -125,6 +127,7 @@ module _ (script : List Statement) (range : RunsAreInRange script) where
   may_know world began n host there up knows (EntryIsPut entry) so = tt
   may_know world began n host there up knows RecoveryTicks so = so
   may_know world began n host there up knows WorkIsRetried so = tt
+  may_know world began n host there up knows (ClientAsks req ask) so = tt
 
   back_above : (world : World) (n : ℕ) → 1 < epoch_of (log_after_return script n world)
   back_above world n =

@@ -1,6 +1,7 @@
 -- What is pending at a node, its recovery is to find: the recovery is of the node's own epoch, its list is finished, and the node is a
 -- target of each pending object. Each step of a node leaves it so, if a node stays a member.
-use Rattle.std.proofs.Common.{◌≡◌, ⊎_elim, arith, ℕ, ◌+◌, ◌≤◌, ◌<◌, ◌==◌, ◌&&◌, ◌||◌, nat_lt, Bool, true, false, not, cond, List, [], ◌∷◌, ◌++◌, length, map, Option, Some, None, is_some, refl, sym, ap, subst, ◌∙◌}
+use Rattle.std.proofs.Common.{◌≡◌, ⊎_elim, arith, ℕ, ◌+◌, ◌≤◌, ◌<◌, ◌==◌, ◌&&◌, ◌||◌, nat_lt, Bool, true, false, not, cond, List, [], ◌∷◌}
+use Rattle.std.proofs.Common.{◌++◌, length, map, Option, Some, None, is_some, refl, sym, ap, subst, ◌∙◌}
 use Rattle.std.specs.Option.{option_map, option_map_or}
 use Rattle.std.proofs.lemmas.Bool.{cases_lt, eq-eqb, ne_eqb, and_parts, not-true}
 use Rattle.proof_tools.proofs.Booleans.{cond_either}
@@ -39,7 +40,8 @@ use Rattle.sheep_node.specs.declared.input.Input.TheVariants as inputs
 use Rattle.sheep_node.specs.State.{Node, initial_node}
 use Rattle.sheep_node.specs.RecoveryView.{PlacedPeer, shown_peer, placed_peer_of, recovery_state_of, with_recovered_rows}
 use Rattle.sheep_node.specs.StepState.{StepState, at_first}
-use Rattle.sheep_node.specs.LogReading.{epoch_members, is_epoch_member, entered_in, epochs_with_entry, peer_with_entry, node_with_entry, recovery_in_epoch, recovery_with_entry, with_settled, entry_read, come_back_with, on_back}
+use Rattle.sheep_node.specs.LogReading.{epoch_members, is_epoch_member, entered_in, epochs_with_entry, peer_with_entry, node_with_entry}
+use Rattle.sheep_node.specs.LogReading.{recovery_in_epoch, recovery_with_entry, with_settled, entry_read, come_back_with, on_back}
 use Rattle.sheep_node.specs.May.{may_tick}
 use Rattle.sheep_node.specs.Step.{on_request, recovery_stepped, on_put, on_recover_tick, node_step}
 use Rattle.sheep_node.specs.Changes.{input_received}

@@ -1,6 +1,7 @@
 -- What is pending is what the node is a target of in the epoch that its recovery recovers, whatever the recovery finds; and where
 -- nothing is pending, the recovery makes no rows.
-use Rattle.std.proofs.Common.{◌≡◌, ⊎_elim, ℕ, ◌==◌, ◌||◌, Bool, true, false, not, cond, List, [], ◌∷◌, filter, Option, Some, None, is_some, refl, sym, ap, ◌∙◌}
+use Rattle.std.proofs.Common.{◌≡◌, ⊎_elim, ℕ, ◌==◌, ◌||◌, Bool, true, false, not, cond, List, [], ◌∷◌, filter, Option, Some, None, is_some}
+use Rattle.std.proofs.Common.{refl, sym, ap, ◌∙◌}
 use Rattle.std.specs.FinMap as tree
 use Rattle.std.specs.List.{list_any}
 use Rattle.std.specs.Option.{option_map, option_map_or}
@@ -16,7 +17,8 @@ use Rattle.peer_proto.specs.declared.ask.PeerAsk.{PeerAsk}
 use Rattle.peer_proto.specs.declared.ask.PeerAsk.TheVariants as asks
 use Rattle.peer_proto.specs.declared.say.PeerSay.{PeerSay}
 use Rattle.peer_proto.specs.declared.say.PeerSay.TheVariants as says
-use Rattle.recovery.specs.Shown.{NodeView, live_policy, first_in, is_pending_object, index_in, lacks_part, lacks_own_part, is_to_recover, shown_with_pending}
+use Rattle.recovery.specs.Shown.{NodeView, live_policy, first_in, is_pending_object, index_in, lacks_part, lacks_own_part, is_to_recover}
+use Rattle.recovery.specs.Shown.{shown_with_pending}
 use Rattle.recovery.specs.State.{Message, Search, RecoveryState, still_on, search_on, is_listed, message_of}
 use Rattle.recovery.specs.Level.{searching}
 use Rattle.recovery.specs.Steps.{to_recover, without_unanswered, after_list, after_read, after_ask, message_end}

@@ -1,5 +1,5 @@
--- What creates the own object of a write's piece creates it of the piece, by the table of the disk that its session has open: of a hole with
--- the piece in it, or laid over what was read of the other disk's object that the table has. So it is over each change of a step: the
+-- What creates the own object of a write's piece creates it of the piece, by the table of the disk that its session has open: of a hole
+-- with the piece in it, or laid over what was read of the other disk's object that the table has. So it is over each change of a step: the
 -- entry of the piece stays, since what other requests of the session write is at other objects.
 use Rattle.std.proofs.Common.{◌≡◌, ◌≢◌, inl, ℕ, ◌==◌, ◌++◌, ◌^◌, Bool, true, false, cond, List, [], ◌∷◌, length, All, Option, Some, None}
 use Rattle.std.proofs.Common.{IfSome, refl, sym, ap, subst, ◌∙◌}
@@ -37,7 +37,8 @@ use Rattle.gateway.specs.Attempt.{Attempt}
 use Rattle.gateway.specs.State.{Work}
 use Rattle.gateway.specs.declared.message.Status.{Status}
 use Rattle.sheep_node.specs.declared.ask.Ask.TheVariants as asks
-use Rattle.sheep_node.specs.Changes.{IsSoundStep, HasRequest, EndsWork, Outcome, ToWork, ToEntry, ToReply, outcome_of_driver, outcome_of_command}
+use Rattle.sheep_node.specs.Changes.{IsSoundStep, HasRequest, EndsWork, Outcome, ToWork, ToEntry, ToReply, outcome_of_driver}
+use Rattle.sheep_node.specs.Changes.{outcome_of_command}
 use Rattle.sheep_node.specs.Changes.{without_ended_work, DiskBegins, DiskGoesOn, CommandBegins, CommandGoesOn, CommandDecided}
 use Rattle.sheep_node.specs.Changes.{CheckBegins, CheckGoesOn, ObjectBegins, ObjectIsDone, EntryBegins, EntryDecided}
 use Rattle.sheep_node.specs.Courses.{after_driver_step, after_command_step, disk_after, inode_open}

@@ -15,9 +15,9 @@ use Rattle.sheep_node.specs.SoundWorks.{IsSoundCourse}
 use Rattle.sheep_node.specs.declared.course.Course.{Course}
 use Rattle.sheep_node.specs.declared.course.Course.TheVariants.{Driving}
 use Rattle.sheep_node.specs.declared.course.Request.{Request}
-use Rattle.sheep_node.specs.declared.event.Event.{Event}
 use Rattle.sheep_world.specs.Began.{Began}
 use Rattle.sheep_world.specs.World.{Host}
+use Rattle.sheep_world.specs.RunsWithAsks.{Move}
 use Rattle.overlap_law.specs.CreatedPieces.{anything}
 use Rattle.overlap_law.specs.MomentChanges.{MomentTrail, RunsAreInRange}
 use Rattle.overlap_law.specs.Past.{MomentWithPast, run_with_past}
@@ -33,7 +33,7 @@ use Rattle.overlap_law.proofs.TablesOfReads.{reading_along}
 use Rattle.overlap_law.proofs.WaitedSteps.{Waits}
 use Rattle.overlap_law.proofs.WorksInMoments.{well_along}
 
-module _ (script : List Statement) (range : RunsAreInRange script) (events : List Event) (start moment : MomentWithPast)
+module _ (script : List Statement) (range : RunsAreInRange script) (events : List Move) (start moment : MomentWithPast)
     (is : run_with_past script events ≡ Some start) (trail : MomentTrail script start moment) (n : ℕ) (host : Host)
     (there : tree.get moment.world.hosts n ≡ Some host) (up : host.is_lost ≡ false) (req : ℕ) (request : Request) (work : Work)
     (payload : List ℕ) (piece : Piece) (rest : List Piece) (asked : tree.get host.node.requests req ≡ Some request)
@@ -71,7 +71,7 @@ module _ (script : List Statement) (range : RunsAreInRange script) (events : Lis
       (creates_of_pieces script range events start moment is trail n host there up req work request waits.0.disk payload piece rest got
       asked waits.0.there course)
 
-pub created-in_run : (script : List Statement) → RunsAreInRange script → (events : List Event) (start moment : MomentWithPast)
+pub created-in_run : (script : List Statement) → RunsAreInRange script → (events : List Move) (start moment : MomentWithPast)
     → run_with_past script events ≡ Some start → MomentTrail script start moment → CreatesHavePieces moment.world.hosts
 created-in_run script range events start moment is trail = record {
   each = λ n host there up req request work payload piece rest asked course got.

@@ -29,6 +29,7 @@ use Rattle.sheep_world.specs.HostChanges.{host_after_step}
 use Rattle.sheep_world.specs.Began.{Began, IsInvariant}
 use Rattle.sheep_world.proofs.BegunWorlds.{goes_on, by_induction}
 use Rattle.sheep_world.proofs.LogFrontLaws.{all_read}
+use Rattle.sheep_world.proofs.LogAtOpening.{nodes-valid}
 use Rattle.overlap_law.specs.MomentChanges.{RunsAreInRange}
 use Rattle.overlap_law.specs.PiecesInRange.{PiecesEndInRows, PiecesAreInRange}
 use Rattle.overlap_law.proofs.CausedWorks.{IsNotServed}
@@ -98,7 +99,8 @@ module _ (script : List Statement) (range : RunsAreInRange script) where
           (from_beginning script range world began n host there up cause not caused (turn_whole input host.node) so_far leads session req
           asked lined comes)
           (work_known input host.node reservable
-          (caused_known script range.is_script (effects_after input host.node) world n host cause caused)
+          (caused_known script range.is_script (effects_after input host.node) world n host cause
+          (nodes-valid script range.is_script range.room world began n host there) caused)
           (nodes_know script range world began n host there) so_far leads session req asked lined comes) index))) received
 
     steps_send_pieces : StepsSendSo IsPieceBy script world

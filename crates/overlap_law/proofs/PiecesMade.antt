@@ -24,11 +24,11 @@ use Rattle.sheep_node.specs.StepState.{StepState}
 use Rattle.sheep_node.specs.declared.course.Course.{Course}
 use Rattle.sheep_node.specs.declared.course.Course.TheVariants.{Waiting, Driving, Commanding, Checking, DoingWork, AwaitingDecision}
 use Rattle.sheep_node.specs.declared.course.Request.{Request}
-use Rattle.sheep_node.specs.declared.event.Event.{Event}
 use Rattle.sheep_node.proofs.OneWorkParts.{Requests, Sessions}
 use Rattle.sheep_world.specs.Began.{Began}
 use Rattle.sheep_world.specs.NodeCauses.{input_of_cause, host_with_node}
 use Rattle.sheep_world.specs.World.{Host}
+use Rattle.sheep_world.specs.RunsWithAsks.{Move}
 use Rattle.overlap_law.specs.CreatedPieces.{OfFetched, anything, CreatesPiece, OfHole, OfCopy, CreatesAreOf, CreatesAreOfPieces}
 use Rattle.overlap_law.specs.MomentChanges.{MomentChange, MomentTrail, RunsAreInRange}
 use Rattle.overlap_law.specs.Past.{MomentWithPast, first_moment, run_with_past}
@@ -68,7 +68,7 @@ module _ (Fetched : OfFetched) where
 
   -- ---- over a change
 
-  module _ (script : List Statement) (range : RunsAreInRange script) (events : List Event) (start before after : MomentWithPast)
+  module _ (script : List Statement) (range : RunsAreInRange script) (events : List Move) (start before after : MomentWithPast)
       (ran : run_with_past script events ≡ Some start) (trail : MomentTrail script start before)
       (change : MomentChange script start before after) (fetched : FetchesAreAsked script start before) (all : ArePiecesMade before)
     where
@@ -106,8 +106,8 @@ module _ (Fetched : OfFetched) where
               once = queues.once;
               covered = queues.covered;
               fetches = λ session req number work attempt status payload bytes piece rest disk ends on.
-                  fetched g.stepping g.so_far g.is g.by g.within.leads g.before_so session req number work attempt status payload bytes piece
-                  rest disk ends on;
+                  fetched g.stepping g.so_far g.is g.by g.within.leads g.before_so session req number work attempt status payload bytes
+                  piece rest disk ends on;
             }
 
         own : AtSoFar (MakesPieceOf Fetched) g.next
@@ -219,7 +219,7 @@ module _ (Fetched Asked : OfFetched) (more : (vid : ℕ) (spec : VdiSpec) (home 
 
 -- ---- in every run
 
-pub pieces-in_run : (script : List Statement) → RunsAreInRange script → (events : List Event) (start moment : MomentWithPast)
+pub pieces-in_run : (script : List Statement) → RunsAreInRange script → (events : List Move) (start moment : MomentWithPast)
     → run_with_past script events ≡ Some start → MomentTrail script start moment → ArePiecesMade anything moment
 pieces-in_run script range events start moment ran trail =
     kept_on_the_way script (ArePiecesMade anything) (pieces_open anything script)
@@ -228,7 +228,7 @@ pieces-in_run script range events start moment ran trail =
     (λ stepping so_far is by leads same session req number work attempt status payload bytes piece rest disk ends on. tt) all)
     events start moment ran trail
 
-pub creates_of_pieces : (script : List Statement) → RunsAreInRange script → (events : List Event) (start moment : MomentWithPast)
+pub creates_of_pieces : (script : List Statement) → RunsAreInRange script → (events : List Move) (start moment : MomentWithPast)
     → run_with_past script events ≡ Some start → MomentTrail script start moment → CreatesAreOfPieces moment.world.hosts
 creates_of_pieces script range events start moment ran trail =
     creates_so anything moment (pieces-in_run script range events start moment ran trail)

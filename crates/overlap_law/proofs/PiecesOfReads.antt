@@ -40,7 +40,6 @@ use Rattle.vdi_directory.specs.States.{state_of, is_live_state}
 use Rattle.sheep_node.specs.declared.course.Course.{Course}
 use Rattle.sheep_node.specs.declared.course.Course.TheVariants.{Waiting, Driving}
 use Rattle.sheep_node.specs.declared.course.Request.{Request}
-use Rattle.sheep_node.specs.declared.event.Event.{Event}
 use Rattle.sheep_node.specs.declared.session.Session.{Session}
 use Rattle.sheep_node.specs.Changes.{HasRequest, EndsWork}
 use Rattle.sheep_node.specs.SessionQueues.{session_among, queue_in}
@@ -51,6 +50,7 @@ use Rattle.sheep_node.proofs.SessionViews.{IsSeen}
 use Rattle.sheep_world.specs.Began.{Began}
 use Rattle.sheep_world.specs.NodeCauses.{host_with_node, input_of_cause}
 use Rattle.sheep_world.specs.World.{Host}
+use Rattle.sheep_world.specs.RunsWithAsks.{Move}
 use Rattle.overlap_law.specs.Attempts.{AttemptRecord}
 use Rattle.overlap_law.specs.BornObjects.{IsBorn}
 use Rattle.overlap_law.specs.Courses.{WaitsFor}
@@ -113,7 +113,7 @@ read_on_disk opened told piece rest work waits disk on =
     awaited_piece waits.disk told piece rest work waits.awaited
     ∙ ap (λ (d : Disk). read_piece d.inode piece (entry_of d.inode piece)) same
 
-module _ (script : List Statement) (range : RunsAreInRange script) (events : List Event) (start : MomentWithPast)
+module _ (script : List Statement) (range : RunsAreInRange script) (events : List Move) (start : MomentWithPast)
     (run : run_with_past script events ≡ Some start) (good_id : ℕ → Bool)
     (fewer : CallsFewer good_id (is_available_disk start.world.log start.past.unavailable))
     (closed : AboveIsGood (log_effects start.world.log) good_id) (before : MomentWithPast) (trail : MomentTrail script start before) where
@@ -341,7 +341,7 @@ module _ (script : List Statement) (range : RunsAreInRange script) (events : Lis
               (subst (λ (k : Kind). unit_end k unit ≤ piece.offset + piece.size) (sym kind_so) under) some_size in
               piece_to_come script range events start run stepping is by so_far leads trail_here (good_at start)
               (told_pieces-in_run script range events start run) session req number work attempt status (Driving (Reads told piece rest))
-              bytes ends disk.inode (entry_of disk.inode piece) piece is_read is_vid few whole blocks ledger effects good_id
+              bytes ends disk.inode (entry_of disk.inode piece) piece is_read is_vid few whole blocks refl ledger effects good_id
               (good_object born) so_far.node.peer.epoch created some_size
 
           copies_come : PieceIsToCome ledger effects good_id before.world.hosts before.past.attempts disk.inode (entry_of disk.inode piece)

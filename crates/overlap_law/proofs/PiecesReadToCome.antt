@@ -18,10 +18,10 @@ use Rattle.gateway.specs.State.{Work}
 use Rattle.guest_driver.specs.Pieces.{Piece, AreBlocks}
 use Rattle.guest_driver.specs.PieceWorks.{read_piece}
 use Rattle.sheep_node.specs.declared.course.Course.{Course}
-use Rattle.sheep_node.specs.declared.event.Event.{Event}
 use Rattle.sheep_node.specs.Changes.{EndsWork}
 use Rattle.sheep_node.specs.StepState.{StepState}
 use Rattle.sheep_world.specs.NodeCauses.{input_of_cause}
+use Rattle.sheep_world.specs.RunsWithAsks.{Move}
 use Rattle.overlap_law.specs.Fates.{IsCreated}
 use Rattle.overlap_law.specs.MomentChanges.{MomentTrail, RunsAreInRange}
 use Rattle.overlap_law.specs.Past.{MomentWithPast, run_with_past}
@@ -31,8 +31,9 @@ use Rattle.overlap_law.specs.ToldReads.{PieceIsToCome}
 use Rattle.overlap_law.specs.Units.{unit_start, unit_size, unit_end}
 use Rattle.overlap_law.proofs.KnownDisks.{kind-of_object}
 use Rattle.overlap_law.proofs.ReadUnits.{read_size, read_unit}
+use Rattle.overlap_law.specs.RequestsOfScript.{is_of_client}
 
-module _ (script : List Statement) (range : RunsAreInRange script) (events : List Event) (start : MomentWithPast)
+module _ (script : List Statement) (range : RunsAreInRange script) (events : List Move) (start : MomentWithPast)
     (ran : run_with_past script events ≡ Some start) (stepping : SteppingNode) (is : IsStepping script start.world stepping)
     (by : StepsByChanges stepping.cause) (so_far : StepState) (leads : LeadsInStep stepping (first_in_step stepping) so_far)
     (trail : MomentTrail script start (moment_in_step script stepping start so_far)) (good : ℕ → Bool)
@@ -41,7 +42,7 @@ module _ (script : List Statement) (range : RunsAreInRange script) (events : Lis
     (ends : EndsWork (input_of_cause stepping.cause) stepping.host.node so_far session req number work attempt status course bytes)
     (inode : Content) (home : ℕ) (piece : Piece) (is_read : work.work ≡ read_piece inode piece home) (is_vid : IsVid home)
     (few : piece.index < OBJECTS_MAX) (whole : is_in_strips inode.spec.policy Block ≡ false)
-    (blocks : AreBlocks piece) where
+    (blocks : AreBlocks piece) (own : is_of_client course ≡ false) where
   abbrev here : MomentWithPast
   here = moment_in_step script stepping start so_far
 
@@ -67,7 +68,7 @@ module _ (script : List Statement) (range : RunsAreInRange script) (events : Lis
         let size_so : piece.size % 512 ≡ 0 = blocks.size in
         let below : BLOCK_BYTES * unit + BLOCK_BYTES ≤ piece.offset + piece.size = omega (arith, less, offset_so, size_so) in
         let found = read_unit script range events start ran stepping is by so_far leads trail good told session req number work attempt
-        status course bytes ends oid inode.spec.policy piece.offset piece.size is_read in_copies is_good epoch unit created
+        status course bytes ends oid inode.spec.policy piece.offset piece.size is_read in_copies own is_good epoch unit created
         (subst (λ (k : Kind). piece.offset ≤ unit_start k unit) (sym kind_so) above)
         (subst (λ (k : Kind). unit_end k unit ≤ piece.offset + piece.size) (sym kind_so) below) some in (
           found.place,

@@ -92,9 +92,11 @@ module _ (log : List Entry) (hosts : Hosts) (wire : Wire) (attempts : List Attem
 pub unit_in_piece : (policy : Policy) (kind : Kind) (row bytes : List ℕ) (offset size unit : ℕ)
     → piece_at row (part_size policy kind offset) size ≡ bytes
     → part_size policy kind offset ≤ part_size policy kind (unit_start kind unit)
-    → part_size policy kind (unit_start kind unit) + part_size policy kind (unit_size kind unit) ≤ part_size policy kind offset + length bytes
+    → part_size policy kind (unit_start kind unit) + part_size policy kind (unit_size kind unit) ≤ part_size policy kind offset + length
+    bytes
     → row_bytes_at policy kind unit row
-    ≡ piece_at bytes (part_size policy kind (unit_start kind unit) - part_size policy kind offset) (part_size policy kind (unit_size kind unit))
+    ≡ piece_at bytes (part_size policy kind (unit_start kind unit) - part_size policy kind offset)
+    (part_size policy kind (unit_size kind unit))
 unit_in_piece policy kind row bytes offset size unit cut above below =
     let from : ℕ = part_size policy kind offset in
     let start : ℕ = part_size policy kind (unit_start kind unit) in

@@ -1,6 +1,7 @@
 -- In each run in range what a write has still to write has its open items, piece by piece: it is on a working disk that its session has
 -- open.
-use Rattle.std.proofs.Common.{◌≡◌, ℕ, ◌%◌, ◌==◌, not, ◌&&◌, List, ◌∷◌, length, Option, Some, None, refl, sym, ap, subst, ◌∙◌, arith, Bool, false}
+use Rattle.std.proofs.Common.{◌≡◌, ℕ, ◌%◌, ◌==◌, not, ◌&&◌, List, ◌∷◌, length, Option, Some, None, refl, sym, ap, subst, ◌∙◌, arith, Bool}
+use Rattle.std.proofs.Common.{false}
 use Rattle.std.specs.Prelude.{slice_get}
 use Rattle.std.specs.Option.{option_and_then}
 use Rattle.std.proofs.lemmas.Bool.{and_parts, eqb-true}
@@ -15,21 +16,22 @@ use Rattle.peer_proto.specs.declared.guest.DiskAsk.TheVariants as disk_asks
 use Rattle.sheep_node.specs.declared.ask.Ask.TheVariants as asks
 use Rattle.sheep_node.specs.declared.course.Course.{Course}
 use Rattle.sheep_node.specs.declared.course.Course.TheVariants.{Waiting, Driving, Commanding, Checking, DoingWork, AwaitingDecision}
-use Rattle.sheep_node.specs.declared.event.Event.{Event}
+use Rattle.sheep_node.specs.SessionQueues.{session_among}
 use Rattle.sheep_world.specs.World.{Host}
 use Rattle.sheep_world.specs.Asking.{ask_of_statement}
 use Rattle.sheep_world.specs.HistoryAdditions.{block_in}
+use Rattle.sheep_world.specs.RunsWithAsks.{Move}
 use Rattle.overlap_law.specs.DiskEvents.{HasOpenItem, WritesHaveOpenItems}
 use Rattle.overlap_law.specs.MomentChanges.{RunsAreInRange}
 use Rattle.overlap_law.specs.Past.{MomentWithPast, run_with_past}
 use Rattle.overlap_law.specs.Pieces.{left_to_write, payload_at}
-use Rattle.overlap_law.specs.RequestsOfScript.{IsCourseOfAsk, IsDriverOf}
+use Rattle.overlap_law.specs.RequestsOfScript.{IsCourseOfAsk, IsDriverOf, is_of_client}
 use Rattle.overlap_law.specs.WrittenBlocks.{items_at}
 use Rattle.sheep_node.proofs.SessionViews.{IsSeen}
 use Rattle.overlap_law.specs.CommandDisks.{opened_as}
 use Rattle.overlap_law.proofs.AllowedCourses.{HasWorking, IsAllowed, opened_by}
 use Rattle.overlap_law.proofs.BlocksOfPieces.{block_of_piece, got_behind}
-use Rattle.overlap_law.proofs.CoursesOfAsks.{IsPlacedIn}
+use Rattle.overlap_law.proofs.CoursesOfAsks.{IsPlacedIn, placed_as}
 use Rattle.overlap_law.proofs.CoursesOfScript.{asked_by, BeganOn, requests_placed}
 use Rattle.overlap_law.proofs.GuestsOfScript.{guest_asks}
 use Rattle.overlap_law.proofs.InsideDisks.{known_here}
@@ -77,6 +79,16 @@ module _ (script : List Statement) (req : ℕ) (opened : Disk) (piece : Piece) w
   by_course (DoingWork work) began i is got = absurd is
   by_course (AwaitingDecision entry) began i is got = absurd is
 
+-- what a client asks writes nothing
+pub left_of_scripts : (shift : ℕ) (course : Course) (i : ℕ) (piece : Piece) → slice_get (left_to_write shift course) i ≡ Some piece
+    → is_of_client course ≡ false
+left_of_scripts shift (Waiting ask) i piece got = refl
+left_of_scripts shift (Driving driver) i piece got = refl
+left_of_scripts shift (Commanding op) i piece got = refl
+left_of_scripts shift (Checking check) i piece got = refl
+left_of_scripts shift (DoingWork work) i piece got = absurd (cc (got))
+left_of_scripts shift (AwaitingDecision entry) i piece got = absurd (cc (got))
+
 -- what is left to write is on a working disk
 module _ (opened : Disk) (piece : Piece) where
   of_working : HasWorking (Some (opened.snapshot, opened.inode.vid)) → opened.snapshot ≡ false
@@ -92,7 +104,7 @@ module _ (opened : Disk) (piece : Piece) where
   left_is_working (Driving Answered) i is got = absurd (cc (got))
   left_is_working (Commanding op) i is got = absurd (cc (got))
   left_is_working (Checking check) i is got = absurd (cc (got))
-  left_is_working (DoingWork work) i is got = absurd is
+  left_is_working (DoingWork work) i is got = absurd (cc (got))
   left_is_working (AwaitingDecision entry) i is got = absurd (cc (got))
 
 -- a write goes by whole blocks
@@ -111,7 +123,7 @@ module _ (script : List Statement) (range : RunsAreInRange script) (req offset :
           let both = and_parts (offset % 512 == 0) (length payload % 512 == 0) first.0 in
           (eqb-true (offset % 512) 0 both.0, eqb-true (length payload % 512) 0 both.1)
 
-pub pieces_open-in_run : (script : List Statement) → RunsAreInRange script → (events : List Event) (moment : MomentWithPast)
+pub pieces_open-in_run : (script : List Statement) → RunsAreInRange script → (events : List Move) (moment : MomentWithPast)
     → run_with_past script events ≡ Some moment → WritesHaveOpenItems moment.past.history moment.world.hosts
 pieces_open-in_run script range events moment is = record {
   each = λ n host there up req i unit request opened disk piece on got inside.
@@ -120,8 +132,11 @@ pieces_open-in_run script range events moment is = record {
       ((well_in_world script range moment.world began n host there).allowed req) in
       let working = left_is_working opened piece request.course i
       (subst (λ (o : Option Disk). IsAllowed (opened_as o) request.course) on.on allowed) got in
-      let (start, at, course) = subst (IsPlacedIn (asked_by script) (BeganOn script moment.world.guests) req host.node.sessions) on.there
-      (requests_placed script range moment.world began n host there req) in
+      let (start, at, course) = placed_as (asked_by script) (BeganOn script moment.world.guests) req
+      (session_among request.session host.node.sessions).disk request.course
+      (left_of_scripts opened.inode.spec.shift request.course i piece got)
+      (subst (IsPlacedIn (asked_by script) (BeganOn script moment.world.guests) req host.node.sessions) on.there
+      (requests_placed script range moment.world began n host there req)) in
       let write = by_course script req opened piece request.course start i
       (subst (λ (o : Option Disk). IsCourseOfAsk (asked_by script req) o start request.course) on.on course) got in
       let known = known_here script range moment.world began n host there request.session opened on.on in

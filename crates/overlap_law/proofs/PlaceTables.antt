@@ -1,6 +1,6 @@
 -- While a command makes the inode that is to take its open disk's place, and while it waits for the publication, the session has that disk
 -- open, and the inode has its table: the tag went to the open disk, and no read or write goes on beside the command.
-use Rattle.std.proofs.Common.{◌≡◌, ◌≢◌, ◌⊎◌, inl, inr, ⊎_elim, ℕ, Bool, false, List, [], ◌∷◌, ◌++◌, Option, Some, None, true, option_map}
+use Rattle.std.proofs.Common.{◌≡◌, ◌≢◌, ◌⊎◌, inl, inr, ⊎_elim, ℕ, Bool, false, List, [], ◌∷◌, ◌++◌, Option, Some, None, true}
 use Rattle.std.proofs.Common.{refl, sym, ap, subst, ◌∙◌}
 use Rattle.std.specs.Ordering.{nat_cmp}
 use Rattle.std.specs.FinMap as tree
@@ -16,13 +16,13 @@ use Rattle.vdi_ops.specs.Op.{Task, Opening, WritingBack, Tagging, Copying, Makin
 use Rattle.sheep_node.specs.declared.course.Course.{Course}
 use Rattle.sheep_node.specs.declared.course.Course.TheVariants.{Driving, Commanding}
 use Rattle.sheep_node.specs.declared.course.Request.{Request}
-use Rattle.sheep_node.specs.declared.event.Event.{Event}
 use Rattle.sheep_node.specs.declared.session.Session.{Session}
 use Rattle.sheep_node.specs.SessionQueues.{session_among, command_in}
 use Rattle.sheep_node.specs.StepState.{StepState}
 use Rattle.sheep_world.specs.Began.{Began}
 use Rattle.sheep_world.specs.NodeCauses.{input_of_cause, host_with_node}
 use Rattle.sheep_world.specs.World.{Host}
+use Rattle.sheep_world.specs.RunsWithAsks.{Move}
 use Rattle.overlap_law.specs.CommandDisks.{opened_as, opened_in, IsOpenAtLast, IsOpenAtStage, IsOpenAtCourse}
 use Rattle.overlap_law.specs.Courses.{IsOfStage, IsTagged}
 use Rattle.overlap_law.specs.MomentChanges as moments
@@ -47,6 +47,7 @@ use Rattle.overlap_law.proofs.WaitedInRuns.{works_wait}
 use Rattle.overlap_law.proofs.WaitedSteps.{no_id, Waits}
 use Rattle.overlap_law.proofs.WorksAtCourses.{IsAt}
 use Rattle.overlap_law.proofs.WorksInMoments.{well_along}
+use Rattle.overlap_law.proofs.GoingOn.{next_by}
 
 -- the inode is made, or is to be published
 abbrev pub IsPlaceStage : Content → OpStage → Type 0
@@ -137,7 +138,7 @@ record WasDraft (so_far : StepState) (q req : ℕ) (inode : Content) : Type 0 wh
 
 -- ---- over a change
 
-module _ (script : List Statement) (range : RunsAreInRange script) (events : List Event) (start before after : MomentWithPast)
+module _ (script : List Statement) (range : RunsAreInRange script) (events : List Move) (start before after : MomentWithPast)
     (ran : run_with_past script events ≡ Some start) (trail : MomentTrail script start before)
     (change : MomentChange script start before after) (all : PlacesHaveTables before) where
   began : Began script start.world
@@ -304,7 +305,7 @@ module _ (script : List Statement) (range : RunsAreInRange script) (events : Lis
 -- ---- in every run
 
 module _ (script : List Statement) (range : RunsAreInRange script) where
-  along : (events : List Event) (start : MomentWithPast) → run_with_past script events ≡ Some start → {moment : MomentWithPast}
+  along : (events : List Move) (start : MomentWithPast) → run_with_past script events ≡ Some start → {moment : MomentWithPast}
       → MomentTrail script start moment → PlacesHaveTables start → PlacesHaveTables moment
   along events start ran moments.Still all = all
   along events start ran (moments.Then {moment} {next} trail change) all =
@@ -312,7 +313,7 @@ module _ (script : List Statement) (range : RunsAreInRange script) where
 
   -- a run ends in this moment, and it is so
   record IsSoAt (moment : MomentWithPast) : Type 0 where
-    events : List Event
+    events : List Move
     run : run_with_past script events ≡ Some moment
     places : PlacesHaveTables moment
 
@@ -326,14 +327,14 @@ module _ (script : List Statement) (range : RunsAreInRange script) where
 
   events_keep : KeptByEvents script IsSoAt
   events_keep event before made begun is holds = record {
-    events = holds.events ++ event ∷ [];
+    events = holds.events ++ is.move ∷ [];
     run = run_with_one_more script event made holds.events before is holds.run;
     places = along holds.events before holds.run
-        (event_trail script event before (moment_after script event before made) (ap (option_map (moment_after script event before)) is))
+        (event_trail script is.move before (moment_after script event before made) (next_by script event before made is))
         holds.places;
   }
 
-  pub places_in_run : (events : List Event) (start moment : MomentWithPast) → run_with_past script events ≡ Some start
+  pub places_in_run : (events : List Move) (start moment : MomentWithPast) → run_with_past script events ≡ Some start
       → MomentTrail script start moment → PlacesHaveTables moment
   places_in_run events start moment ran trail =
       along events start ran trail (run-kept_by_events script IsSoAt opening events_keep events start ran).places

@@ -1,6 +1,7 @@
 -- In each moment on the way of an event of a run in range a row's node is a target of the object in each epoch that the row covers, at the
 -- row's index.
-use Rattle.std.proofs.Common.{◌≡◌, ⊎_elim, arith, ℕ, suc, ◌+◌, ◌<◌, ◌≤◌, true, List, [], ◌∷◌, ◌++◌, length, Some, None, slice_get, sym, ap, subst, ◌∙◌, append_assoc}
+use Rattle.std.proofs.Common.{◌≡◌, ⊎_elim, arith, ℕ, suc, ◌+◌, ◌<◌, ◌≤◌, true, List, [], ◌∷◌, ◌++◌, length, Some, None, slice_get, sym, ap}
+use Rattle.std.proofs.Common.{subst, ◌∙◌, append_assoc}
 use Rattle.std.specs.FinMap as tree
 use Rattle.std.proofs.lemmas.Bool.{cases_lt}
 use Rattle.std.proofs.lemmas.Option.{same_Some}
@@ -28,7 +29,6 @@ use Rattle.peer_service.specs.LogReading.{without_objects, read_entry}
 use Rattle.vnode_table.specs.Epochs.{EpochMembers, members_at}
 use Rattle.vnode_table.specs.Targets.{targets_in}
 use Rattle.recovery.specs.Shown.{first_in}
-use Rattle.sheep_node.specs.declared.event.Event.{Event}
 use Rattle.sheep_node.specs.declared.input.Input.{Input}
 use Rattle.sheep_node.specs.declared.input.Input.TheVariants as inputs
 use Rattle.sheep_node.specs.LogReading.{epochs_with_entry, entry_read}
@@ -44,6 +44,7 @@ use Rattle.sheep_world.specs.World.{Host}
 use Rattle.sheep_world.specs.Began.{Began}
 use Rattle.sheep_world.proofs.LogAtOpening.{log-holds}
 use Rattle.sheep_world.proofs.NodesByTheLog.{by_the_log}
+use Rattle.sheep_world.specs.RunsWithAsks.{Move}
 use Rattle.overlap_law.specs.Attempts.{object_of}
 use Rattle.overlap_law.specs.Each.{policy_in, index_of_part}
 use Rattle.overlap_law.specs.Holders.{targets_by}
@@ -60,7 +61,8 @@ use Rattle.overlap_law.proofs.LogsInMoments.{LogGrows, log_grows}
 use Rattle.overlap_law.proofs.MakersInTraffic.{HasMakersOfAttempts, kept_makers}
 use Rattle.overlap_law.proofs.PendingInRuns.{knows_pending}
 use Rattle.overlap_law.proofs.PendingOfNodes.{KnowsPending, policy_stays}
-use Rattle.overlap_law.proofs.PlacedRows.{IsPlaced, ArePlacedAt, HasPlace, grown_placed, grown_place, IsPlacedView, StepIsPlaced, keeps_placed}
+use Rattle.overlap_law.proofs.PlacedRows.{IsPlaced, ArePlacedAt, HasPlace, grown_placed, grown_place, IsPlacedView, StepIsPlaced}
+use Rattle.overlap_law.proofs.PlacedRows.{keeps_placed}
 use Rattle.overlap_law.proofs.RangeOfRuns.{nodes_sound}
 use Rattle.overlap_law.proofs.ReadInMoments.{HostsAreSound, epoch_within, kept_sound}
 use Rattle.overlap_law.proofs.RowSteps.{IsRowStep, RowsChange, RowsStay, RowsStep, RowsAreNew, none_at_first, all_at, rows_change}
@@ -321,7 +323,7 @@ at_targets moment holds = record {
       (own.placed epoch covers);
 }
 
-module _ (script : List Statement) (range : RunsAreInRange script) (events : List Event) where
+module _ (script : List Statement) (range : RunsAreInRange script) (events : List Move) where
   pub placed-in_run : (moment : MomentWithPast) → run_with_past script events ≡ Some moment
       → RowsAreAtTargets (targets_by moment.world.log) (log_effects moment.world.log) moment.world.hosts
   placed-in_run moment is = at_targets moment (run-kept script RowsArePlaced (kept_placed script range) events moment is)

@@ -16,7 +16,6 @@ use Rattle.vdi_directory.specs.Effects.{is_used, reservation_on, reservations_of
 use Rattle.vdi_ops.specs.Op.{Asked, Working, Publishing, Answered, Op, OpStage}
 use Rattle.sheep_node.specs.declared.course.Course.TheVariants.{Commanding}
 use Rattle.sheep_node.specs.declared.course.Request.{Request}
-use Rattle.sheep_node.specs.declared.event.Event.{Event}
 use Rattle.sheep_node.specs.declared.input.Input.{Input}
 use Rattle.sheep_node.specs.declared.input.Input.TheVariants as inputs
 use Rattle.sheep_node.specs.AwaitedEntry.{waits_for_entry}
@@ -27,8 +26,9 @@ use Rattle.sheep_node.specs.State.{Node}
 use Rattle.sheep_node.specs.StepState.{at_first, StepState}
 use Rattle.sheep_world.specs.Began.{Began}
 use Rattle.sheep_world.specs.NodeCauses.{NodeCause, GuestAsks, RequestComes, ReplyComes, LossIsTold, EntryIsRead, EntryIsPut, RecoveryTicks}
-use Rattle.sheep_world.specs.NodeCauses.{WorkIsRetried, host_with_node, input_of_cause, IsCause}
+use Rattle.sheep_world.specs.NodeCauses.{WorkIsRetried, ClientAsks, host_with_node, input_of_cause, IsCause}
 use Rattle.sheep_world.specs.World.{Host, World}
+use Rattle.sheep_world.specs.RunsWithAsks.{Move}
 use Rattle.overlap_law.specs.Attempts.{AttemptRecord, object_of}
 use Rattle.overlap_law.specs.Holders.{is_object_among}
 use Rattle.overlap_law.specs.MomentChanges as moments
@@ -64,13 +64,13 @@ use Rattle.overlap_law.proofs.RefusedInMoments.{among_of, refused_of}
 use Rattle.overlap_law.proofs.ReservedHosts.{MembersWereUp, were_up}
 use Rattle.overlap_law.proofs.ReservedMembers.{StandsReserved, reserver_member}
 use Rattle.overlap_law.proofs.RunsByChanges.{on_the_way}
-use Rattle.overlap_law.proofs.SessionsOfRequests.{are_asked, asked_so_far, brought}
 use Rattle.overlap_law.proofs.ShapedAttempts.{kept_shaped, shaped-each}
 use Rattle.overlap_law.proofs.SourcesInRuns.{IsSourced, sourced_in_world}
 use Rattle.overlap_law.proofs.SourceStages.{AreSourced, sourced_in_chain}
 use Rattle.overlap_law.proofs.TiedInRuns.{kept_tied}
 use Rattle.overlap_law.proofs.ToComeStays.{nothing_by}
 use Rattle.overlap_law.proofs.TouchedInMoments.{refused_in_step}
+use Rattle.overlap_law.proofs.AttemptsOfScript.{AreForRequests, kept_for}
 
 -- a node places the inode by the request of an attempt, or the attempt comes to nothing
 abbrev pub IsPlacedOrNothing : MomentWithPast → AttemptRecord → ℕ → ℕ → Host → Type 0
@@ -83,7 +83,7 @@ PlacesAreAwaited moment = (j : ℕ) (attempt : AttemptRecord) → slice_get mome
     → host.is_lost ≡ false → IsPlacedOrNothing moment attempt vid r.session host
 
 -- an id whose inode an attempt is on is used
-pub inode_used : (script : List Statement) → RunsAreInRange script → (events : List Event) (start moment : MomentWithPast)
+pub inode_used : (script : List Statement) → RunsAreInRange script → (events : List Move) (start moment : MomentWithPast)
     → run_with_past script events ≡ Some start → MomentTrail script start moment → (vid : ℕ) → IsVid vid → (j : ℕ)
     (attempt : AttemptRecord) → slice_get moment.past.attempts j ≡ Some attempt → object_of attempt ≡ inode_number vid
     → is_used (log_effects moment.world.log) vid ≡ true
@@ -106,6 +106,7 @@ read_next script world n host (EntryIsRead read) entry from so =
 read_next script world n host (EntryIsPut put) entry from so = absurd (cc (from))
 read_next script world n host RecoveryTicks entry from so = absurd (cc (from))
 read_next script world n host WorkIsRetried entry from so = absurd (cc (from))
+read_next script world n host (ClientAsks req ask) entry from so = absurd (cc (from))
 
 -- who waits for an entry at such a stage waits for its publication
 waits_published : (inode : Content) (entry : Entry) (stage : OpStage) → IsPlaceStage inode stage → waits_at entry stage ≡ true
@@ -127,7 +128,7 @@ had_command : (node : Node) (entry : Entry) (so_far : StepState)
 unfolding entry_read
 had_command node entry so_far leads req request op inode got command at = had entry node leads req request op inode got command at
 
-module _ (script : List Statement) (range : RunsAreInRange script) (events : List Event) (start before after : MomentWithPast)
+module _ (script : List Statement) (range : RunsAreInRange script) (events : List Move) (start before after : MomentWithPast)
     (ran : run_with_past script events ≡ Some start) (trail : MomentTrail script start before)
     (change : MomentChange script start before after) (all : PlacesAreAwaited before) where
   began : Began script start.world
@@ -203,10 +204,7 @@ module _ (script : List Statement) (range : RunsAreInRange script) (events : Lis
         -- the request is refused
         refused : (cause : Cause) → Contains g.next.outputs.replies (w.was.req, replies.Refused cause) → Result
         refused cause replied =
-            let (session, disk, asked) = (asked_so_far script g.stepping.n g.stepping.host.incarnation (input_of_cause g.stepping.cause)
-            g.stepping.host.node (brought script start.world g.stepping.n g.stepping.host g.stepping.cause g.is.caused)
-            (are_asked script start.world began g.stepping.n g.stepping.host g.is.there) leads_then).replied
-            (w.was.req, replies.Refused cause) replied in
+            let asked = on_the_way script (AreForRequests script) (kept_for script range) events start before ran trail j w.was w.at in
             let refuses : refuses_request script (w.was.req, replies.Refused cause) ≡ true = ap is_some asked.asking in
             let among : is_object_among w.was.req after.past.refused ≡ true
             = ap (λ (m : MomentWithPast). is_object_among w.was.req m.past.refused) g.after_so

@@ -40,12 +40,12 @@ use Rattle.sheep_node.specs.WantedWorks.{IsWantedAt, IsWorkOfCheck, IsWorkOfDriv
 use Rattle.sheep_node.specs.declared.course.Course.{Course}
 use Rattle.sheep_node.specs.declared.course.Course.TheVariants.{Waiting, Driving, Commanding, Checking, DoingWork, AwaitingDecision}
 use Rattle.sheep_node.specs.declared.course.Request.{Request}
-use Rattle.sheep_node.specs.declared.event.Event.{Event}
 use Rattle.sheep_node.specs.State.{Node}
 use Rattle.sheep_node.proofs.SessionViews.{IsSeen}
 use Rattle.sheep_world.specs.Began.{Began}
 use Rattle.sheep_world.specs.NodeCauses.{host_with_node}
 use Rattle.sheep_world.specs.World.{Host}
+use Rattle.sheep_world.specs.RunsWithAsks.{Move}
 use Rattle.overlap_law.specs.Attempts.{AttemptRecord, object_of}
 use Rattle.overlap_law.specs.CommandDisks.{opened_in}
 use Rattle.overlap_law.specs.Grants.{reserver, writer_of}
@@ -77,6 +77,8 @@ use Rattle.overlap_law.proofs.SourcesInRuns.{IsSourced}
 use Rattle.overlap_law.proofs.SourceStages.{IsAnyDisk, IsSourceMaking, IsSourceStage, StandsAs, stands_later}
 use Rattle.overlap_law.proofs.WorksInMoments.{well_after}
 use Rattle.overlap_law.proofs.WritersOfWorks.{writes_working-after}
+use Rattle.peer_proto.specs.declared.work.ObjWork.TheVariants as works
+use Rattle.gateway.specs.Work.{is_making}
 
 -- an attempt is on the inode of an id that is reserved to take a disk's place
 pub record IsOfPlace (moment : MomentWithPast) (attempt : AttemptRecord) (vid : ℕ) (r : Reservation) : Type 0 where
@@ -93,6 +95,13 @@ pub record IsPlacing (node : Node) (req : ℕ) (work : ObjWork) (vid session : �
   pub yet : IsPlaceYet req session inode node.requests
   pub own : inode.vid ≡ vid
   pub work_of : work ≡ create_inode inode
+
+-- nor does what makes nothing
+idle_creates : (work : ObjWork) → is_making work ≡ false → is_create_work work ≡ true → ⊥
+idle_creates (works.Create oid policy size offset bytes) idle creates = cc (idle)
+idle_creates (works.Write oid policy offset bytes) idle creates = cc (creates)
+idle_creates (works.Read oid policy offset size) idle creates = cc (creates)
+idle_creates (works.ReadAll oid policy size) idle creates = cc (creates)
 
 -- a read or write creates no inode
 no_drive : {P : Type 0} (inode : Content) (driver : Driver) (work : ObjWork) (vid : ℕ) → IsVid inode.vid → All FewAt (pieces_left driver)
@@ -118,7 +127,7 @@ no_check check (checks.WritingBack later) work (index, value, is) creates =
     let none = ap is_create_work is in absurd (cc (none, creates))
 no_check check checks.Answered work is creates = absurd is
 
-module _ (script : List Statement) (range : RunsAreInRange script) (events : List Event) (start before after : MomentWithPast)
+module _ (script : List Statement) (range : RunsAreInRange script) (events : List Move) (start before after : MomentWithPast)
     (ran : run_with_past script events ≡ Some start) (trail : MomentTrail script start before)
     (change : MomentChange script start before after) (attempt : AttemptRecord) (vid : ℕ) (r : Reservation)
     (p : IsOfPlace after attempt vid r) (o : IsOpened script start after attempt) (host : Host)
@@ -298,7 +307,7 @@ module _ (script : List Statement) (range : RunsAreInRange script) (events : Lis
         driving driver at (session_among request.session host.node.sessions).disk refl wanted known
     by_course (Commanding op) at wanted allowed owns known = staged op at op.stage refl wanted owns
     by_course (Checking check) at wanted allowed owns known = no_check check check.stage o.asked.work wanted creates
-    by_course (DoingWork asked) at wanted allowed owns known = absurd allowed
+    by_course (DoingWork asked) at wanted allowed owns known = absurd (idle_creates o.asked.work (ap is_making wanted ∙ allowed) creates)
     by_course (AwaitingDecision entry) at wanted allowed owns known = absurd wanted
 
     placing : Placing

@@ -26,7 +26,6 @@ use Rattle.vdi_ops.specs.Op.{Opening, WritingBack, Tagging, Copying, Making, OpS
 use Rattle.sheep_node.specs.declared.course.Course.{Course}
 use Rattle.sheep_node.specs.declared.course.Course.TheVariants.{Commanding}
 use Rattle.sheep_node.specs.declared.course.Request.{Request}
-use Rattle.sheep_node.specs.declared.event.Event.{Event}
 use Rattle.sheep_node.specs.declared.session.Session.{Session}
 use Rattle.sheep_node.specs.May.{is_disk_course}
 use Rattle.sheep_node.specs.SessionQueues.{CommandsAreAlone, session_among, command_in}
@@ -35,6 +34,7 @@ use Rattle.sheep_world.specs.Began.{Began}
 use Rattle.sheep_world.specs.World.{Host}
 use Rattle.sheep_world.proofs.LogFrontLaws.{all_read}
 use Rattle.sheep_world.proofs.NodesByTheLog.{knows_its_number}
+use Rattle.sheep_world.specs.RunsWithAsks.{Move}
 use Rattle.overlap_law.specs.CommandDisks.{opened_in}
 use Rattle.overlap_law.specs.Courses.{IsOfStage, WaitsFor}
 use Rattle.overlap_law.specs.Each.{spec_in}
@@ -62,7 +62,7 @@ use Rattle.overlap_law.proofs.WaitedInRuns.{waited-in_run}
 use Rattle.overlap_law.proofs.WaitedSteps.{no_id}
 use Rattle.overlap_law.proofs.WholeInRuns.{sound_world}
 
-module _ (script : List Statement) (range : RunsAreInRange script) (events : List Event) (moment : MomentWithPast)
+module _ (script : List Statement) (range : RunsAreInRange script) (events : List Move) (moment : MomentWithPast)
     (is : run_with_past script events ≡ Some moment) (good_id : ℕ → Bool)
     (tables : TablesStayTheInodes (log_effects moment.world.log) good_id moment.world.hosts moment.past.attempts) (n : ℕ) (host : Host)
     (there : tree.get moment.world.hosts n ≡ Some host) (up : host.is_lost ≡ false) (req : ℕ) (request : Request) (op : Op)

@@ -1,7 +1,7 @@
 -- In every run in range, at the end of every event, of disks that were available: what the inode of an id may come to have, that is
 -- reserved to take a disk's place, is all that the disk's inode may come to have, which was created.
 use Rattle.std.specs.FinMap as tree
-use Rattle.std.proofs.Common.{◌≡◌, ◌≢◌, ⊎_elim, ℕ, Bool, true, false, List, [], ◌∷◌, ◌++◌, option_map, Some}
+use Rattle.std.proofs.Common.{◌≡◌, ◌≢◌, ⊎_elim, ℕ, Bool, true, false, List, [], ◌∷◌, ◌++◌, Some}
 use Rattle.std.proofs.Common.{refl, sym, ap, subst, ◌∙◌}
 use Rattle.std.proofs.lemmas.Bool.{cases_eq}
 use Rattle.std.proofs.lemmas.Option.{same_Some}
@@ -11,10 +11,10 @@ use Rattle.cluster_script.specs.declared.statement.Statement.{Statement}
 use Rattle.vdi_directory.specs.declared.effect.Source.TheVariants as sources
 use Rattle.vdi_directory.specs.Decisions.{log_effects}
 use Rattle.vdi_directory.specs.Effects.{is_used}
-use Rattle.sheep_node.specs.declared.event.Event.{Event}
 use Rattle.sheep_world.specs.Began.{Began}
 use Rattle.sheep_world.specs.NodeCauses.{host_with_node}
 use Rattle.sheep_world.specs.World.{Host}
+use Rattle.sheep_world.specs.RunsWithAsks.{Move}
 use Rattle.overlap_law.specs.Attempts.{AttemptRecord}
 use Rattle.overlap_law.specs.Drafts.{IsReservedEntry}
 use Rattle.overlap_law.specs.Groups.{CoursesAreKept}
@@ -45,18 +45,19 @@ use Rattle.overlap_law.proofs.ReservedMembers.{reserver_there}
 use Rattle.overlap_law.proofs.RunsByChanges.{on_the_way}
 use Rattle.overlap_law.proofs.RunsByEvents.{KeptByEvents, run-kept_by_events}
 use Rattle.overlap_law.proofs.RunsWithOneMore.{run_with_one_more}
+use Rattle.overlap_law.proofs.GoingOn.{next_by}
 
 -- ---- commands place what is awaited
 
 module _ (script : List Statement) (range : RunsAreInRange script) where
-  awaited_along : (events : List Event) (start : MomentWithPast) → run_with_past script events ≡ Some start → {moment : MomentWithPast}
+  awaited_along : (events : List Move) (start : MomentWithPast) → run_with_past script events ≡ Some start → {moment : MomentWithPast}
       → MomentTrail script start moment → PlacesAreAwaited start → PlacesAreAwaited moment
   awaited_along events start ran moments.Still all = all
   awaited_along events start ran (moments.Then {moment} {next} trail change) all =
       awaited_places script range events start moment next ran trail change (awaited_along events start ran trail all)
 
   abbrev AreAwaitedAt : MomentWithPast → Type 0
-  AreAwaitedAt moment = (events : List Event) × (run_with_past script events ≡ Some moment) × PlacesAreAwaited moment
+  AreAwaitedAt moment = (events : List Move) × (run_with_past script events ≡ Some moment) × PlacesAreAwaited moment
 
   opens_awaited : AreAwaitedAt (first_moment script)
   unfolding run_with_past run_on
@@ -64,14 +65,13 @@ module _ (script : List Statement) (range : RunsAreInRange script) where
 
   events_await : KeptByEvents script AreAwaitedAt
   events_await event before made begun is holds =
-      let next : next_moment script event before ≡ Some (moment_after script event before made)
-      = ap (option_map (moment_after script event before)) is in (
-        holds.0 ++ event ∷ [],
+      let next : next_moment script is.move before ≡ Some (moment_after script event before made) = next_by script event before made is in (
+        holds.0 ++ is.move ∷ [],
         run_with_one_more script event made holds.0 before is holds.1,
-        awaited_along holds.0 before holds.1 (event_trail script event before (moment_after script event before made) next) holds.2,
+        awaited_along holds.0 before holds.1 (event_trail script is.move before (moment_after script event before made) next) holds.2,
       )
 
-  awaited-in_run : (events : List Event) (moment : MomentWithPast) → run_with_past script events ≡ Some moment → PlacesAreAwaited moment
+  awaited-in_run : (events : List Move) (moment : MomentWithPast) → run_with_past script events ≡ Some moment → PlacesAreAwaited moment
   awaited-in_run events moment is = (run-kept_by_events script AreAwaitedAt opens_awaited events_await events moment is).2
 
   -- ---- over a change
@@ -89,7 +89,7 @@ module _ (script : List Statement) (range : RunsAreInRange script) where
   abbrev IsAny : MomentWithPast → ℕ → Type 0
   IsAny moment n = Unit {0}
 
-  module _ (events : List Event) (start before after : MomentWithPast) (ran : run_with_past script events ≡ Some start)
+  module _ (events : List Move) (start before after : MomentWithPast) (ran : run_with_past script events ≡ Some start)
       (trail : MomentTrail script start before) (change : MomentChange script start before after) (good_id : ℕ → Bool)
       (first : PlacesWhere good_id IsAny start) (all : PlacesWhere good_id IsDown before) where
     began : Began script start.world
@@ -145,7 +145,7 @@ module _ (script : List Statement) (range : RunsAreInRange script) where
 
   -- ---- over an event
 
-  lost_along : (events : List Event) (start : MomentWithPast) → run_with_past script events ≡ Some start → (good_id : ℕ → Bool)
+  lost_along : (events : List Move) (start : MomentWithPast) → run_with_past script events ≡ Some start → (good_id : ℕ → Bool)
       → PlacesWhere good_id IsAny start → {moment : MomentWithPast} → MomentTrail script start moment → PlacesWhere good_id IsDown moment
   lost_along events start ran good_id first moments.Still =
       λ vid index draft old tag from j attempt comes down. first vid index draft old tag from j attempt comes tt
@@ -155,8 +155,8 @@ module _ (script : List Statement) (range : RunsAreInRange script) where
   abbrev PlacesAt : MomentWithPast → Type 0
   PlacesAt moment = PlacesWhere (good_id_at moment) IsAny moment
 
-  module _ (events : List Event) (event : Event) (start end : MomentWithPast) (ran : run_with_past script events ≡ Some start)
-      (happens : next_moment script event start ≡ Some end) (later : List Event) (ran_then : run_with_past script later ≡ Some end)
+  module _ (events : List Move) (event : Move) (start end : MomentWithPast) (ran : run_with_past script events ≡ Some start)
+      (happens : next_moment script event start ≡ Some end) (later : List Move) (ran_then : run_with_past script later ≡ Some end)
       (all : PlacesAt start) where
     -- by the test of the end
     first : PlacesWhere (good_id_at end) IsAny start
@@ -191,7 +191,7 @@ module _ (script : List Statement) (range : RunsAreInRange script) where
   -- ---- in every run
 
   abbrev HoldsInRun : MomentWithPast → Type 0
-  HoldsInRun moment = (events : List Event) × (run_with_past script events ≡ Some moment) × PlacesAt moment
+  HoldsInRun moment = (events : List Move) × (run_with_past script events ≡ Some moment) × PlacesAt moment
 
   opens : HoldsInRun (first_moment script)
   unfolding run_with_past run_on
@@ -204,14 +204,14 @@ module _ (script : List Statement) (range : RunsAreInRange script) where
   keeps : KeptByEvents script HoldsInRun
   keeps event before made begun is holds =
       let after : MomentWithPast = moment_after script event before made in
-      let next : next_moment script event before ≡ Some after = ap (option_map (moment_after script event before)) is in
+      let next : next_moment script is.move before ≡ Some after = next_by script event before made is in
       let ran = run_with_one_more script event made holds.0 before is holds.1 in (
-        holds.0 ++ event ∷ [],
+        holds.0 ++ is.move ∷ [],
         ran,
-        at_end holds.0 event before after holds.1 next (holds.0 ++ event ∷ []) ran holds.2,
+        at_end holds.0 is.move before after holds.1 next (holds.0 ++ is.move ∷ []) ran holds.2,
       )
 
-  module _ (events : List Event) (moment : MomentWithPast) (is : run_with_past script events ≡ Some moment) where
+  module _ (events : List Move) (moment : MomentWithPast) (is : run_with_past script events ≡ Some moment) where
     pub places_drawn-in_run : PlacesStayDrawn (log_effects moment.world.log) (good_id_at moment) moment.world.hosts moment.past.attempts
     places_drawn-in_run vid index draft old tag from j attempt comes =
         let drawn = (run-kept_by_events script HoldsInRun opens keeps events moment is).2 vid index draft old tag from j attempt comes tt in

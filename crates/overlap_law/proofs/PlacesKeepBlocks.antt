@@ -3,7 +3,6 @@
 use Rattle.std.proofs.Common.{◌≡◌, ⊎_elim, ℕ, Bool, List, sym, subst, ◌∙◌}
 use Rattle.cluster_script.specs.declared.statement.Statement.{Statement}
 use Rattle.vdi_directory.specs.Decisions.{log_effects}
-use Rattle.sheep_node.specs.declared.event.Event.{Event}
 use Rattle.overlap_law.specs.HistoryStands.{CallsAvailable}
 use Rattle.overlap_law.specs.KeptHistory.{EntriesKeepBlocks}
 use Rattle.overlap_law.specs.MomentChanges.{IsOnTheWay, Next, RunsAreInRange}
@@ -17,6 +16,7 @@ use Rattle.overlap_law.proofs.LogsOfMoments.{log_or_start}
 use Rattle.overlap_law.proofs.MadeLike.{entries_keep}
 use Rattle.overlap_law.proofs.PlacesInRuns.{places_drawn-in_run}
 use Rattle.overlap_law.proofs.TurnsInRuns.{never_pushed}
+use Rattle.sheep_world.specs.RunsWithAsks.{Move}
 
 abbrev HasPlaces : (ℕ → Bool) → MomentWithPast → Type 0
 HasPlaces good_id moment = PlacesStayDrawn (log_effects moment.world.log) good_id moment.world.hosts moment.past.attempts
@@ -32,7 +32,7 @@ fewer_places few many moment fewer places vid index draft = places vid index (re
   within = draft.within;
 })
 
-pub entries_keep-by_tests : (script : List Statement) → RunsAreInRange script → (events : List Event) (event : Event)
+pub entries_keep-by_tests : (script : List Statement) → RunsAreInRange script → (events : List Move) (event : Move)
     (start end before after : MomentWithPast) → IsOnTheWay script events event start end before after → (good_id : ℕ → Bool)
     → CallsAvailable start after good_id → EntriesKeepBlocks good_id before after
 entries_keep-by_tests script range events event start end before after way good_id test = ⊎_elim

@@ -14,7 +14,7 @@ use Rattle.vdi_directory.specs.Effects.{reservation_on, reservations_of}
 use Rattle.sheep_world.specs.Began.{Began}
 use Rattle.sheep_world.specs.MembershipChanges.{join_of, last_weight}
 use Rattle.sheep_world.specs.NodeCauses.{NodeCause, GuestAsks, RequestComes, ReplyComes, LossIsTold, EntryIsRead, EntryIsPut, RecoveryTicks}
-use Rattle.sheep_world.specs.NodeCauses.{WorkIsRetried, host_with_node, IsCause, log_after_cause}
+use Rattle.sheep_world.specs.NodeCauses.{WorkIsRetried, ClientAsks, host_with_node, IsCause, log_after_cause}
 use Rattle.sheep_world.specs.Step.{EventOutcome}
 use Rattle.sheep_world.specs.World.{Host, is_host_up}
 use Rattle.overlap_law.specs.Grants.{may_take_writer, reserver, writer_of}
@@ -80,6 +80,7 @@ made_at_once script start stepping is (EntryIsPut entry) same so = inr (
 )
 made_at_once script start stepping is RecoveryTicks same so = inl (ap (λ (c : NodeCause). log_after_cause c start.world.log) same)
 made_at_once script start stepping is WorkIsRetried same so = inl (ap (λ (c : NodeCause). log_after_cause c start.world.log) same)
+made_at_once script start stepping is (ClientAsks req ask) same so = inl (ap (λ (c : NodeCause). log_after_cause c start.world.log) same)
 
 gets_entry : (script : List Statement) {start before after : MomentWithPast} → MomentChange script start before after
     → GetsEntry script start before after

@@ -14,9 +14,9 @@ use Rattle.vdi_directory.specs.declared.effect.Reservation.{Reservation}
 use Rattle.vdi_directory.specs.declared.effect.Source.TheVariants as sources
 use Rattle.vdi_directory.specs.Decisions.{log_effects}
 use Rattle.sheep_node.specs.Changes.{attempt_in}
-use Rattle.sheep_node.specs.declared.event.Event.{Event}
 use Rattle.sheep_world.specs.Began.{Began}
 use Rattle.sheep_world.specs.NodeCauses.{host_with_node}
+use Rattle.sheep_world.specs.RunsWithAsks.{Move}
 use Rattle.overlap_law.specs.Attempts.{AttemptRecord, object_of}
 use Rattle.overlap_law.specs.Drafts.{IsReservedEntry}
 use Rattle.overlap_law.specs.Grants.{reserver, writer_of}
@@ -42,7 +42,7 @@ use Rattle.overlap_law.proofs.PlacesOfTheUp.{IsAllOfDisk, place_parent}
 use Rattle.overlap_law.proofs.ReservedMembers.{reserved_writer}
 use Rattle.overlap_law.proofs.RunsByChanges.{on_the_way}
 
-module _ (script : List Statement) (range : RunsAreInRange script) (events : List Event) (start before after : MomentWithPast)
+module _ (script : List Statement) (range : RunsAreInRange script) (events : List Move) (start before after : MomentWithPast)
     (ran : run_with_past script events ≡ Some start) (trail : MomentTrail script start before)
     (change : MomentChange script start before after) (good_id : ℕ → Bool) (vid index : ℕ)
     (draft : IsReservedEntry (log_effects after.world.log) good_id vid index) (old : Vid) (tag : List ℕ)

@@ -22,11 +22,11 @@ use Rattle.vdi_directory.specs.References.{parent_of}
 use Rattle.vdi_ops.specs.Op.{Opening, WritingBack, Tagging, Copying, Making, OpStage, Asked, Working, Publishing, Answered, Op}
 use Rattle.sheep_node.specs.declared.course.Course.TheVariants.{Commanding}
 use Rattle.sheep_node.specs.declared.course.Request.{Request}
-use Rattle.sheep_node.specs.declared.event.Event.{Event}
 use Rattle.sheep_node.specs.SoundWorks.{IsSoundInode, IsSoundStage}
 use Rattle.sheep_world.specs.Began.{Began}
 use Rattle.sheep_world.specs.World.{Host}
 use Rattle.sheep_world.proofs.LogFrontLaws.{all_read}
+use Rattle.sheep_world.specs.RunsWithAsks.{Move}
 use Rattle.overlap_law.specs.Attempts.{AttemptRecord}
 use Rattle.overlap_law.specs.Drafts.{IsReservedEntry}
 use Rattle.overlap_law.specs.Each.{spec_in}
@@ -80,7 +80,7 @@ pub place_parent : (log : List Entry) (vid : ℕ) (r : Reservation) → StandsRe
 place_parent log vid r stands old tag from =
     subst (λ (source : Source). IsSourceParent source (parent_of (log_effects log) vid)) from (parents_so log vid r stands)
 
-module _ (script : List Statement) (range : RunsAreInRange script) (events : List Event) (moment : MomentWithPast)
+module _ (script : List Statement) (range : RunsAreInRange script) (events : List Move) (moment : MomentWithPast)
     (is : run_with_past script events ≡ Some moment) where
   began : Began script moment.world
   began = began-with_past script events moment is

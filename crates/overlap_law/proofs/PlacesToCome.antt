@@ -17,13 +17,13 @@ use Rattle.vdi_directory.specs.Decisions.{log_effects}
 use Rattle.vdi_ops.specs.Op.{Making, Working, Op}
 use Rattle.sheep_node.specs.declared.course.Course.TheVariants.{Commanding}
 use Rattle.sheep_node.specs.declared.course.Request.{Request}
-use Rattle.sheep_node.specs.declared.event.Event.{Event}
 use Rattle.sheep_node.specs.declared.session.Session.{Session}
 use Rattle.sheep_node.specs.May.{is_disk_course}
 use Rattle.sheep_node.specs.SessionQueues.{CommandsAreAlone, session_among, command_in}
 use Rattle.sheep_node.specs.State.{new_session}
 use Rattle.std.specs.Prelude.{unwrap_or}
 use Rattle.sheep_world.specs.World.{Host}
+use Rattle.sheep_world.specs.RunsWithAsks.{Move}
 use Rattle.overlap_law.specs.CommandDisks.{opened_in, IsOpenAtLast, IsOpenAtStage, IsOpenAtCourse}
 use Rattle.overlap_law.specs.Each.{spec_in}
 use Rattle.overlap_law.specs.Fates.{IsCreated}
@@ -41,7 +41,7 @@ use Rattle.overlap_law.proofs.PlacesHeld.{held_comes}
 use Rattle.overlap_law.proofs.SnapshotsTaken.{opened_there}
 use Rattle.overlap_law.proofs.WholeInRuns.{sound_world}
 
-module _ (script : List Statement) (range : RunsAreInRange script) (events : List Event) (moment : MomentWithPast)
+module _ (script : List Statement) (range : RunsAreInRange script) (events : List Move) (moment : MomentWithPast)
     (is : run_with_past script events ≡ Some moment) (n : ℕ) (host : Host)
     (there : tree.get moment.world.hosts n ≡ Some host) (up : host.is_lost ≡ false) (req : ℕ) (request : Request) (op : Op)
     (got : tree.get host.node.requests req ≡ Some request) (command : request.course ≡ Commanding op) (vid old of : Vid) (by : NodeId)

@@ -14,10 +14,10 @@ use Rattle.vdi_directory.specs.Decisions.{log_effects}
 use Rattle.vdi_ops.specs.Op.{OpStage, Asked, Working, Publishing, Answered, Op}
 use Rattle.sheep_node.specs.declared.course.Course.{Course}
 use Rattle.sheep_node.specs.declared.course.Course.TheVariants.{Waiting, Driving, Commanding, Checking, DoingWork, AwaitingDecision}
-use Rattle.sheep_node.specs.declared.event.Event.{Event}
 use Rattle.sheep_node.specs.AwaitedEntry.{waits_for_entry}
 use Rattle.sheep_node.specs.OwnEntries.{IsEntryOf}
 use Rattle.sheep_world.specs.Opening.{initial_world}
+use Rattle.sheep_world.specs.RunsWithAsks.{Move}
 use Rattle.overlap_law.specs.AwaitedEntries.{IsCommandEntry, HasAsker}
 use Rattle.overlap_law.specs.CommandDisks.{opened_in}
 use Rattle.overlap_law.specs.Drafts.{published_by}
@@ -84,7 +84,7 @@ once_there entry (x ∷ xs) (suc place) got =
     let rest = once_there entry xs place got in
     omega (arith, more, rest)
 
-module _ (script : List Statement) (range : RunsAreInRange script) (events : List Event) (moment : MomentWithPast)
+module _ (script : List Statement) (range : RunsAreInRange script) (events : List Move) (moment : MomentWithPast)
     (is : run_with_past script events ≡ Some moment) where
   pub outboxes-in_run : OutboxesAreCreated moment
   outboxes-in_run n host there up place entry vid got says =
@@ -154,6 +154,6 @@ module _ (script : List Statement) (range : RunsAreInRange script) where
       (on_the_way script HostsAreSound (kept_sound script range) events start before is trail)
       (outboxes-in_run script range events start is) published
 
-  pub published-on_the_way : (events : List Event) (start moment : MomentWithPast) → run_with_past script events ≡ Some start
+  pub published-on_the_way : (events : List Move) (start moment : MomentWithPast) → run_with_past script events ≡ Some start
       → MomentTrail script start moment → WhatWasPublishedIsCreated moment.world.log moment.past.attempts
   published-on_the_way = kept_on_the_way script PublishedIsCreated opens_so change_keeps

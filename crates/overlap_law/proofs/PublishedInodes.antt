@@ -20,7 +20,7 @@ use Rattle.vdi_directory.proofs.StateLemmas.{log_effects-none, log_effects-push}
 use Rattle.sheep_world.specs.Began.{Began}
 use Rattle.sheep_world.specs.MembershipChanges.{join_of, last_weight}
 use Rattle.sheep_world.specs.NodeCauses.{NodeCause, GuestAsks, RequestComes, ReplyComes, LossIsTold, EntryIsRead, EntryIsPut, RecoveryTicks}
-use Rattle.sheep_world.specs.NodeCauses.{WorkIsRetried, IsCause, log_after_cause}
+use Rattle.sheep_world.specs.NodeCauses.{WorkIsRetried, ClientAsks, IsCause, log_after_cause}
 use Rattle.sheep_world.specs.Step.{EventOutcome}
 use Rattle.sheep_world.specs.World.{Host, World}
 use Rattle.overlap_law.specs.Attempts.{AttemptRecord}
@@ -117,6 +117,7 @@ put_at_once script world n host there up (EntryIsPut entry) by (later, first) =
     inr (entry, refl, inr (record { n = n; host = host; there = there; up = up; later = later; first = first }))
 put_at_once script world n host there up RecoveryTicks by caused = inl refl
 put_at_once script world n host there up WorkIsRetried by caused = inl refl
+put_at_once script world n host there up (ClientAsks req ask) by caused = inl refl
 
 pub log_gets : (script : List Statement) {start before after : MomentWithPast} → MomentChange script start before after
     → LogGets start before after

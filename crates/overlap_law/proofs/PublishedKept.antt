@@ -25,10 +25,10 @@ use Rattle.sheep_node.specs.SoundWorks.{IsSoundStage}
 use Rattle.sheep_node.specs.WantedWorks.{IsWantedAt}
 use Rattle.sheep_node.specs.declared.course.Course.TheVariants.{Commanding}
 use Rattle.sheep_node.specs.declared.course.Request.{Request}
-use Rattle.sheep_node.specs.declared.event.Event.{Event}
 use Rattle.sheep_world.specs.Began.{Began}
 use Rattle.sheep_world.specs.NodeCauses.{input_of_cause, host_with_node}
 use Rattle.sheep_world.specs.World.{Host}
+use Rattle.sheep_world.specs.RunsWithAsks.{Move}
 use Rattle.overlap_law.specs.Attempts.{AttemptRecord}
 use Rattle.overlap_law.specs.Grants.{writer_of}
 use Rattle.overlap_law.specs.MomentChanges as moments
@@ -62,7 +62,7 @@ use Rattle.overlap_law.proofs.TiedInRuns.{kept_tied}
 use Rattle.overlap_law.proofs.ToComeStays.{to_come_before}
 use Rattle.overlap_law.proofs.WorksInMoments.{well_along}
 
-module _ (script : List Statement) (range : RunsAreInRange script) (events : List Event) (start before after : MomentWithPast)
+module _ (script : List Statement) (range : RunsAreInRange script) (events : List Move) (start before after : MomentWithPast)
     (ran : run_with_past script events ≡ Some start) (trail : MomentTrail script start before)
     (change : MomentChange script start before after)
     (all : PublishedTablesStay (log_effects before.world.log) before.world.hosts before.past.attempts) where

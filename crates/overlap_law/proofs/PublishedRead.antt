@@ -16,10 +16,10 @@ use Rattle.vdi_directory.specs.Decisions.{log_effects}
 use Rattle.vdi_ops.specs.Op.{Publishing, Op}
 use Rattle.sheep_node.specs.declared.course.Course.TheVariants.{Commanding}
 use Rattle.sheep_node.specs.declared.course.Request.{Request}
-use Rattle.sheep_node.specs.declared.event.Event.{Event}
 use Rattle.sheep_world.specs.Began.{Began}
 use Rattle.sheep_world.specs.World.{Host}
 use Rattle.sheep_world.proofs.LogFrontLaws.{all_read}
+use Rattle.sheep_world.specs.RunsWithAsks.{Move}
 use Rattle.overlap_law.specs.CommandDisks.{opened_in, IsOpenAtLast, IsOpenAtStage, IsOpenAtCourse}
 use Rattle.overlap_law.specs.Each.{EachAttempt, spec_in}
 use Rattle.overlap_law.specs.Fates.{IsCreated}
@@ -45,7 +45,7 @@ use Rattle.overlap_law.proofs.RunsByChanges.{on_the_way}
 use Rattle.overlap_law.proofs.TiedInRuns.{kept_tied}
 use Rattle.overlap_law.proofs.WholeInRuns.{whole-on_the_way}
 
-module _ (script : List Statement) (range : RunsAreInRange script) (events : List Event) (moment : MomentWithPast)
+module _ (script : List Statement) (range : RunsAreInRange script) (events : List Move) (moment : MomentWithPast)
     (is : run_with_past script events ≡ Some moment) (n : ℕ) (host : Host) (there : tree.get moment.world.hosts n ≡ Some host)
     (up : host.is_lost ≡ false) (req : ℕ) (request : Request) (op : Op) (entry : Entry) (inode : Content)
     (got : tree.get host.node.requests req ≡ Some request) (command : request.course ≡ Commanding op)

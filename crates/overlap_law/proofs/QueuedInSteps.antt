@@ -1,5 +1,6 @@
 -- Two reads or writes of a session that have begun are at pieces of different objects, also in the middle of a step.
-use Rattle.std.proofs.Common.{◌≡◌, ◌≢◌, ◌&&◌, arith, ℕ, ◌<◌, ◌≤◌, Bool, true, List, All, Contains, Some, slice_get, refl, sym, ap, ◌∙◌, ⊎_elim}
+use Rattle.std.proofs.Common.{◌≡◌, ◌≢◌, ◌&&◌, arith, ℕ, ◌<◌, ◌≤◌, Bool, true, List, All, Contains, Some, slice_get, refl, sym, ap, ◌∙◌}
+use Rattle.std.proofs.Common.{⊎_elim}
 use Rattle.std.specs.FinMap as tree
 use Rattle.std.proofs.lemmas.Bool.{cases_lt, eq-eqb}
 use Rattle.std.proofs.lemmas.Option.{same_Some}

@@ -30,7 +30,7 @@ use Rattle.sheep_world.specs.Began.{Began}
 use Rattle.sheep_world.specs.EventKinds.{log_after_return}
 use Rattle.sheep_world.specs.HostChanges.{HostsKeep}
 use Rattle.sheep_world.specs.NodeCauses.{NodeCause, GuestAsks, RequestComes, ReplyComes, LossIsTold, EntryIsRead, EntryIsPut, RecoveryTicks}
-use Rattle.sheep_world.specs.NodeCauses.{WorkIsRetried, input_of_cause, IsCause}
+use Rattle.sheep_world.specs.NodeCauses.{WorkIsRetried, ClientAsks, input_of_cause, IsCause}
 use Rattle.sheep_world.specs.Opening.{format_entry, initial_world}
 use Rattle.sheep_world.specs.World.{Host, World, is_host_up}
 use Rattle.sheep_world.proofs.BegunWorlds.{each_where}
@@ -131,6 +131,8 @@ module _ (script : List Statement) (range : RunsAreInRange script) where
         covered_then (EntryIsPut entry) tt so covered _ (step_chain (input_of_cause (EntryIsPut entry)) host.node)
     step_covered RecoveryTicks so covered = covered_then RecoveryTicks tt so covered _ (step_chain (input_of_cause RecoveryTicks) host.node)
     step_covered WorkIsRetried so covered = covered_then WorkIsRetried tt so covered _ (step_chain (input_of_cause WorkIsRetried) host.node)
+    step_covered (ClientAsks req ask) so covered =
+        covered_then (ClientAsks req ask) tt so covered _ (step_chain (input_of_cause (ClientAsks req ask)) host.node)
 
   -- ---- each world
 

@@ -1,6 +1,7 @@
--- As an attempt begins nothing is in flight of the attempts on its object that are of its gateway, where no two open creates or writes of a node
--- are on one object.
-use Rattle.std.proofs.Common.{◌≡◌, ◌≢◌, ⊎_elim, ℕ, ◌+◌, ◌<◌, Bool, true, false, List, [], ◌∷◌, ◌++◌, length, Some, refl, sym, ap, ◌∙◌, arith}
+-- As an attempt begins nothing is in flight of the attempts on its object that are of its gateway, where no two open creates or writes of a
+-- node are on one object.
+use Rattle.std.proofs.Common.{◌≡◌, ◌≢◌, ⊎_elim, ℕ, ◌+◌, ◌<◌, Bool, true, false, List, [], ◌∷◌, ◌++◌, length, Some, refl, sym, ap, ◌∙◌}
+use Rattle.std.proofs.Common.{arith}
 use Rattle.std.specs.Prelude.{is_some}
 use Rattle.std.specs.List.{slice_get}
 use Rattle.std.specs.FinMap as tree
@@ -19,7 +20,8 @@ use Rattle.overlap_law.specs.Packets.{Wire, is_name_in_wire, message_name_at, Is
 use Rattle.overlap_law.specs.Past.{MomentWithPast}
 use Rattle.overlap_law.specs.Reached.{Hosts}
 use Rattle.overlap_law.specs.Sessions.{MakersAreApart}
-use Rattle.overlap_law.specs.Traffic.{Traffic, NothingMoves, MessageIsLost, ReplyIsReceived, RequestIsAnswered, RequestsAreSent, AttemptBegins, RepliesGo}
+use Rattle.overlap_law.specs.Traffic.{Traffic, NothingMoves, MessageIsLost, ReplyIsReceived, RequestIsAnswered, RequestsAreSent}
+use Rattle.overlap_law.specs.Traffic.{AttemptBegins, RepliesGo}
 use Rattle.overlap_law.proofs.GoneInRuns.{at_end, at_push}
 use Rattle.overlap_law.proofs.KnownFatesLater.{WasMarked, marked_was, lost_was}
 use Rattle.overlap_law.proofs.OneWriterAtEntries.{got_longer}
@@ -29,7 +31,8 @@ use Rattle.overlap_law.proofs.TrafficFates.{sends_new}
 use Rattle.overlap_law.proofs.TrafficOfChanges.{traffic}
 use Rattle.overlap_law.proofs.TurnsInRuns.{HasOneWriter, kept_one, never_pushed}
 
-module _ (hosts hosts_after : Hosts) (wire : Wire) (attempts : List AttemptRecord) (of_incarnations : AttemptsAreOfIncarnations hosts wire attempts)
+module _ (hosts hosts_after : Hosts) (wire : Wire) (attempts : List AttemptRecord)
+    (of_incarnations : AttemptsAreOfIncarnations hosts wire attempts)
     (new : AttemptRecord) where
   none_marked : WasMarked attempts (length attempts) new → ⊥
   none_marked was = let none = at_end attempts in let some = was.at in cc (none, some)
@@ -38,8 +41,10 @@ module _ (hosts hosts_after : Hosts) (wire : Wire) (attempts : List AttemptRecor
   got_new after more = ap (λ (all : List AttemptRecord). slice_get all (length attempts)) more ∙ at_push attempts new
 
   -- what flies of the others flies still
-  flies_still : {later : Wire} {after : List AttemptRecord} → Traffic hosts hosts_after wire attempts later after → after ≡ attempts ++ new ∷ []
-      → (j : ℕ) (other : AttemptRecord) → slice_get attempts j ≡ Some other → (place : ℕ) (target : NodeId) → slice_get other.targets place ≡ Some target
+  flies_still : {later : Wire} {after : List AttemptRecord} → Traffic hosts hosts_after wire attempts later after
+      → after ≡ attempts ++ new ∷ []
+      → (j : ℕ) (other : AttemptRecord) → slice_get attempts j ≡ Some other → (place : ℕ) (target : NodeId)
+      → slice_get other.targets place ≡ Some target
       → is_name_in_wire wire (message_name_at other place) ≡ true → is_name_in_wire later (message_name_at other place) ≡ true
   flies_still NothingMoves more j other got place target among flies = absurd (never_pushed attempts new more)
   flies_still (MessageIsLost name packet there) more j other got place target among flies =
@@ -49,10 +54,12 @@ module _ (hosts hosts_after : Hosts) (wire : Wire) (attempts : List AttemptRecor
       absurd (none_marked (marked_was (fate_of_say rsp.say) name.sender name.number attempts (length attempts) new (got_new _ more)))
   flies_still (RequestsAreSent n sends by nothing) more j other got place target among flies = absurd (never_pushed attempts new more)
   flies_still (AttemptBegins n sends begun_one begun) more j other got place target among flies =
-      ap (λ o. is_some o) (sends_new hosts hosts_after wire attempts of_incarnations n sends begun.sent_by j other got place target among) ∙ flies
+      ap (λ o. is_some o) (sends_new hosts hosts_after wire attempts of_incarnations n sends begun.sent_by j other got place target among)
+      ∙ flies
   flies_still (RepliesGo n) more j other got place target among flies = absurd (never_pushed attempts new more)
 
-  begun_new : {later : Wire} {after : List AttemptRecord} → Traffic hosts hosts_after wire attempts later after → after ≡ attempts ++ new ∷ []
+  begun_new : {later : Wire} {after : List AttemptRecord} → Traffic hosts hosts_after wire attempts later after
+      → after ≡ attempts ++ new ∷ []
       → HasBegun hosts hosts_after new
   begun_new {later} {after} kind more = ⊎_elim
       (λ (was : WasMarked attempts (length attempts) new). absurd (none_marked was))
@@ -70,7 +77,8 @@ module _ (script : List Statement) (range : RunsAreInRange script) (start before
       begun_new before.world.hosts after.world.hosts before.world.wire before.past.attempts has.tied.incarnations attempt
       (traffic script range start began change) more
 
-  module _ (j : ℕ) (other : AttemptRecord) (got : slice_get before.past.attempts j ≡ Some other) (object : object_of other ≡ object_of attempt)
+  module _ (j : ℕ) (other : AttemptRecord) (got : slice_get before.past.attempts j ≡ Some other)
+      (object : object_of other ≡ object_of attempt)
       (gateway : other.gateway.0 ≡ attempt.gateway.0) where
     got_after : slice_get after.past.attempts j ≡ Some other
     got_after =
@@ -96,8 +104,8 @@ module _ (script : List Statement) (range : RunsAreInRange script) (start before
         let within : place < length other.targets = slice_get_within other.targets place target among in
         let before_it : j < length before.past.attempts = slice_get_within before.past.attempts j other got in
         let behind = then.tied.incarnations.apart j other got_after (length before.past.attempts) attempt
-        (got_new before.world.hosts after.world.hosts before.world.wire before.past.attempts has.tied.incarnations attempt after.past.attempts more)
-        before_it gateway in
+        (got_new before.world.hosts after.world.hosts before.world.wire before.past.attempts has.tied.incarnations attempt
+        after.past.attempts more) before_it gateway in
         omega (arith, theirs, own, within, behind))
         (λ (differ : other.req ≢ attempt.req).
         apart opened.n b.sent_by.after b.sent_by.there_after b.up other.req attempt.req a.work b.work
@@ -106,7 +114,10 @@ module _ (script : List Statement) (range : RunsAreInRange script) (start before
         (cases_eq other.req attempt.req)
 
     pub quiet_then : IsQuiet before.world.wire other
-    quiet_then = record { none = λ place target among. by_test place target among (is_name_in_wire before.world.wire (message_name_at other place)) refl }
+    quiet_then =
+        record {
+          none = λ place target among. by_test place target among (is_name_in_wire before.world.wire (message_name_at other place)) refl;
+        }
       where
         by_test : (place : ℕ) (target : NodeId) → slice_get other.targets place ≡ Some target → (b : Bool)
             → is_name_in_wire before.world.wire (message_name_at other place) ≡ b

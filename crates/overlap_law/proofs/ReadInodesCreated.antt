@@ -19,10 +19,10 @@ use Rattle.vdi_directory.proofs.StateLemmas.{log_effects-none}
 use Rattle.vdi_ops.specs.Op.{Task, Opening, WritingBack, Tagging, Copying, Making, OpStage, Asked, Working, Publishing, Answered, Op}
 use Rattle.sheep_node.specs.declared.course.Course.TheVariants.{Commanding}
 use Rattle.sheep_node.specs.declared.course.Request.{Request}
-use Rattle.sheep_node.specs.declared.event.Event.{Event}
 use Rattle.sheep_node.specs.StepState.{StepState}
 use Rattle.sheep_world.specs.World.{Host}
 use Rattle.sheep_world.specs.NodeCauses.{input_of_cause, host_with_node}
+use Rattle.sheep_world.specs.RunsWithAsks.{Move}
 use Rattle.overlap_law.specs.CommandDisks.{opened_in}
 use Rattle.overlap_law.specs.Fates.{IsCreated}
 use Rattle.overlap_law.specs.Grants.{published_in}
@@ -65,7 +65,7 @@ snapped_published vid = by_entries (λ (log : List Entry). was_snapped log vid �
         (or_cases (was_snapped log vid) (snaps vid (outcome (log_effects log) entry).effect || false)
         (sym (snapped-push log entry vid) ∙ is))
 
-module _ (script : List Statement) (range : RunsAreInRange script) (events : List Event) (start : MomentWithPast)
+module _ (script : List Statement) (range : RunsAreInRange script) (events : List Move) (start : MomentWithPast)
     (ran : run_with_past script events ≡ Some start) (stepping : SteppingNode) (is : IsStepping script start.world stepping)
     (by : StepsByChanges stepping.cause) (so_far : StepState) (leads : LeadsInStep stepping (first_in_step stepping) so_far)
     (trail : MomentTrail script start (moment_in_step script stepping start so_far)) where

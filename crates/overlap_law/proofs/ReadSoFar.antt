@@ -33,11 +33,11 @@ use Rattle.sheep_world.specs.World.{Host, World}
 use Rattle.overlap_law.specs.Attempts.{AttemptRecord}
 use Rattle.overlap_law.specs.MomentChanges.{RunsAreInRange}
 use Rattle.overlap_law.specs.Pieces.{IsInPiece, bytes_for, WhatIsReadMayBeRead}
-use Rattle.overlap_law.specs.RequestsOfScript.{IsCourseOfAsk, IsDriverOfAsk}
+use Rattle.overlap_law.specs.RequestsOfScript.{IsCourseOfAsk, IsDriverOfAsk, is_of_client}
 use Rattle.overlap_law.specs.StandingReads.{asked_in, AllReadsStand, IsAskStanding, IsCourseStanding}
 use Rattle.overlap_law.specs.ToldReads.{MayStayReadAs, IsReadUpTo, extent_on}
 use Rattle.overlap_law.specs.WrittenBlocks.{IsBlockOfDisk, items_at, is_allowed}
-use Rattle.overlap_law.proofs.CoursesOfAsks.{IsPlacedIn}
+use Rattle.overlap_law.proofs.CoursesOfAsks.{IsPlacedIn, placed_as}
 use Rattle.overlap_law.proofs.CoursesOfScript.{asked_by, BeganOn, requests_placed}
 use Rattle.overlap_law.proofs.PiecesRead.{stays_read}
 
@@ -140,8 +140,10 @@ module _ (script : List Statement) (range : RunsAreInRange script) (world : Worl
 
     reading : (disk : Disk) × ((session_at request.session host.node).disk ≡ Some disk) × IsReadingOn disk told piece
     reading =
-        let (began_on, placed, course_so) = subst (IsPlacedIn (asked_by script) (BeganOn script world.guests) req host.node.sessions) got
-        (requests_placed script range world began n host there req) in
+        let (began_on, placed, course_so) = placed_as (asked_by script) (BeganOn script world.guests) req
+        (session_at request.session host.node).disk request.course (ap is_of_client course)
+        (subst (IsPlacedIn (asked_by script) (BeganOn script world.guests) req host.node.sessions) got
+        (requests_placed script range world began n host there req)) in
         let of : IsDriverOfAsk (asked_by script req) (session_at request.session host.node).disk began_on (Reads told piece rest)
         = subst (IsCourseOfAsk (asked_by script req) (session_at request.session host.node).disk began_on) course course_so in
         let (offset, size, read, left) = of.is in

@@ -1,6 +1,6 @@
 -- In each run in range, where a session's read of whole copies ends in the middle of a step, each unit inside what it read is one that the
 -- object may come to have, if the object was good as the event began, and was created.
-use Rattle.std.proofs.Common.{◌≡◌, arith, ℕ, ◌+◌, ◌-◌, ◌≤◌, ◌<◌, ◌==◌, Bool, true, false, List, length, Some}
+use Rattle.std.proofs.Common.{◌≡◌, arith, ℕ, ◌+◌, ◌-◌, ◌≤◌, ◌<◌, ◌==◌, Bool, true, false, List, length, Some, Option}
 use Rattle.std.proofs.Common.{option_map, sym, ap, subst, ◌∙◌}
 use Rattle.std.specs.FinMap as tree
 use Rattle.std.proofs.lemmas.Bool.{le-leb, eqb-true}
@@ -28,14 +28,14 @@ use Rattle.gateway.specs.Attempt as gateways
 use Rattle.gateway.specs.State.{Work}
 use Rattle.gateway.specs.Work.{asks_all, bytes_of_work}
 use Rattle.sheep_node.specs.declared.course.Course.{Course}
-use Rattle.sheep_node.specs.declared.event.Event.{Event}
 use Rattle.sheep_node.specs.declared.input.Input.{Input}
 use Rattle.sheep_node.specs.Changes.{IsTold, EndsWork}
 use Rattle.sheep_node.specs.State.{Node}
 use Rattle.sheep_node.specs.StepState.{StepState}
 use Rattle.sheep_world.specs.World.{Host}
 use Rattle.sheep_world.specs.NodeCauses.{NodeCause, GuestAsks, RequestComes, ReplyComes, LossIsTold, EntryIsRead, EntryIsPut}
-use Rattle.sheep_world.specs.NodeCauses.{RecoveryTicks, WorkIsRetried, input_of_cause, host_with_node}
+use Rattle.sheep_world.specs.NodeCauses.{RecoveryTicks, WorkIsRetried, ClientAsks, input_of_cause, host_with_node}
+use Rattle.sheep_world.specs.RunsWithAsks.{Move}
 use Rattle.overlap_law.specs.Attempts.{AttemptRecord, object_of, attempts_on}
 use Rattle.overlap_law.specs.BornObjects.{IsBorn}
 use Rattle.overlap_law.specs.Each.{policy_in, spec_in}
@@ -63,6 +63,10 @@ use Rattle.overlap_law.proofs.TellersOfPieces.{TellersAreTargets, tellers-on_the
 use Rattle.overlap_law.proofs.ToldPieces.{told_pieces-on_the_way}
 use Rattle.overlap_law.proofs.WholeInRuns.{whole-on_the_way}
 use Rattle.overlap_law.proofs.WholeNodes.{IsWholeWork}
+use Rattle.overlap_law.specs.RequestsOfScript.{is_of_client}
+use Rattle.overlap_law.specs.Sessions.{is_of_client_at}
+use Rattle.sheep_node.specs.declared.course.Request.{Request}
+use Rattle.std.specs.Option.{option_map_or}
 
 -- what the disk of an id was made with stays so along a trail
 pub spec_along : (script : List Statement) {start moment : MomentWithPast} → MomentTrail script start moment → (vid : ℕ) (spec : VdiSpec)
@@ -83,7 +87,7 @@ created_covers unit size (works.Write oid policy offset bytes) creating whole wi
 created_covers unit size (works.Read oid policy offset long) creating whole within = absurd (cc (creating))
 created_covers unit size (works.ReadAll oid policy long) creating whole within = absurd (cc (creating))
 
-module _ (script : List Statement) (range : RunsAreInRange script) (events : List Event) (start : MomentWithPast)
+module _ (script : List Statement) (range : RunsAreInRange script) (events : List Move) (start : MomentWithPast)
     (ran : run_with_past script events ≡ Some start) (stepping : SteppingNode) (is : IsStepping script start.world stepping)
     (by : StepsByChanges stepping.cause) (so_far : StepState) (leads : LeadsInStep stepping (first_in_step stepping) so_far)
     (trail : MomentTrail script start (moment_in_step script stepping start so_far)) (good : ℕ → Bool)
@@ -116,6 +120,7 @@ module _ (script : List Statement) (range : RunsAreInRange script) (events : Lis
   known_at_start (EntryIsPut entry) number bytes told vid spec known = absurd told
   known_at_start RecoveryTicks number bytes told vid spec known = absurd told
   known_at_start WorkIsRetried number bytes told vid spec known = absurd told
+  known_at_start (ClientAsks req ask) number bytes told vid spec known = absurd told
 
   tellers : TellersAreTargets here
   tellers = tellers-on_the_way script range events start here ran trail
@@ -209,7 +214,8 @@ module _ (script : List Statement) (range : RunsAreInRange script) (events : Lis
           (of_the_born start.past.attempts (creates_first-in_run script range events start start ran Still) among.place one among.there)
 
     -- a unit of it
-    module _ (is_good : good oid ≡ true) (epoch unit : ℕ) (created : IsCreated here.past.attempts oid epoch)
+    module _ (own : is_of_client course ≡ false) (is_good : good oid ≡ true) (epoch unit : ℕ)
+        (created : IsCreated here.past.attempts oid epoch)
         (above : offset ≤ unit_start (kind_of oid) unit) (below : unit_end (kind_of oid) unit ≤ offset + size) (some : 1 ≤ size) where
       covers : covers_unit unit created.create ≡ true
       covers =
@@ -231,11 +237,15 @@ module _ (script : List Statement) (range : RunsAreInRange script) (events : Lis
       abbrev IsBelow : ObjWork → Type 0
       IsBelow w = unit_end (kind_of (oid_of w)) unit ≤ offset_read w + length bytes
 
+      no_client : is_of_client_at req was.node ≡ false
+      no_client =
+          ap (λ (o : Option Request). option_map_or (λ (request : Request). is_of_client request.course) o false) ends.ends.request ∙ own
+
       by_reply : number < node.sends → (from : NodeId) (rsp : PeerRsp)
           → IsAnswering start.world.wire (message_name stepping.n number) from rsp → rsp.say ≡ says.Piece bytes → IsHere work.work
       by_reply low from rsp answering said =
           piece_is_to_come script range events start here ran trail stepping.n was seat up req awaited.0 work attempt awaited.1
-          unanswered good told stepping.host is.there (subst (λ (k : ℕ). k < node.sends) (sym awaited.3) low) from rsp bytes
+          unanswered no_client good told stepping.host is.there (subst (λ (k : ℕ). k < node.sends) (sym awaited.3) low) from rsp bytes
           (subst (λ (k : ℕ). IsAnswering start.world.wire (message_name stepping.n k) from rsp) (sym awaited.3) answering) said
           (ap (λ (w : ObjWork). good (oid_of w)) is_read ∙ is_good) policy_known
           (ap (λ (w : ObjWork). is_in_strips (policy_of w) (kind_of (oid_of w))) is_read ∙ whole) unit

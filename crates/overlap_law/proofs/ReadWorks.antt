@@ -1,6 +1,7 @@
 -- What a read or write, or a check, reads lies inside an object of a disk that is known: for it reads an object that an entry of the table
 -- names.
-use Rattle.std.proofs.Common.{◌≡◌, ◌≢◌, inl, inr, arith, ℕ, ◌+◌, ◌≤◌, ◌==◌, Bool, true, false, cond, List, [], ◌∷◌, ◌++◌, length, All, Option, Some, None, IsTrue, refl, sym, ap, subst, ◌∙◌}
+use Rattle.std.proofs.Common.{◌≡◌, ◌≢◌, inl, inr, arith, ℕ, ◌+◌, ◌≤◌, ◌==◌, Bool, true, false, cond, List, [], ◌∷◌, ◌++◌, length, All}
+use Rattle.std.proofs.Common.{Option, Some, None, IsTrue, refl, sym, ap, subst, ◌∙◌}
 use Rattle.std.proofs.lemmas.Bool.{eq-eqb}
 use Rattle.std.proofs.lemmas.List.{length-set}
 use Rattle.std.proofs.lemmas.List.Elements.{All-head, All-tail, All-set}
@@ -24,10 +25,12 @@ use Rattle.guest_driver.specs.PieceWorks.{Backing, Hole, Own, Inherited, entry_o
 use Rattle.guest_driver.specs.Refusals.{refusal_on}
 use Rattle.guest_driver.specs.OnDisk.{pieces_left, IsPieceOf, IsDriverOn}
 use Rattle.guest_driver.specs.Driver as drivers
-use Rattle.guest_driver.specs.Driver.{DriverStage, InPlace, Fetching, Creating, Entering, Driver, Reads, Writes, DriverStep, work_step, read_on, write_piece_on, write_on, begin_unless_refused, begin_driver, write_done, driver_on_done}
+use Rattle.guest_driver.specs.Driver.{DriverStage, InPlace, Fetching, Creating, Entering, Driver, Reads, Writes, DriverStep, work_step}
+use Rattle.guest_driver.specs.Driver.{read_on, write_piece_on, write_on, begin_unless_refused, begin_driver, write_done, driver_on_done}
 use Rattle.guest_driver.proofs.BeginLemmas.{asks-some, ends-inside, pieces-are}
 use Rattle.disk_check.specs.Check as checks
-use Rattle.disk_check.specs.Check.{Check, CheckStage, CheckStep, Comparing, WritingBack as Rewriting, check_on, begun_check, begin_check, check_done_at, check_on_done, left_of}
+use Rattle.disk_check.specs.Check.{Check, CheckStage, CheckStep, Comparing, WritingBack as Rewriting, check_on, begun_check, begin_check}
+use Rattle.disk_check.specs.Check.{check_done_at, check_on_done, left_of}
 use Rattle.disk_check.specs.Table.{own_indexes}
 use Rattle.disk_check.proofs.TableLemmas.{own_indexes-own}
 use Rattle.sheep_node.specs.Changes.{Outcome, ToWork, ToEntry, ToReply, outcome_of_driver, outcome_of_check}
@@ -35,7 +38,8 @@ use Rattle.sheep_node.proofs.ValidSteps.{given}
 use Rattle.overlap_law.specs.Tables.{IsOfChain}
 use Rattle.overlap_law.proofs.ChainTables.{HasChainTable, HasChains, names_known}
 use Rattle.overlap_law.proofs.GrantedEpochs.{spec_known}
-use Rattle.overlap_law.proofs.KnownDisks.{Few, FewAt, IsKnownDisk, IsKnownInode, IsKnownCheck, vid-of_object, kind-of_object, all_few, with_entry}
+use Rattle.overlap_law.proofs.KnownDisks.{Few, FewAt, IsKnownDisk, IsKnownInode, IsKnownCheck, vid-of_object, kind-of_object, all_few}
+use Rattle.overlap_law.proofs.KnownDisks.{with_entry}
 use Rattle.overlap_law.proofs.KnownTables.{entry_known}
 
 -- what a work reads ends inside an object that is so long, and a check reads all of it

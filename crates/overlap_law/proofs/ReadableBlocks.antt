@@ -1,6 +1,7 @@
 -- What stays written is written: what a block may be read as is among what it may come to be read as. And its inode has an entry, and what
 -- an entry names was made, by the tables' part of the invariant.
-use Rattle.std.proofs.Common.{◌≡◌, ◌≢◌, ◌⊎◌, inl, inr, ⊎_elim, arith, ℕ, zero, suc, ◌<◌, ◌≤◌, ◌+◌, ◌*◌, ◌==◌, nat_lt, nat_le, Bool, true, false, List, [], ◌∷◌, All, length, Option, Some, None, option_map, slice_get, refl, sym, ap, subst, ◌∙◌}
+use Rattle.std.proofs.Common.{◌≡◌, ◌≢◌, ◌⊎◌, inl, inr, ⊎_elim, arith, ℕ, zero, suc, ◌<◌, ◌≤◌, ◌+◌, ◌*◌, ◌==◌, nat_lt, nat_le, Bool, true}
+use Rattle.std.proofs.Common.{false, List, [], ◌∷◌, All, length, Option, Some, None, option_map, slice_get, refl, sym, ap, subst, ◌∙◌}
 use Rattle.std.specs.Prelude.{◌^◌}
 use Rattle.std.specs.List.{list_any}
 use Rattle.std.specs.Str.{bytes_eq}
@@ -34,7 +35,8 @@ use Rattle.overlap_law.specs.StayingBlocks.{MayStay, IsHomeToCome, BlocksStayWri
 use Rattle.overlap_law.specs.Tables.{entry_by, EntriesAreMade, PublishedInodesAreMade}
 use Rattle.overlap_law.specs.Units.{unit_end, covers_by}
 use Rattle.overlap_law.specs.Words.{Hosts, bytes_by}
-use Rattle.overlap_law.specs.WrittenBlocks.{is_allowed, IsBlockOfDisk, items_at, is_torn_here, blocks_per_object, IsCandidate, IsHome, outcomes_in, AreAllowed, BlocksAreWritten}
+use Rattle.overlap_law.specs.WrittenBlocks.{is_allowed, IsBlockOfDisk, items_at, is_torn_here, blocks_per_object, IsCandidate, IsHome}
+use Rattle.overlap_law.specs.WrittenBlocks.{outcomes_in, AreAllowed, BlocksAreWritten}
 use Rattle.overlap_law.proofs.BlocksOfAnyDisk.{live_alive, any_block}
 use Rattle.overlap_law.proofs.LiveIds.{few_objects}
 use Rattle.overlap_law.proofs.PublishedInodes.{live_was}

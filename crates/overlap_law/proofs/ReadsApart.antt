@@ -1,5 +1,5 @@
--- Beside an open read of a session a node has no open create or write on its object: who may write an object is one session, of which no two open works
--- are on one object; and a snapshot nobody may write.
+-- Beside an open read of a session a node has no open create or write on its object: who may write an object is one session, of which no
+-- two open works are on one object; and a snapshot nobody may write.
 use Rattle.std.proofs.Common.{◌≡◌, ⊎_elim, ℕ, true, refl, sym, ap, ◌∙◌}
 use Rattle.std.proofs.lemmas.Option.{same_Some}
 use Rattle.object_id.specs.Oid.{vid_of}

@@ -4,7 +4,8 @@ use Rattle.std.proofs.Common.{◌≡◌, ⊎_elim, arith, ℕ, zero, suc, ◌+�
 use Rattle.std.proofs.Common.{cond, All, List, [], ◌∷◌, ◌++◌, length, take, drop, Some, refl, sym, ap, subst, ◌∙◌}
 use Rattle.std.specs.Prelude.{slice_index}
 use Rattle.std.proofs.lemmas.Bool.{cases_lt, eqb-true}
-use Rattle.std.proofs.lemmas.List.{drop-append-le, drop-replicate, length-append, length-drop, length-replicate, take-append-le, take-replicate}
+use Rattle.std.proofs.lemmas.List.{drop-append-le, drop-replicate, length-append, length-drop, length-replicate, take-append-le}
+use Rattle.std.proofs.lemmas.List.{take-replicate}
 use Rattle.std.proofs.lemmas.List.Elements.{All-head, All-tail}
 use Rattle.std.proofs.lemmas.Option.{same_Some}
 use Rattle.std.proofs.Math.Seq.{drop-append-add}
@@ -19,7 +20,8 @@ use Rattle.guest_driver.specs.Pieces.{Piece}
 use Rattle.guest_driver.specs.PieceWorks.{entry_of, read_piece}
 use Rattle.guest_driver.specs.Driver.{Reads, DriverStep, work_step, read_on, driver_on_done}
 use Rattle.guest_driver.specs.Extent.{IsExtent, Touches, first_index_of, last_index_of, piece_at_index, pieces_from, place_at}
-use Rattle.guest_driver.proofs.ExtentLemmas.{pieces_from-cons, pieces_from-past, place_at-here, place_at-next, place_at-first, piece-blocks, first-le-last}
+use Rattle.guest_driver.proofs.ExtentLemmas.{pieces_from-cons, pieces_from-past, place_at-here, place_at-next, place_at-first, piece-blocks}
+use Rattle.guest_driver.proofs.ExtentLemmas.{first-le-last}
 use Rattle.overlap_law.specs.Pieces.{IsInPiece, bytes_for}
 use Rattle.overlap_law.specs.ToldReads.{Reading, IsReadUpTo, PieceMayBeRead, HoleMayBeRead, ReadStands}
 use Rattle.overlap_law.specs.WrittenBlocks.{IsBlockOfDisk, items_at}

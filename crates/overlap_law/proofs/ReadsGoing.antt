@@ -1,6 +1,6 @@
 -- Reads may go on in the middle of a step, where what comes of their pieces is to come, and the holes of open disks are, if what blocks may
 -- come to be read as may be read of them.
-use Rattle.std.proofs.Common.{◌≡◌, ◌≢◌, ℕ, Bool, true, List, length, Option, Some, None, IfSome, refl, sym, ap, subst, ◌∙◌}
+use Rattle.std.proofs.Common.{◌≡◌, ◌≢◌, inl, inr, ℕ, Bool, true, List, length, Option, Some, None, IfSome, refl, sym, ap, subst, ◌∙◌}
 use Rattle.std.specs.Prelude.{unwrap_or}
 use Rattle.std.specs.Option.{option_and_then}
 use Rattle.std.specs.FinMap as tree
@@ -17,29 +17,33 @@ use Rattle.sheep_node.specs.declared.session.Session.{Session}
 use Rattle.sheep_node.specs.State.{Node, new_session, session_at}
 use Rattle.sheep_world.specs.Asking.{ask_of_statement}
 use Rattle.sheep_world.specs.Began.{Began}
-use Rattle.sheep_world.specs.NodeCauses.{NodeCause, GuestAsks, RequestComes, ReplyComes, LossIsTold, EntryIsRead, EntryIsPut, RecoveryTicks, WorkIsRetried, host_with_node, input_of_cause, IsCause}
+use Rattle.sheep_world.specs.ClientAsks.{is_read_ask}
+use Rattle.sheep_world.specs.NodeCauses.{NodeCause, GuestAsks, RequestComes, ReplyComes, LossIsTold, EntryIsRead, EntryIsPut, RecoveryTicks}
+use Rattle.sheep_world.specs.NodeCauses.{WorkIsRetried, ClientAsks, host_with_node, input_of_cause, IsCause}
 use Rattle.sheep_world.specs.World.{Host, World}
 use Rattle.vdi_directory.specs.declared.effect.Effect.{Effect}
 use Rattle.vdi_directory.specs.States.{state_of, is_live_state}
 use Rattle.overlap_law.specs.Attempts.{AttemptRecord}
 use Rattle.overlap_law.specs.MomentChanges.{MomentTrail, RunsAreInRange}
 use Rattle.overlap_law.specs.Past.{MomentWithPast}
-use Rattle.overlap_law.specs.StandingReads.{asked_in, ReadsMayGoOnIn, ReadPiecesAreToCome, ReadHolesAreToCome}
+use Rattle.overlap_law.specs.StandingReads.{asked_in, IsBroughtBy, ReadsMayGoOnIn, ReadPiecesAreToCome, ReadHolesAreToCome}
 use Rattle.overlap_law.specs.StayingBlocks.{BlocksStayWritten, IsHomeToCome}
 use Rattle.overlap_law.specs.ToldReads.{MayStayReadAs, PieceIsToCome, PieceMayBeRead}
 use Rattle.overlap_law.specs.Words.{Hosts}
+use Rattle.overlap_law.proofs.AsksInCauses.{no_request}
 use Rattle.overlap_law.proofs.CausedWorks.{HasWellWorks}
 use Rattle.overlap_law.proofs.KnownDisks.{IsKnownInode}
 use Rattle.overlap_law.proofs.PiecesRead.{piece_read, holes_read}
 use Rattle.overlap_law.proofs.WorksInMoments.{well_along}
 
--- what a cause brings is what the script has asked
+-- what a cause brings is what the script has asked, or a client's read
 brings : (script : List Statement) (world : World) (n : ℕ) (host : Host) (cause : NodeCause) → IsCause script world n host cause
-    → (req session : ℕ) (ask : Ask) → input_of_cause cause ≡ inputs.Guest req session ask → asked_in script req ≡ Some ask
+    → (req session : ℕ) (ask : Ask) → input_of_cause cause ≡ inputs.Guest req session ask → IsBroughtBy (asked_in script) req ask
 brings script world n host (GuestAsks session begins asks) asked req number ask from =
     let same : begins ≡ req = cc (from) in
     let asked_so : asks ≡ ask = cc (from) in
-    ap (asked_in script) (sym same) ∙ ap (option_and_then ask_of_statement) asked.stands ∙ asked.asks ∙ ap (λ (a : Ask). Some a) asked_so
+    inl (ap (asked_in script) (sym same) ∙ ap (option_and_then ask_of_statement) asked.stands ∙ asked.asks
+    ∙ ap (λ (a : Ask). Some a) asked_so)
 brings script world n host (RequestComes name to request) so req number ask from = absurd (cc (from))
 brings script world n host (ReplyComes name to rsp) so req number ask from = absurd (cc (from))
 brings script world n host (LossIsTold name packet) so req number ask from = absurd (cc (from))
@@ -47,6 +51,14 @@ brings script world n host (EntryIsRead entry) so req number ask from = absurd (
 brings script world n host (EntryIsPut entry) so req number ask from = absurd (cc (from))
 brings script world n host RecoveryTicks so req number ask from = absurd (cc (from))
 brings script world n host WorkIsRetried so req number ask from = absurd (cc (from))
+brings script world n host (ClientAsks begins what) so req number ask from =
+    let same : begins ≡ req = cc (from) in
+    let what_so : what ≡ ask = cc (from) in
+    inr (
+      ap (λ (o : Option Statement). option_and_then ask_of_statement o) (no_request so req same),
+      ap is_read_ask (sym what_so)
+          ∙ so.reads,
+    )
 
 -- the disk that a session of a node has open is sound
 open_sound : (node : Node) (well : HasWellWorks node) (session : ℕ) (disk : Disk) → (session_at session node).disk ≡ Some disk

@@ -1,10 +1,11 @@
 -- In each world of a run in range, and at each moment on the way of its events, each open read of a session is on an id that the session
 -- may write, or on a disk that became a snapshot by what the node has read.
-use Rattle.std.proofs.Common.{◌≡◌, ℕ, List, Some, sym, subst}
+use Rattle.sheep_node.specs.declared.course.Request.{Request}
+use Rattle.std.specs.Option.{option_map_or}
+use Rattle.std.proofs.Common.{◌≡◌, ◌∙◌, ℕ, List, Some, sym, subst, ap, false, Option}
 use Rattle.std.specs.FinMap as tree
 use Rattle.object_id.specs.declared.entry.Entry.{Entry}
 use Rattle.cluster_script.specs.declared.statement.Statement.{Statement}
-use Rattle.sheep_node.specs.declared.event.Event.{Event}
 use Rattle.sheep_node.specs.SoundWorks.{HasSoundWorks}
 use Rattle.sheep_node.specs.State.{Node}
 use Rattle.sheep_node.specs.StepState.{StepState}
@@ -13,6 +14,7 @@ use Rattle.sheep_world.specs.EventKinds.{outcome_of_step}
 use Rattle.sheep_world.specs.NodeCauses.{input_of_cause, event_of_cause, world_after_cause}
 use Rattle.sheep_world.specs.World.{Host, World}
 use Rattle.sheep_world.proofs.BegunWorlds.{goes_on}
+use Rattle.sheep_world.specs.RunsWithAsks.{Move}
 use Rattle.overlap_law.specs.AwaitedEntries.{CommandsAreTheSessions}
 use Rattle.overlap_law.specs.LastReads.{ReadsAreKnown, SnapshotsAreTaken}
 use Rattle.overlap_law.specs.MomentChanges as moments
@@ -36,6 +38,7 @@ use Rattle.overlap_law.proofs.WholeInRuns.{sound_world}
 use Rattle.overlap_law.proofs.WorksInMoments.{HaveWellWorks, well_in_world, well_after}
 use Rattle.overlap_law.proofs.WritersOfWorks.{asked_for}
 use Rattle.overlap_law.proofs.ClosedWorlds.{hosts_after, world_along}
+use Rattle.overlap_law.specs.RequestsOfScript.{is_of_client}
 
 -- a node's works are waited for, and its tables name snapshots alone beside their own disks
 pub record IsReadingWell (node : Node) : Type 0 where
@@ -55,7 +58,9 @@ reads_known moment sound claimed fit own well reading = record {
       let (request, asked) = asked_for host.node (well n host there) req work got in
       let so = reading n host there in
       read_known moment.world.log n host.node read.own read.epoch_so (own.each n host there up) (claimed n host there up) (fit n host there)
-      (well n host there) req work got request asked reads so.shared so.waited.1 so.sound;
+      (well n host there) req work got request asked reads
+      (sym (ap (λ (o : Option Request). option_map_or (λ (request : Request). is_of_client request.course) o false) asked) ∙ client)
+      so.shared so.waited.1 so.sound;
 }
 
 module _ (script : List Statement) (range : RunsAreInRange script) where
@@ -123,10 +128,10 @@ module _ (script : List Statement) (range : RunsAreInRange script) where
         world_along script (λ (world : World). SnapshotsAreTaken world.log) (taken_in_worlds script range) start began
         (λ stepping is by so_far leads. taken_in_worlds script range (end_of stepping) (has_ended stepping is)) trail
 
-  pub reads_known-in_run : (events : List Event) (start moment : MomentWithPast) → run_with_past script events ≡ Some start
+  pub reads_known-in_run : (events : List Move) (start moment : MomentWithPast) → run_with_past script events ≡ Some start
       → MomentTrail script start moment → ReadsAreKnown moment.world.log moment.world.hosts
   reads_known-in_run events start moment is trail = known_along start (began-with_past script events start is) trail
 
-  pub taken-in_run : (events : List Event) (start moment : MomentWithPast) → run_with_past script events ≡ Some start
+  pub taken-in_run : (events : List Move) (start moment : MomentWithPast) → run_with_past script events ≡ Some start
       → MomentTrail script start moment → SnapshotsAreTaken moment.world.log
   taken-in_run events start moment is trail = taken_along start (began-with_past script events start is) trail

@@ -86,7 +86,8 @@ module _ (May_be Later : Reading) (ledger later : Ledger) (effects after : List 
   course_by asked (Some disk) (Driving driver) keep (disk_asks.Read offset size, asks_so, is) = (
     disk_asks.Read offset size,
     asks_so,
-    driver_by disk.inode offset size driver (λ told piece rest same. keep offset size told piece rest disk asks_so (ap Driving same) refl) is,
+    driver_by disk.inode offset size driver (λ told piece rest same. keep offset size told piece rest disk asks_so (ap Driving same) refl)
+        is,
   )
   course_by asked opened (Commanding op) keep is = is
   course_by asked opened (Checking check) keep is = is
@@ -166,7 +167,8 @@ module _ (attempts later : List AttemptRecord)
       → Keeps (MayStayReadAs attempts) (MayStayReadAs later) (ledger_of history) (ledger_of (history ++ grown)) effects after good_id
       good_id vid spec index unit
   was_block vid spec index unit keep disk block =
-      let before = stood attempts history grown vid (index * blocks_per_object spec + unit) disk (keep block.inside) block.there block.kept in
+      let before = stood attempts history grown vid (index * blocks_per_object spec + unit) disk (keep block.inside) block.there
+      block.kept in
       record {
         was = before.was;
         block = record {

@@ -1,16 +1,18 @@
 -- What was read of a block, so that it stays, is still as it may be read after a history gets events that keep it so.
-use Rattle.std.proofs.Common.{◌≡◌, inl, inr, ℕ, ◌==◌, not, Bool, true, false, cond, List, [], ◌∷◌, ◌++◌, map, filter, fold, Option, Some, None, option_map, slice_get, refl, sym, ap, subst, ◌∙◌}
+use Rattle.std.proofs.Common.{◌≡◌, inl, inr, ℕ, ◌==◌, not, Bool, true, false, cond, List, [], ◌∷◌, ◌++◌, map, filter, fold, Option, Some}
+use Rattle.std.proofs.Common.{None, option_map, slice_get, refl, sym, ap, subst, ◌∙◌}
 use Rattle.std.specs.List.{list_any}
 use Rattle.std.proofs.lemmas.Bool.{both_ways, or_parts, eqb-true}
 use Rattle.std.proofs.lemmas.List.Sums.{fold-append}
 use Rattle.std.proofs.lemmas.Option.{same_Some}
 use Rattle.disk_history.specs.declared.event.HistEvent.{HistEvent}
-use Rattle.disk_history.specs.declared.event.HistEvent.TheVariants.{Create, Copy, Delete, WriteStart, WriteDone, WriteRefused, WriterLost, Read}
+use Rattle.disk_history.specs.declared.event.HistEvent.TheVariants.{Create, Copy, Delete, WriteStart, WriteDone, WriteRefused, WriterLost}
+use Rattle.disk_history.specs.declared.event.HistEvent.TheVariants.{Read}
 use Rattle.disk_history.specs.Changes.{items_in}
 use Rattle.disk_history.specs.Legal.{is_torn}
-use Rattle.disk_history.specs.Ledger.{Mark, Open, Acknowledged, Lost, Item, Disk, Ledger, empty_ledger, zeros_item, is_item_of, item_with_mark, changed_at, with_item, has_block, ledger_after}
+use Rattle.disk_history.specs.Ledger.{Mark, Open, Acknowledged, Lost, Item, Disk, Ledger, empty_ledger, zeros_item, is_item_of}
+use Rattle.disk_history.specs.Ledger.{item_with_mark, changed_at, with_item, has_block, ledger_after}
 use Rattle.cluster_script.specs.declared.statement.Statement.{Statement}
-use Rattle.sheep_node.specs.declared.event.Event.{Event}
 use Rattle.overlap_law.specs.Attempts.{AttemptRecord}
 use Rattle.overlap_law.specs.Headline.{ledger_of}
 use Rattle.overlap_law.specs.MomentChanges.{MomentChange, MomentTrail, RunsAreInRange}
@@ -20,6 +22,7 @@ use Rattle.overlap_law.specs.ToldReads.{MayStayReadAs, KeepsReadsOf, AllKeepRead
 use Rattle.overlap_law.proofs.BlocksInMoments.{may_still}
 use Rattle.overlap_law.proofs.ItemsStayOpen.{marked_other, open_later, items_open}
 use Rattle.overlap_law.proofs.ItemsGoOn.{GoOn, more_go_on, lost_go_on, refused_go_on}
+use Rattle.sheep_world.specs.RunsWithAsks.{Move}
 
 -- marks of a request without items change nothing
 unmarked : (mark : Mark) (req : ℕ) (items : List Item) → list_any (is_item_of req) items ≡ false
@@ -195,7 +198,7 @@ module _ (attempts : List AttemptRecord) where
 -- ---- over a change
 
 -- as attempts go on, what was read stays so
-pub read_still : (script : List Statement) → RunsAreInRange script → (events : List Event) (start before after : MomentWithPast)
+pub read_still : (script : List Statement) → RunsAreInRange script → (events : List Move) (start before after : MomentWithPast)
     → run_with_past script events ≡ Some start → MomentTrail script start before → MomentChange script start before after
     → (items : List Item) (bytes : List ℕ) → MayStayReadAs before.past.attempts items bytes → MayStayReadAs after.past.attempts items bytes
 read_still script range events start before after run trail change items bytes (inl torn) = inl torn

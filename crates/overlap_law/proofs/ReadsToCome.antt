@@ -22,12 +22,12 @@ use Rattle.vdi_ops.specs.InodeWorks.{read_inode}
 use Rattle.vdi_ops.specs.Op.{Task, Opening, WritingBack, Tagging, Copying, Making, OpStage, Asked, Working, Publishing, Answered, Op}
 use Rattle.vdi_ops.specs.Op.{IsWorkOfTask, IsAwaitedAtOpStage}
 use Rattle.sheep_node.specs.declared.course.Course.TheVariants.{Commanding}
-use Rattle.sheep_node.specs.declared.event.Event.{Event}
 use Rattle.sheep_node.specs.declared.input.Input.{Input}
 use Rattle.sheep_node.specs.Changes.{EndsWork}
 use Rattle.sheep_node.specs.State.{Node}
 use Rattle.sheep_node.specs.StepState.{StepState}
 use Rattle.sheep_world.specs.NodeCauses.{input_of_cause}
+use Rattle.sheep_world.specs.RunsWithAsks.{Move}
 use Rattle.overlap_law.specs.Fates.{IsCreated}
 use Rattle.overlap_law.specs.Grants.{published_in}
 use Rattle.overlap_law.specs.InodesRead.{ReadsInodeAt, TaskReadsInode, IsOfOneToCome, ReadsAreToCome}
@@ -45,7 +45,7 @@ pub vid_in_range : (vid : ℕ) → IsOid (inode_number vid) → IsVid vid
 vid_in_range zero is = absurd (is.2 refl)
 vid_in_range (suc vid) is = let below = is.0 in let free = is.1.1 in (omega arith, omega (arith, below, free))
 
-module _ (script : List Statement) (range : RunsAreInRange script) (events : List Event) (start : MomentWithPast)
+module _ (script : List Statement) (range : RunsAreInRange script) (events : List Move) (start : MomentWithPast)
     (ran : run_with_past script events ≡ Some start) (stepping : SteppingNode) (is : IsStepping script start.world stepping)
     (by : StepsByChanges stepping.cause) (so_far : StepState) (leads : LeadsInStep stepping (first_in_step stepping) so_far)
     (trail : MomentTrail script start (moment_in_step script stepping start so_far)) (good : ℕ → Bool)
@@ -108,11 +108,11 @@ module _ (script : List Statement) (range : RunsAreInRange script) (events : Lis
         let created = inode_created script range events start ran stepping is by so_far leads trail session req op ends.ends.request vid
         header reads in
         entry_to_come script range events start ran stepping is by so_far leads trail good told session req number work attempt status
-        (Commanding op) bytes ends vid.0 header.spec work_so valid is_good (published_in here.world.log vid.0) index created within
+        (Commanding op) bytes ends vid.0 header.spec work_so valid refl is_good (published_in here.world.log vid.0) index created within
 
 -- ---- every moment in the middle of a step
 
-pub reads_to_come : (script : List Statement) → RunsAreInRange script → (events : List Event) (start before : MomentWithPast)
+pub reads_to_come : (script : List Statement) → RunsAreInRange script → (events : List Move) (start before : MomentWithPast)
     → run_with_past script events ≡ Some start → MomentTrail script start before → (good good_id : ℕ → Bool)
     → ((vid epoch : ℕ) → IsVid vid → good_id vid ≡ true → is_dead (log_effects before.world.log) vid ≡ false
     → IsCreated start.past.attempts (inode_number vid) epoch → good (inode_number vid) ≡ true)

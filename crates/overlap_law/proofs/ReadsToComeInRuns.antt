@@ -7,7 +7,6 @@ use Rattle.object_id.specs.Oid.{IsVid, inode_number}
 use Rattle.cluster_script.specs.declared.statement.Statement.{Statement}
 use Rattle.vdi_directory.specs.Dead.{is_dead}
 use Rattle.vdi_directory.specs.Decisions.{log_effects}
-use Rattle.sheep_node.specs.declared.event.Event.{Event}
 use Rattle.overlap_law.specs.Attempts.{AttemptRecord}
 use Rattle.overlap_law.specs.Fates.{IsCreated}
 use Rattle.overlap_law.specs.GoodInodes.{is_available_inode}
@@ -25,6 +24,7 @@ use Rattle.overlap_law.proofs.LogsInMoments.{LogGrows, log_grows}
 use Rattle.overlap_law.proofs.ReadsToCome.{reads_to_come}
 use Rattle.overlap_law.proofs.StayingRows.{alive_before}
 use Rattle.overlap_law.proofs.ToldPiecesInRuns.{told_pieces-in_run}
+use Rattle.sheep_world.specs.RunsWithAsks.{Move}
 
 -- what isn't dead on the way of an event wasn't as it began
 alive_along : (script : List Statement) {start moment : MomentWithPast} → MomentTrail script start moment → (vid : ℕ)
@@ -55,7 +55,7 @@ pub inode_was_there : (log : List Entry) (unavailable : List ℕ) (vid : ℕ) �
 inode_was_there log unavailable vid is_vid available =
     never_lacked log vid (inode_number vid) unavailable available (inl (vid-of_inode vid is_vid))
 
-module _ (script : List Statement) (range : RunsAreInRange script) (events : List Event) (start before : MomentWithPast)
+module _ (script : List Statement) (range : RunsAreInRange script) (events : List Move) (start before : MomentWithPast)
     (ran : run_with_past script events ≡ Some start) (trail : MomentTrail script start before) where
   -- of inodes that were available as the event began
   pub reads_to_come-of_inodes : (good_id : ℕ → Bool)
@@ -76,7 +76,7 @@ module _ (script : List Statement) (range : RunsAreInRange script) (events : Lis
       (λ vid is_vid is. inode_was_there start.world.log start.past.unavailable vid is_vid (fewer vid is))
 
   -- so of those that are good at the event's end
-  pub reads_to_come-by_the_end : (event : Event) (end : MomentWithPast) → next_moment script event start ≡ Some end
+  pub reads_to_come-by_the_end : (event : Move) (end : MomentWithPast) → next_moment script event start ≡ Some end
       → ReadsAreToCome script (is_available_disk end.world.log end.past.unavailable) start before
   reads_to_come-by_the_end event end happens =
       reads_to_come-in_run (is_available_disk end.world.log end.past.unavailable) (was_good_id script event start end happens)

@@ -1,6 +1,7 @@
 -- What may be read of a block behind the ends of some writes might be read of it before them: an acknowledgement, or a refusal, leaves no
 -- more to be read. So what is told in a step may be read in the order in which the history has it.
-use Rattle.std.proofs.Common.{◌≡◌, ◌⊎◌, inl, inr, ⊎_elim, ℕ, ◌<◌, ◌&&◌, ◌||◌, not, Bool, true, false, cond, List, [], ◌∷◌, ◌++◌, length, map}
+use Rattle.std.proofs.Common.{◌≡◌, ◌⊎◌, inl, inr, ⊎_elim, ℕ, ◌<◌, ◌&&◌, ◌||◌, not, Bool, true, false, cond, List, [], ◌∷◌, ◌++◌, length}
+use Rattle.std.proofs.Common.{map}
 use Rattle.std.proofs.Common.{filter, fold, Option, None, Some, option_map, slice_get, refl, sym, ap, subst, ◌∙◌}
 use Rattle.std.specs.List.{list_all, list_any}
 use Rattle.std.specs.Str.{bytes_eq}
@@ -136,7 +137,8 @@ module _ (req : ℕ) where
   done_back : (items : List Item) (bytes : List ℕ) → MayBeReadAs (map (item_with_mark Acknowledged req) items) bytes
       → MayBeReadAs items bytes
   done_back items bytes (inl torn) =
-      inl (stood_back (λ (item : Item). item.coded && is_writer_lost item) (item_with_mark Acknowledged req) no_more_torn still_done items torn)
+      inl (stood_back (λ (item : Item). item.coded && is_writer_lost item) (item_with_mark Acknowledged req) no_more_torn still_done items
+      torn)
   done_back items bytes (inr allowed) =
       inr (stood_back (λ (item : Item). bytes_eq item.bytes bytes) (item_with_mark Acknowledged req) (same_bytes bytes) still_done items
       allowed)

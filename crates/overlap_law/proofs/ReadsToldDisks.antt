@@ -27,7 +27,6 @@ use Rattle.vdi_ops.specs.Op.{Op}
 use Rattle.sheep_node.specs.declared.course.Course.{Course}
 use Rattle.sheep_node.specs.declared.course.Course.TheVariants.{Commanding}
 use Rattle.sheep_node.specs.declared.course.Request.{Request}
-use Rattle.sheep_node.specs.declared.event.Event.{Event}
 use Rattle.sheep_node.specs.Changes.{HasRequest}
 use Rattle.sheep_node.specs.May.{is_disk_course}
 use Rattle.sheep_node.specs.State.{session_at}
@@ -35,8 +34,9 @@ use Rattle.sheep_node.specs.StepState.{StepState}
 use Rattle.sheep_world.specs.Began.{Began}
 use Rattle.sheep_world.specs.HistoryAdditions.{disk_of}
 use Rattle.sheep_world.specs.NodeCauses.{NodeCause, GuestAsks, RequestComes, ReplyComes, LossIsTold, EntryIsRead, EntryIsPut, RecoveryTicks}
-use Rattle.sheep_world.specs.NodeCauses.{WorkIsRetried, host_with_node, input_of_cause, progress_at_cause}
+use Rattle.sheep_world.specs.NodeCauses.{WorkIsRetried, ClientAsks, host_with_node, input_of_cause, progress_at_cause}
 use Rattle.sheep_world.specs.World.{Host, World}
+use Rattle.sheep_world.specs.RunsWithAsks.{Move}
 use Rattle.overlap_law.specs.Each.{spec_in}
 use Rattle.overlap_law.specs.Headline.{ledger_of}
 use Rattle.overlap_law.specs.HistoryGrowth.{added_at_cause, added_by_reply, world_at_cause}
@@ -91,7 +91,7 @@ plain_none vid (event ∷ events) are =
     one (WriterLost req) is = refl
     one (Read disk at bytes) is = refl
 
-module _ (script : List Statement) (range : RunsAreInRange script) (events : List Event) (start : MomentWithPast)
+module _ (script : List Statement) (range : RunsAreInRange script) (events : List Move) (start : MomentWithPast)
     (run : run_with_past script events ≡ Some start) where
   began : Began script start.world
   began = began-with_past script events start run
@@ -218,9 +218,9 @@ module _ (script : List Statement) (range : RunsAreInRange script) (events : Lis
               (λ (held : HoldsDisk here.world.log stepping.n session disk.inode.vid so_far.node).
               is_of false
               (ap shown (held-works here.world.log disk.inode.vid (session_holder stepping.n session) held.holder)))
-              (λ (goes : IsLettingGo so_far.node session). absurd (no_command goes.req goes.request goes.op goes.there goes.own goes.command))
-              ((held-in_run script range events start here run trail).each stepping.n was at_host (not_lost stepping.host is.up) session one
-              disk in_node on working)
+              (λ (goes : IsLettingGo so_far.node session). absurd (no_command goes.req goes.request goes.op goes.there goes.own
+              goes.command)) ((held-in_run script range events start here run trail).each stepping.n was at_host
+              (not_lost stepping.host is.up) session one disk in_node on working)
 
     -- ---- the disk on which a request began
 
@@ -233,6 +233,7 @@ module _ (script : List Statement) (range : RunsAreInRange script) (events : Lis
     guests_so (EntryIsPut entry) = refl
     guests_so RecoveryTicks = refl
     guests_so WorkIsRetried = refl
+    guests_so (ClientAsks req ask) = refl
 
     once : UnansweredAreOnce (world_at_cause start.world stepping.cause).guests
     once =
@@ -245,15 +246,16 @@ module _ (script : List Statement) (range : RunsAreInRange script) (events : Lis
     placed =
         placed_in_chain (asked_by script) (BeganOn script (progress_at_cause stepping.cause start.world)) (input_of_cause stepping.cause)
         stepping.host.node (may script range start began stepping is by) (queued script range start began stepping is by)
-        (sole script range start began stepping is by) (brings script start.world stepping.n stepping.host stepping.cause is.there is.caused)
-        (placed_found script range start.world began stepping.n stepping.host stepping.cause stepping.host.node
+        (sole script range start began stepping is by) (brings script start.world stepping.n stepping.host stepping.cause is.there
+        is.caused) (placed_found script range start.world began stepping.n stepping.host stepping.cause stepping.host.node
         (requests_placed script range start.world began stepping.n stepping.host is.there)) so_far leads
 
     pub placed_at : (session req : ℕ) (course : Course) → HasRequest session req course so_far
         → IsPlacedAt (asked_by script) (BeganOn script (progress_at_cause stepping.cause start.world)) req
         (session_at session so_far.node).disk course
     placed_at session req course there =
-        course_placed (asked_by script) (BeganOn script (progress_at_cause stepping.cause start.world)) session req course so_far there placed
+        course_placed (asked_by script) (BeganOn script (progress_at_cause stepping.cause start.world)) session req course so_far there
+        placed
 
     pub began_on : (req : ℕ) (disk : Option ℕ) → BeganOn script (progress_at_cause stepping.cause start.world) req disk
         → disk_of script req (world_at_cause start.world stepping.cause) ≡ disk

@@ -1,5 +1,6 @@
 -- Each event tells reads, of disks that were available up to there, what may be read.
-use Rattle.std.proofs.Common.{◌≡◌, ⊎_elim, ℕ, ◌&&◌, Bool, true, false, cond, List, [], ◌∷◌, ◌++◌, append_assoc, append-nil, Contains, filter}
+use Rattle.std.proofs.Common.{◌≡◌, ⊎_elim, ℕ, ◌&&◌, Bool, true, false, cond, List, [], ◌∷◌, ◌++◌, append_assoc, append-nil, Contains}
+use Rattle.std.proofs.Common.{filter}
 use Rattle.std.proofs.Common.{fold, length, map, Option, None, Some, refl, sym, ap, subst, ◌∙◌}
 use Rattle.std.specs.Prelude.{◌+◌, ◌/◌, flat_map}
 use Rattle.std.specs.List.{list_all, range_with_len}
@@ -28,13 +29,16 @@ use Rattle.sheep_world.specs.Effects.{open_disk_at}
 use Rattle.sheep_world.specs.EventKinds.{EventKind, NodeStep, UntoldLoss, UnreadDelivery, NodeLoss, NodeLeave, NodeReweight, NodeJoin}
 use Rattle.sheep_world.specs.EventKinds.{NodeReturn, PhaseEnd, outcome_of_step}
 use Rattle.sheep_world.specs.Granted.{entry_adds}
-use Rattle.sheep_world.specs.HistoryAdditions.{added_by, begins_on, block_in, blocks_read, check_write_grown, disk_of, has_begun_check_write}
+use Rattle.sheep_world.specs.HistoryAdditions.{added_by, begins_on, block_in, blocks_read, check_write_grown, disk_of}
+use Rattle.sheep_world.specs.HistoryAdditions.{has_begun_check_write}
 use Rattle.sheep_world.specs.HistoryAdditions.{is_lost_write, reply_adds, reply_grown, write_ended, writers_lost}
 use Rattle.sheep_world.specs.NodeCauses.{NodeCause, GuestAsks, RequestComes, ReplyComes, LossIsTold, EntryIsRead, EntryIsPut, RecoveryTicks}
-use Rattle.sheep_world.specs.NodeCauses.{WorkIsRetried, event_of_cause, input_of_cause}
-use Rattle.sheep_world.specs.Step.{EventOutcome, step}
+use Rattle.sheep_world.specs.NodeCauses.{WorkIsRetried, ClientAsks, event_of_cause, input_of_cause}
+use Rattle.sheep_world.specs.Step.{EventOutcome}
 use Rattle.sheep_world.specs.World.{Host, node_at}
-use Rattle.sheep_world.proofs.EventInversion.{happens}
+use Rattle.sheep_world.proofs.ClientReads.{goes_by_kind}
+use Rattle.sheep_world.specs.RunsWithAsks.{Move}
+use Rattle.sheep_world.specs.Began.{MakesMove}
 use Rattle.overlap_law.specs.Headline.{ledger_of}
 use Rattle.overlap_law.specs.HistoryGrowth.{added_at_cause, added_by_reply, check_write_at, world_at_cause}
 use Rattle.overlap_law.specs.Holders.{is_available_disk}
@@ -59,6 +63,7 @@ use Rattle.overlap_law.proofs.ReadsToldForward.{all_read_on, told_weaker}
 use Rattle.overlap_law.proofs.ReadsToldSteps.{told_at_end}
 use Rattle.overlap_law.proofs.RunsByChanges.{on_the_way}
 use Rattle.overlap_law.proofs.ToldBlocks.{AreReadAs}
+use Rattle.overlap_law.proofs.GoingOn.{goes_as}
 
 -- ---- lists
 
@@ -171,7 +176,7 @@ module _ (May_be : Reading) (ledger : Ledger) (good_id : ℕ → Bool) where
 -- ---- an event
 
 module _ (script : List Statement) (range : RunsAreInRange script) (serves : EachChangeServesReads script)
-    (checks : ChecksReadWhatMayBeRead script) (events : List Event) (start : MomentWithPast)
+    (checks : ChecksReadWhatMayBeRead script) (events : List Move) (start : MomentWithPast)
     (run : run_with_past script events ≡ Some start) where
   module _ (stepping : SteppingNode) (is : IsStepping script start.world stepping) (by : StepsByChanges stepping.cause) where
     abbrev good_id : ℕ → Bool
@@ -210,6 +215,7 @@ module _ (script : List Statement) (range : RunsAreInRange script) (serves : Eac
         at_cause (EntryIsPut entry) same = tt
         at_cause RecoveryTicks same = tt
         at_cause WorkIsRetried same = tt
+        at_cause (ClientAsks req ask) same = tt
 
     told_ends : (replies : List (ℕ × GuestRsp)) → list_all is_told (flat_map added replies) ≡ true
     told_ends [] = refl
@@ -277,8 +283,8 @@ module _ (script : List Statement) (range : RunsAreInRange script) (serves : Eac
       none_told (is_available_disk (outcome_of_step script n host (RequestComes name to request) start.world).world.log
       start.past.unavailable) (outcome_of_step script n host (RequestComes name to request) start.world).grown
       (ap (λ (write : Option CheckWrite). option_map_or (check_write_grown script) write []
-      ++ flat_map (reply_grown script start.world write) (node_step (input_of_cause (RequestComes name to request)) host.node).outputs.replies)
-      (no_write request (node_at name.sender.0 start.world))
+      ++ flat_map (reply_grown script start.world write) (node_step (input_of_cause (RequestComes name to request))
+      host.node).outputs.replies) (no_write request (node_at name.sender.0 start.world))
       ∙ ap (λ (replies : List (ℕ × GuestRsp)). flat_map (reply_grown script start.world None) replies) (request_silent request host.node))
   one_tells n host (ReplyComes name from rsp) is = step_tells (record { n = n; host = host; cause = ReplyComes name from rsp }) is tt
   one_tells n host (LossIsTold name packet) is = step_tells (record { n = n; host = host; cause = LossIsTold name packet }) is tt
@@ -292,15 +298,16 @@ module _ (script : List Statement) (range : RunsAreInRange script) (serves : Eac
       (outcome_of_step script n host RecoveryTicks start.world).grown
       (ap (λ (replies : List (ℕ × GuestRsp)). flat_map (reply_grown script start.world None) replies) (tick_silent host.node))
   one_tells n host WorkIsRetried is = step_tells (record { n = n; host = host; cause = WorkIsRetried }) is tt
+  one_tells n host (ClientAsks req ask) is = step_tells (record { n = n; host = host; cause = (ClientAsks req ask) }) is tt
 
-  kind_tells : (event : Event) (made : EventOutcome) → step script event start.world ≡ Some made → EventKind script event start.world made
+  kind_tells : (event : Event) (made : EventOutcome) → MakesMove script event start.world made → EventKind script event start.world made
       → Tells made
   kind_tells event made happened (NodeStep h) =
       subst Tells h.made_so (one_tells h.n h.host h.cause (record {
         there = h.there;
         up = h.up;
         caused = h.caused;
-        made = ap (λ (e : Event). step script e start.world) h.event_so ∙ happened ∙ ap (λ (m : EventOutcome). Some m) (sym h.made_so);
+        made = goes_as script start.world h.event_so h.made_so happened;
       }))
   kind_tells event made happened (UntoldLoss h) = subst Tells h.made_so tt
   kind_tells event made happened (UnreadDelivery h) = subst Tells h.made_so tt
@@ -314,8 +321,8 @@ module _ (script : List Statement) (range : RunsAreInRange script) (serves : Eac
   kind_tells event made happened (PhaseEnd h) = subst Tells h.made_so tt
 
 pub event_tells : (script : List Statement) → RunsAreInRange script → EachChangeServesReads script → ChecksReadWhatMayBeRead script
-    → (events : List Event) (event : Event) (before : MomentWithPast) (made : EventOutcome) → run_with_past script events ≡ Some before
-    → step script event before.world ≡ Some made
+    → (events : List Move) (event : Event) (before : MomentWithPast) (made : EventOutcome) → run_with_past script events ≡ Some before
+    → MakesMove script event before.world made
     → WhatIsToldMayBeRead (is_available_disk made.world.log before.past.unavailable) (ledger_of before.past.history) made.grown
 event_tells script range serves checks events event before made run is =
-    kind_tells script range serves checks events before run event made is (happens script event before.world made is)
+    kind_tells script range serves checks events before run event made is (goes_by_kind script event before.world made is)

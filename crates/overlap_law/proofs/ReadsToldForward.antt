@@ -101,11 +101,11 @@ told_weaker May_be Later ledger vid block bytes goes told = record {
 -- ---- of several events
 
 module _ (May_be Later : Reading) (ledger later : Ledger) (good_id : ℕ → Bool) where
-  abbrev Goes : HistEvent → Type 0
-  Goes event = (vid block : ℕ) (bytes : List ℕ) → event ≡ Read vid block bytes → IsToldAs May_be ledger vid block bytes
+  abbrev MakesMove : HistEvent → Type 0
+  MakesMove event = (vid block : ℕ) (bytes : List ℕ) → event ≡ Read vid block bytes → IsToldAs May_be ledger vid block bytes
       → IsToldAs Later later vid block bytes
 
-  one_read : (event : HistEvent) → Goes event → IsReadAs May_be ledger good_id event → IsReadAs Later later good_id event
+  one_read : (event : HistEvent) → MakesMove event → IsReadAs May_be ledger good_id event → IsReadAs Later later good_id event
   one_read (Create disk blocks) goes is = tt
   one_read (Copy old new) goes is = tt
   one_read (Delete disk) goes is = tt

@@ -18,28 +18,27 @@ use Rattle.disk_history.specs.Ledger.{Ledger, ledger_after, changed_at}
 use Rattle.vdi_directory.specs.declared.effect.Effect.{Effect}
 use Rattle.vdi_directory.specs.Decisions.{log_effects}
 use Rattle.cluster_script.specs.declared.statement.Statement.{Statement}
-use Rattle.cluster_script.specs.NumberedRequests.{numbered_requests}
+use Rattle.cluster_script.specs.NumberedRequests.{numbered_requests, request_at}
 use Rattle.cluster_script.specs.Statements.{requests_of}
 use Rattle.peer_proto.specs.declared.guest.GuestRsp.{GuestRsp}
 use Rattle.peer_proto.specs.declared.guest.GuestRsp.TheVariants as answers
 use Rattle.guest_driver.specs.declared.disk.Disk.{Disk}
-use Rattle.guest_driver.specs.Driver.{Driver}
-use Rattle.sheep_node.specs.declared.course.Course.{Course}
 use Rattle.sheep_node.specs.declared.course.Course.TheVariants.{Driving, Commanding}
 use Rattle.sheep_node.specs.declared.course.Request.{Request}
-use Rattle.sheep_node.specs.declared.event.Event.{Event}
 use Rattle.sheep_node.specs.declared.session.Session.{Session}
 use Rattle.sheep_node.specs.May.{is_disk_course}
 use Rattle.sheep_node.specs.State.{new_session, session_at}
 use Rattle.sheep_node.specs.StepState.{StepState, at_first}
+use Rattle.sheep_world.specs.BegunRequests.{IsOfScript}
 use Rattle.sheep_world.specs.Granted.{entry_adds}
 use Rattle.sheep_world.specs.HistoryAdditions.{is_lost_write, write_ended, writers_lost}
-use Rattle.sheep_world.specs.World.{Host, is_host_up}
+use Rattle.sheep_world.specs.World.{Host}
+use Rattle.sheep_world.specs.RunsWithAsks.{Move}
 use Rattle.vdi_ops.specs.Op.{Op}
 use Rattle.overlap_law.specs.Attempts.{AttemptRecord}
 use Rattle.overlap_law.specs.DiskEvents.{ends_write_of}
 use Rattle.overlap_law.specs.Headline.{ledger_of}
-use Rattle.overlap_law.specs.HistoryGrowth.{added_at_cause, added_by_reply}
+use Rattle.overlap_law.specs.HistoryGrowth.{added_at_cause, added_by_reply, check_write_at, world_at_cause}
 use Rattle.overlap_law.specs.MomentChanges.{MomentChange, MomentTrail, Still, Then, RunsAreInRange}
 use Rattle.overlap_law.specs.Past.{MomentWithPast, run_with_past}
 use Rattle.overlap_law.specs.PastWords.{is_refusal}
@@ -54,6 +53,7 @@ use Rattle.overlap_law.proofs.BlocksInMoments.{served_still}
 use Rattle.overlap_law.proofs.CoursesOfAsks.{plain}
 use Rattle.overlap_law.proofs.DiskShapes.{Shapes, shape, shapes, shapes_after, shapes_so}
 use Rattle.overlap_law.proofs.EndsKeepBlocks.{began, lost_keep, lost_unended, nothing-on_the_way, refused_then, replied_ended}
+use Rattle.overlap_law.proofs.EndsOfWrites.{untold_none}
 use Rattle.overlap_law.proofs.EntriesFit.{MayMakeAll, entry_may}
 use Rattle.overlap_law.proofs.EntriesFollow.{AreShown, kept_shown}
 use Rattle.overlap_law.proofs.GuestsInMoments.{GuestsChange, GuestsStay, GuestsAreNone, IsGoingOn, IsBetween, between}
@@ -137,7 +137,7 @@ module _ (attempts : List AttemptRecord) (vid block : ℕ) where
 
 -- ---- the disk of a read
 
-module _ (script : List Statement) (range : RunsAreInRange script) (events : List Event) (start : MomentWithPast)
+module _ (script : List Statement) (range : RunsAreInRange script) (events : List Move) (start : MomentWithPast)
     (run : run_with_past script events ≡ Some start) where
   -- as an event begins the disk of a read is one of the history
   pub of_history : (n : ℕ) (host : Host) → tree.get start.world.hosts n ≡ Some host → host.is_lost ≡ false → (req : ℕ)
@@ -151,7 +151,8 @@ module _ (script : List Statement) (range : RunsAreInRange script) (events : Lis
       sole q other op found same command =
           let is : is_disk_course other.course ≡ true
           = plain request.session req request.course (at_first host.node)
-          ((sound_world script range start.world (began script range events start run)).hosts n host there).node.sole_commands got is_disk q other found same in
+          ((sound_world script range start.world (began script range events start run)).hosts n host there).node.sole_commands got is_disk q
+          other found same in
           let none : is_disk_course other.course ≡ false = ap is_disk_course command in
           both_ways (is_disk_course other.course) none is
 
@@ -223,8 +224,8 @@ module _ (script : List Statement) (range : RunsAreInRange script) (events : Lis
           = sym (ap (λ (m : MomentWithPast). m.world.log) g.after_so ∙ log_by_changes g.stepping.cause g.by start.world.log) ∙ longer in
           absurd (none_more start.world.log (entry ∷ []) entry same (Contains-head entry [])))
           (λ (b : IsBetween start after).
-          by_guests req request disk got (ap is_disk_course course) on (index * blocks_per_object disk.inode.spec + unit) (b.0 n host there))
-          (between script start change);
+          by_guests req request disk got (ap is_disk_course course) on (index * blocks_per_object disk.inode.spec + unit)
+          (b.0 n host there)) (between script start change);
     }
       where
         by_guests : (req : ℕ) (request : Request) (disk : Disk) → tree.get host.node.requests req ≡ Some request
@@ -262,12 +263,23 @@ module _ (script : List Statement) (range : RunsAreInRange script) (events : Lis
 
     module _ (change : MomentChange script start (moment_in_step script stepping start so_far) (moment_in_step script stepping start next))
         (trail : MomentTrail script start (moment_in_step script stepping start so_far)) where
-      unserved : is_refusal reply.1 ≡ true → WasServed before.past.attempts reply.0 → ⊥
-      unserved refuses served =
+      -- whose write a reply ends is of the script
+      ends_of_script : list_any (ends_write_of reply.0) added ≡ true → IsOfScript script reply.0
+      ends_of_script ends = by_line (request_at script reply.0) refl
+        where
+          by_line : (o : Option Statement) → request_at script reply.0 ≡ o → is_some o ≡ true
+          by_line None none =
+              absurd (both_ways (list_any (ends_write_of reply.0) added)
+              (untold_none reply.0 script start.world start.world none (world_at_cause start.world stepping.cause)
+              (check_write_at start.world stepping.cause) reply) ends)
+          by_line (Some line) stands = refl
+
+      unserved : IsOfScript script reply.0 → is_refusal reply.1 ≡ true → WasServed before.past.attempts reply.0 → ⊥
+      unserved of_script refuses served =
           let now = served_still script range events start before after run trail change reply.0 served in
           let (mute, none) = nothing-on_the_way script range events start after run (Then trail change) reply.0
-          (refused_then script range events start run stepping is by so_far next within reply told refuses) now.place now.attempt now.there
-          now.of in
+          (refused_then script range events start run stepping is by so_far next within reply told of_script refuses) now.place now.attempt
+          now.there now.of in
           both_ways (is_mute now.attempt) now.served mute
 
       reply_keeps : (vid block : ℕ) → (is_refusal reply.1 ≡ false → list_any (ends_write_of reply.0) added ≡ true
@@ -282,8 +294,8 @@ module _ (script : List Statement) (range : RunsAreInRange script) (events : Lis
           by_reply ends answers.Done same = apart (ap is_refusal same) ends
           by_reply ends (answers.Piece bytes) same = apart (ap is_refusal same) ends
           by_reply ends (answers.Refused cause) same = (
-            replied_ended script range events start run stepping is by so_far next within reply told,
-            unserved (ap is_refusal same),
+            replied_ended script range events start run stepping is by so_far next within reply told (ends_of_script ends),
+            unserved (ends_of_script ends) (ap is_refusal same),
           )
           by_reply ends (answers.Granted vid) same = apart (ap is_refusal same) ends
           by_reply ends (answers.Checked found) same = apart (ap is_refusal same) ends

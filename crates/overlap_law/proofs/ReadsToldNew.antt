@@ -120,8 +120,8 @@ module _ (input : Input) (node : Node) (so_far : StepState) where
   new_told next (changes.Appends session req entry moved steps) reply among =
       same_told moved (steps_silent input node so_far session req (ToEntry entry) moved steps) reply among
   new_told next (changes.Replies session req given moved steps) reply among =
-      one_told moved (steps_silent input node so_far session req (ToReply given) moved steps) (req, given) reply (Answers session moved steps)
-      among
+      one_told moved (steps_silent input node so_far session req (ToReply given) moved steps) (req, given) reply
+      (Answers session moved steps) among
   new_told next (changes.Arrives session req ask disk arrival on) reply among = WasTold among
   new_told next (changes.Rejects session req ask cause arrival) reply among =
       one_told so_far refl (req, Refused cause) reply (Refuses (cause, refl)) among

@@ -1,6 +1,6 @@
 -- What a reply adds to the history is told so that it stays, if it tells all of its read so; and a reply to a read is one of a read that
 -- begins or goes on.
-use Rattle.std.proofs.Common.{◌≡◌, ℕ, Bool, true, false, List, [], ◌∷◌, Option, None, Some, refl, sym, ap, ◌∙◌}
+use Rattle.std.proofs.Common.{◌≡◌, ⊎_elim, ℕ, Bool, true, false, List, [], ◌∷◌, Option, None, Some, refl, sym, ap, ◌∙◌}
 use Rattle.std.specs.Option.{option_and_then}
 use Rattle.cluster_script.specs.declared.statement.Statement.{Statement}
 use Rattle.cluster_script.specs.declared.statement.Statement.TheVariants as lines
@@ -18,16 +18,19 @@ use Rattle.sheep_node.specs.declared.course.Course.{Course}
 use Rattle.sheep_node.specs.declared.course.Course.TheVariants.{Waiting, Driving, Commanding, Checking, DoingWork, AwaitingDecision}
 use Rattle.sheep_node.specs.declared.input.Input.{Input}
 use Rattle.sheep_node.specs.declared.input.Input.TheVariants as inputs
-use Rattle.sheep_node.specs.Changes.{HasRequest, Outcome, RequestSteps, DiskBegins, DiskGoesOn, CommandBegins, CommandGoesOn, CommandDecided}
+use Rattle.sheep_node.specs.Changes.{HasRequest, Outcome, RequestSteps, DiskBegins, DiskGoesOn, CommandBegins, CommandGoesOn}
+use Rattle.sheep_node.specs.Changes.{CommandDecided}
 use Rattle.sheep_node.specs.Changes.{CheckBegins, CheckGoesOn, ObjectBegins, ObjectIsDone, EntryBegins, EntryDecided}
 use Rattle.sheep_node.specs.May.{is_disk_course}
 use Rattle.sheep_node.specs.State.{Node}
 use Rattle.sheep_node.specs.StepState.{StepState}
 use Rattle.sheep_world.specs.Asking.{ask_of_statement}
+use Rattle.sheep_world.specs.ClientAsks.{is_read_ask}
 use Rattle.sheep_world.specs.HistoryAdditions.{added_by, blocks_read, reply_adds, write_ended}
-use Rattle.overlap_law.specs.StandingReads.{asked_in, IsToldAll, ReadsStand}
+use Rattle.overlap_law.specs.StandingReads.{asked_in, IsBroughtBy, IsToldAll, ReadsStand}
 use Rattle.overlap_law.specs.ToldReads.{IsDiskOf, Reading}
 use Rattle.overlap_law.proofs.ToldBlocks.{AreReadAs, all_read}
+use Rattle.std.proofs.lemmas.Option.{same_Some}
 
 -- ---- what a reply adds
 
@@ -84,8 +87,16 @@ pub record IsOfReadOrWrite (so_far : StepState) (session req : ℕ) : Type 0 whe
 
 module _ (May_be : Reading) (ledger : Ledger) (effects : List Effect) (good_id : ℕ → Bool) (asked : ℕ → Option Ask) (input : Input)
     (node : Node) (so_far : StepState)
-    (brought : (req session : ℕ) (ask : Ask) → input ≡ inputs.Guest req session ask → asked req ≡ Some ask)
+    (brought : (req session : ℕ) (ask : Ask) → input ≡ inputs.Guest req session ask → IsBroughtBy asked req ask)
     (stand : ReadsStand May_be ledger effects good_id asked so_far.node) where
+  -- where a read or write is asked under its number, what comes is that
+  comes_as : (session req : ℕ) (own : Ask) → input ≡ inputs.Guest req session own → (ask : DiskAsk) → asked req ≡ Some (asks.Disk ask)
+      → own ≡ asks.Disk ask
+  comes_as session req own from ask is = ⊎_elim
+      (λ (so : asked req ≡ Some own). same_Some own (asks.Disk ask) (sym so ∙ is))
+      (λ (none : (asked req ≡ None) × (is_read_ask own ≡ true)). let nothing = none.0 in absurd (cc (nothing, is)))
+      (brought req session own from)
+
   pub of_read_or_write : (session req : ℕ) (next : Outcome) (moved : StepState) → RequestSteps input node so_far session req next moved
       → (ask : DiskAsk) → asked req ≡ Some (asks.Disk ask) → IsOfReadOrWrite so_far session req
   of_read_or_write session req next moved (DiskBegins own disk there on runs) ask is =
@@ -93,20 +104,20 @@ module _ (May_be : Reading) (ledger : Ledger) (effects : List Effect) (good_id :
   of_read_or_write session req next moved (DiskGoesOn number work attempt status bytes driver disk step ends on done) ask is =
       record { course = Driving driver; there = ends.ends.request; is_disk = refl }
   of_read_or_write session req next moved (CommandBegins own step arrival begun) ask is =
-      let so = sym is ∙ brought req session (asks.Vdi own) arrival.from in absurd (cc (so))
+      let so = comes_as session req (asks.Vdi own) arrival.from ask is in absurd (cc (so))
   of_read_or_write session req next moved (CommandGoesOn number work attempt status bytes op step ends done) ask is =
       absurd (stand.each req (record { session = session; course = Commanding op }) ends.ends.request ask is)
   of_read_or_write session req next moved (CommandDecided entry op step from read there waits done) ask is =
       absurd (stand.each req (record { session = session; course = Commanding op }) there ask is)
   of_read_or_write session req next moved (CheckBegins inode arrival on) ask is =
-      let so = sym is ∙ brought req session _ arrival.from in absurd (cc (so))
+      let so = comes_as session req _ arrival.from ask is in absurd (cc (so))
   of_read_or_write session req next moved (CheckGoesOn number work attempt status bytes check step ends done) ask is =
       absurd (stand.each req (record { session = session; course = Checking check }) ends.ends.request ask is)
   of_read_or_write session req next moved (ObjectBegins object arrival) ask is =
-      let so = sym is ∙ brought req session (asks.Object object) arrival.from in absurd (cc (so))
+      let so = comes_as session req (asks.Object object) arrival.from ask is in absurd (cc (so))
   of_read_or_write session req next moved (ObjectIsDone number work attempt status bytes object ends) ask is =
       absurd (stand.each req (record { session = session; course = DoingWork object }) ends.ends.request ask is)
   of_read_or_write session req next moved (EntryBegins entry arrival) ask is =
-      let so = sym is ∙ brought req session (asks.Entry entry) arrival.from in absurd (cc (so))
+      let so = comes_as session req (asks.Entry entry) arrival.from ask is in absurd (cc (so))
   of_read_or_write session req next moved (EntryDecided entry wanted from read there waits) ask is =
       absurd (stand.each req (record { session = session; course = AwaitingDecision wanted }) there ask is)

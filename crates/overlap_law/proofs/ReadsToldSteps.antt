@@ -1,5 +1,5 @@
 -- What a step tells its reads, reply by reply, may be read at each point of the step that follows, and so in its turn in the history.
-use Rattle.std.proofs.Common.{◌≡◌, ⊎_elim, ℕ, ◌+◌, Bool, true, List, [], ◌∷◌, ◌++◌, length, map, Contains, fold, Option, Some, option_map}
+use Rattle.std.proofs.Common.{◌≡◌, ⊎_elim, ℕ, ◌+◌, Bool, true, List, [], ◌∷◌, ◌++◌, length, map, Contains, fold, Option, Some}
 use Rattle.std.proofs.Common.{refl, sym, ap, subst, ◌∙◌}
 use Rattle.std.specs.Prelude.{◌/◌, flat_map}
 use Rattle.std.specs.List.{range_with_len}
@@ -22,7 +22,6 @@ use Rattle.vdi_directory.specs.Decisions.{log_effects}
 use Rattle.sheep_node.specs.declared.ask.Ask.TheVariants as asks
 use Rattle.sheep_node.specs.declared.course.Course.{Course}
 use Rattle.sheep_node.specs.declared.course.Course.TheVariants.{Waiting, Driving, Commanding, Checking, DoingWork, AwaitingDecision}
-use Rattle.sheep_node.specs.declared.event.Event.{Event}
 use Rattle.sheep_node.specs.Changes as changes
 use Rattle.sheep_node.specs.Changes.{HasRequest, RequestSteps, ToReply}
 use Rattle.sheep_node.specs.May.{is_disk_course}
@@ -33,10 +32,11 @@ use Rattle.sheep_world.specs.Asking.{ask_of_statement}
 use Rattle.sheep_world.specs.Began.{Began}
 use Rattle.sheep_world.specs.HistoryAdditions.{added_by, block_in, blocks_read, disk_of, has_begun_check_write}
 use Rattle.sheep_world.specs.NodeCauses.{event_of_cause, host_with_node, input_of_cause, progress_at_cause}
+use Rattle.sheep_world.specs.RunsWithAsks.{Move}
 use Rattle.overlap_law.specs.Headline.{ledger_of}
 use Rattle.overlap_law.specs.HistoryGrowth.{added_at_cause, added_by_reply, check_write_at, world_at_cause}
 use Rattle.overlap_law.specs.MomentChanges.{MomentChange, MomentTrail, TrailLeft, AtEnd, Next, StepGoesOn, RunsAreInRange}
-use Rattle.overlap_law.specs.Past.{MomentWithPast, moment_after, next_moment, run_with_past}
+use Rattle.overlap_law.specs.Past.{MomentWithPast, next_moment, run_with_past}
 use Rattle.overlap_law.specs.RequestsOfScript.{IsCourseOfAsk, IsOnDisk}
 use Rattle.overlap_law.specs.StandingReads.{asked_in, EachChangeServesReads, IsServingReads, ReadsMayGoOn, ReadsStand}
 use Rattle.overlap_law.specs.StepMoments.{SteppingNode, IsStepping, StepsByChanges, LeadsInStep, IsWithinStep, first_in_step, last_in_step}
@@ -61,6 +61,9 @@ use Rattle.overlap_law.proofs.RepliesOfChanges.{IsFree, RepliesGrow, Silent, Rep
 use Rattle.overlap_law.proofs.RequestsInSteps.{received_replies, replies-in_order}
 use Rattle.overlap_law.proofs.StandingInMoments.{added_last, kept_last}
 use Rattle.overlap_law.proofs.ToldBlocks.{AreReadAs}
+use Rattle.overlap_law.proofs.GoingOn.{next_by}
+use Rattle.overlap_law.proofs.CoursesOfAsks.{placed_as}
+use Rattle.overlap_law.proofs.PlacedAnew.{disk_of_scripts}
 
 -- what is read changes nothing
 reads_same : (vid offset : ℕ) (rsp : GuestRsp) (ledger : Ledger) → fold ledger_after ledger (blocks_read vid offset rsp) ≡ ledger
@@ -85,7 +88,7 @@ among_flat make (first ∷ xs) x y among own = ⊎_elim
     (λ (later : Contains xs x). Contains-append_right (make first) (flat_map make xs) y (among_flat make xs x y later own))
     (Contains-cons_cases first xs x among)
 
-module _ (script : List Statement) (range : RunsAreInRange script) (serves : EachChangeServesReads script) (events : List Event)
+module _ (script : List Statement) (range : RunsAreInRange script) (serves : EachChangeServesReads script) (events : List Move)
     (start : MomentWithPast) (run : run_with_past script events ≡ Some start) (stepping : SteppingNode)
     (is : IsStepping script start.world stepping) (by : StepsByChanges stepping.cause) where
   began : Began script start.world
@@ -103,8 +106,8 @@ module _ (script : List Statement) (range : RunsAreInRange script) (serves : Eac
   abbrev last : StepState
   last = last_in_step stepping
 
-  happens : next_moment script (event_of_cause stepping.n stepping.cause) start ≡ Some (moment_in_step script stepping start last)
-  happens = ap (option_map (moment_after script (event_of_cause stepping.n stepping.cause) start)) is.made
+  happens : next_moment script is.made.move start ≡ Some (moment_in_step script stepping start last)
+  happens = next_by script (event_of_cause stepping.n stepping.cause) start _ is.made
 
   -- what is left of a step
   left_of : {first middle : StepState} → LeadsInStep stepping (first_in_step stepping) first → LeadsInStep stepping first middle
@@ -136,7 +139,7 @@ module _ (script : List Statement) (range : RunsAreInRange script) (serves : Eac
 
     served : IsServingReads script start (moment_in_step script stepping start so_far) (moment_in_step script stepping start next) good_id
     served =
-        serves.each events (event_of_cause stepping.n stepping.cause) start (at last) (at so_far) (at next)
+        serves.each events is.made.move start (at last) (at so_far) (at next)
         (record { run = run; happens = happens; behind = trail; change = change; left = left })
 
     -- what was told stays so
@@ -181,7 +184,9 @@ module _ (script : List Statement) (range : RunsAreInRange script) (serves : Eac
           → (began : Option ℕ) × BeganOn script (progress_at_cause stepping.cause start.world) req began
           × IsOnDisk (session_at session so_far.node).disk began
       on_disk course there is_disk = by_course course is_disk
-          (placed_at script range events start run stepping is by so_far within.leads session req course there)
+          (placed_as (asked_by script) (BeganOn script (progress_at_cause stepping.cause start.world)) req
+          (session_at session so_far.node).disk course (disk_of_scripts course is_disk)
+          (placed_at script range events start run stepping is by so_far within.leads session req course there))
         where
           by_course : (course : Course) → is_disk_course course ≡ true
               → (began : Option ℕ) × BeganOn script (progress_at_cause stepping.cause start.world) req began
@@ -225,7 +230,8 @@ module _ (script : List Statement) (range : RunsAreInRange script) (serves : Eac
       abbrev its_disk : Option ℕ
       its_disk = disk_of script reply.0 (world_at_cause start.world stepping.cause)
 
-      as_before : (vid line offset size : ℕ) → its_disk ≡ Some vid → request_at script reply.0 ≡ Some (lines.Read line offset size) → (v : ℕ)
+      as_before : (vid line offset size : ℕ) → its_disk ≡ Some vid → request_at script reply.0 ≡ Some (lines.Read line offset size)
+          → (v : ℕ)
           → (ledger_of (at next).past.history).disks v ≡ (ledger_of (at so_far).past.history).disks v
       as_before vid line offset size on at_line v =
           let reads : added reply ≡ blocks_read vid offset reply.1

@@ -4,7 +4,6 @@ use Rattle.std.proofs.Common.{◌≡◌, ℕ, Bool, List, Some, refl, sym, subst
 use Rattle.object_id.specs.declared.entry.Entry.{Entry}
 use Rattle.vdi_directory.specs.Decisions.{log_effects}
 use Rattle.cluster_script.specs.declared.statement.Statement.{Statement}
-use Rattle.sheep_node.specs.declared.event.Event.{Event}
 use Rattle.overlap_law.specs.Holders.{is_available_disk}
 use Rattle.overlap_law.specs.MomentChanges.{MomentTrail, TrailLeft, RunsAreInRange, Still, Then, Next}
 use Rattle.overlap_law.specs.NamedWorks.{AboveIsGood}
@@ -19,6 +18,7 @@ use Rattle.overlap_law.proofs.MakingInRuns.{each_object}
 use Rattle.overlap_law.proofs.NamesKept.{names_kept, names_of_fewer}
 use Rattle.overlap_law.proofs.OpenedWorks.{inodes_kept}
 use Rattle.overlap_law.proofs.ReadsToComeInRuns.{reads_to_come-in_run}
+use Rattle.sheep_world.specs.RunsWithAsks.{Move}
 
 -- what is left of an event from its beginning on
 pub left_from : (script : List Statement) {start moment end : MomentWithPast} → MomentTrail script start moment
@@ -26,7 +26,7 @@ pub left_from : (script : List Statement) {start moment end : MomentWithPast} �
 left_from script Still left = left
 left_from script (Then trail change) left = left_from script trail (Next change left)
 
-module _ (script : List Statement) (range : RunsAreInRange script) (events : List Event) (start : MomentWithPast)
+module _ (script : List Statement) (range : RunsAreInRange script) (events : List Move) (start : MomentWithPast)
     (run : run_with_past script events ≡ Some start) (good_id : ℕ → Bool)
     (fewer : CallsFewer good_id (is_available_disk start.world.log start.past.unavailable))
     (above : AboveIsGood (log_effects start.world.log) good_id) where

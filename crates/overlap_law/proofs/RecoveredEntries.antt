@@ -1,5 +1,6 @@
 -- The changes of a step put no `Recovered` into the outbox but that of the node's recovery, once it is finished.
-use Rattle.std.proofs.Common.{◌≡◌, ◌≢◌, ◌⊎◌, inl, inr, ⊎_elim, ℕ, ◌==◌, ◌&&◌, ◌||◌, Bool, true, false, not, List, [], ◌∷◌, ◌++◌, Option, Some, None, IfSome, refl, sym, ap, subst, ◌∙◌}
+use Rattle.std.proofs.Common.{◌≡◌, ◌≢◌, ◌⊎◌, inl, inr, ⊎_elim, ℕ, ◌==◌, ◌&&◌, ◌||◌, Bool, true, false, not, List, [], ◌∷◌, ◌++◌, Option}
+use Rattle.std.proofs.Common.{Some, None, IfSome, refl, sym, ap, subst, ◌∙◌}
 use Rattle.std.specs.List.{list_any}
 use Rattle.std.specs.Ordering.{nat_cmp}
 use Rattle.std.specs.FinMap as tree
@@ -31,7 +32,8 @@ use Rattle.vdi_ops.specs.declared.act.OpAct.{OpAct}
 use Rattle.vdi_ops.specs.declared.act.OpAct.TheVariants as op_acts
 use Rattle.vdi_ops.specs.declared.end.OpEnd.{OpEnd}
 use Rattle.vdi_ops.specs.Op as ops
-use Rattle.vdi_ops.specs.Op.{Task, Opening, WritingBack, Tagging, Copying, Making, OpStage, Asked, Working, Publishing, Answered, Op, IsAwaitedAtOpStage, IsAwaitedByCommand}
+use Rattle.vdi_ops.specs.Op.{Task, Opening, WritingBack, Tagging, Copying, Making, OpStage, Asked, Working, Publishing, Answered, Op}
+use Rattle.vdi_ops.specs.Op.{IsAwaitedAtOpStage, IsAwaitedByCommand}
 use Rattle.vdi_ops.specs.Steps.{begin_command, on_decision, op_on_done, on_refusal}
 use Rattle.vdi_ops.proofs.StepLemmas.{begin_awaited, done_awaited, decision_awaited}
 use Rattle.disk_check.specs.declared.act.CheckAct.{CheckAct}
@@ -50,10 +52,14 @@ use Rattle.sheep_node.specs.Courses.{inode_open, after_command_step}
 use Rattle.sheep_node.specs.LogReading.{entry_read, on_back}
 use Rattle.sheep_node.specs.Step.{on_request, recovery_stepped, on_put, on_recover_tick, node_step}
 use Rattle.sheep_node.specs.Changes as changes
-use Rattle.sheep_node.specs.Changes.{HasRequest, Outcome, ToWork, ToEntry, ToReply, outcome_of_driver, outcome_of_command, outcome_of_check, without_ended_work, RequestSteps, DiskBegins, DiskGoesOn, CommandBegins, CommandGoesOn, CommandDecided, CheckBegins, CheckGoesOn, ObjectBegins, ObjectIsDone, EntryBegins, EntryDecided, WorkIsNext, AtOnce, InTurn, Again, AgainAlone, input_received, Change, Leads}
+use Rattle.sheep_node.specs.Changes.{HasRequest, Outcome, ToWork, ToEntry, ToReply, outcome_of_driver, outcome_of_command, outcome_of_check}
+use Rattle.sheep_node.specs.Changes.{without_ended_work, RequestSteps, DiskBegins, DiskGoesOn, CommandBegins, CommandGoesOn, CommandDecided}
+use Rattle.sheep_node.specs.Changes.{CheckBegins, CheckGoesOn, ObjectBegins, ObjectIsDone, EntryBegins, EntryDecided, WorkIsNext, AtOnce}
+use Rattle.sheep_node.specs.Changes.{InTurn, Again, AgainAlone, input_received, Change, Leads}
 use Rattle.sheep_node.proofs.OneWorkChanges.{awaited_of}
 use Rattle.sheep_node.proofs.StepChain.{kept_by_chain, step_chain}
-use Rattle.overlap_law.proofs.AskedEntries.{IsAskedEntry, IsStageToAsked, IsCourseToAsked, OnlyAskedEntries, AsksForNoRecovered, recovers_none, StepTo, begin_to, done_to, decision_to, refusal_to, step_to}
+use Rattle.overlap_law.proofs.AskedEntries.{IsAskedEntry, IsStageToAsked, IsCourseToAsked, OnlyAskedEntries, AsksForNoRecovered}
+use Rattle.overlap_law.proofs.AskedEntries.{recovers_none, StepTo, begin_to, done_to, decision_to, refusal_to, step_to}
 
 -- ---- what holds at each point of a step
 

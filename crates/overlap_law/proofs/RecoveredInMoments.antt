@@ -1,6 +1,7 @@
--- In each run in range, and in the middle of its steps, whose `Recovered` of an epoch stands in the log or is to be put came to it, and so did
--- each member of it; and while the node is in that epoch it has its list and lacks nothing.
-use Rattle.std.proofs.Common.{◌≡◌, ◌⊎◌, inl, inr, ⊎_elim, arith, ℕ, ◌≤◌, ◌<◌, ◌==◌, ◌&&◌, ◌||◌, not, Bool, true, false, List, [], ◌∷◌, ◌++◌, length, Option, Some, None, is_some, refl, sym, ap, subst, ◌∙◌}
+-- In each run in range, and in the middle of its steps, whose `Recovered` of an epoch stands in the log or is to be put came to it, and so
+-- did each member of it; and while the node is in that epoch it has its list and lacks nothing.
+use Rattle.std.proofs.Common.{◌≡◌, ◌⊎◌, inl, inr, ⊎_elim, arith, ℕ, ◌≤◌, ◌<◌, ◌==◌, ◌&&◌, ◌||◌, not, Bool, true, false, List, [], ◌∷◌, ◌++◌}
+use Rattle.std.proofs.Common.{length, Option, Some, None, is_some, refl, sym, ap, subst, ◌∙◌}
 use Rattle.std.specs.List.{list_any}
 use Rattle.std.specs.Option.{option_map_or}
 use Rattle.std.specs.FinMap as tree
@@ -58,24 +59,29 @@ or_right : (a b : Bool) → b ≡ true → (a || b) ≡ true
 or_right true b is = refl
 or_right false b is = is
 
-pub finished_by_log : (hosts : Hosts) (log : List Entry) (n epoch : ℕ) → has_recovered log epoch n ≡ true → has_finished hosts log epoch (node_of n) ≡ true
-finished_by_log hosts log n epoch stands = or_left (has_recovered log epoch n) (option_map_or (is_putting_in epoch n) (tree.get hosts n) false) stands
+pub finished_by_log : (hosts : Hosts) (log : List Entry) (n epoch : ℕ) → has_recovered log epoch n ≡ true
+    → has_finished hosts log epoch (node_of n) ≡ true
+finished_by_log hosts log n epoch stands =
+    or_left (has_recovered log epoch n) (option_map_or (is_putting_in epoch n) (tree.get hosts n) false) stands
 
-pub finished_by_outbox : (hosts : Hosts) (log : List Entry) (n epoch : ℕ) → IsToPut hosts n epoch → has_finished hosts log epoch (node_of n) ≡ true
+pub finished_by_outbox : (hosts : Hosts) (log : List Entry) (n epoch : ℕ) → IsToPut hosts n epoch
+    → has_finished hosts log epoch (node_of n) ≡ true
 finished_by_outbox hosts log n epoch to_put =
     or_right (has_recovered log epoch n) (option_map_or (is_putting_in epoch n) (tree.get hosts n) false)
     (ap (λ (o : Option Host). option_map_or (is_putting_in epoch n) o false) to_put.there
     ∙ (λ i. (not (to_put.up i) && to_put.puts i)))
 
 -- a log got no `Recovered` by an entry that is none
-pub plain_entry : (log : List Entry) (entry : Entry) (n epoch : ℕ) → recovers epoch n entry ≡ false → has_recovered (log ++ entry ∷ []) epoch n ≡ true
+pub plain_entry : (log : List Entry) (entry : Entry) (n epoch : ℕ) → recovers epoch n entry ≡ false
+    → has_recovered (log ++ entry ∷ []) epoch n ≡ true
     → has_recovered log epoch n ≡ true
 plain_entry log entry n epoch plain stands = ⊎_elim
     (λ (old : has_recovered log epoch n ≡ true). old)
     (λ (new : (recovers epoch n entry || false) ≡ true).
     let none : (recovers epoch n entry || false) ≡ false = ap (λ (b : Bool). b || false) plain in
     absurd (cc (none, new)))
-    (or_cases (has_recovered log epoch n) (recovers epoch n entry || false) (sym (list_any-append (recovers epoch n) log (entry ∷ [])) ∙ stands))
+    (or_cases (has_recovered log epoch n) (recovers epoch n entry || false)
+    (sym (list_any-append (recovers epoch n) log (entry ∷ [])) ∙ stands))
 
 -- ---- what it says
 
@@ -89,16 +95,19 @@ pub record EndsNow (hosts : Hosts) (n epoch : ℕ) : Type 0 where
   pub listed : is_listed host.node.recovery ≡ true
   pub put : host.node.recovered ≡ true
 
--- who finished was there, in a later epoch than the first, and came to the epoch, as did each member of it; where it recovers that epoch still,
--- its `Recovered` was put
+-- who finished was there, in a later epoch than the first, and came to the epoch, as did each member of it; where it recovers that epoch
+-- still, its `Recovered` was put
 pub record TheFinishedCame (log : List Entry) (hosts : Hosts) : Type 0 where
   pub later : (n epoch : ℕ) → has_finished hosts log epoch (node_of n) ≡ true → 1 < epoch
   pub begun : (n epoch : ℕ) → has_finished hosts log epoch (node_of n) ≡ true → epoch ≤ epoch_of log
   pub there : (n epoch : ℕ) → has_finished hosts log epoch (node_of n) ≡ true → is_some (tree.get hosts n) ≡ true
-  pub reached : (n epoch : ℕ) (host : Host) → has_finished hosts log epoch (node_of n) ≡ true → tree.get hosts n ≡ Some host → epoch ≤ host.node.peer.epoch
-  pub members : (n epoch : ℕ) (other : NodeId) → has_finished hosts log epoch (node_of n) ≡ true → is_member other.0 (members_in log epoch) ≡ true
+  pub reached : (n epoch : ℕ) (host : Host) → has_finished hosts log epoch (node_of n) ≡ true → tree.get hosts n ≡ Some host
+      → epoch ≤ host.node.peer.epoch
+  pub members : (n epoch : ℕ) (other : NodeId) → has_finished hosts log epoch (node_of n) ≡ true
+      → is_member other.0 (members_in log epoch) ≡ true
       → has_reached hosts epoch other ≡ true
-  pub put : (n : ℕ) (host : Host) → tree.get hosts n ≡ Some host → host.is_lost ≡ false → has_finished hosts log host.node.recovery.epoch (node_of n) ≡ true
+  pub put : (n : ℕ) (host : Host) → tree.get hosts n ≡ Some host → host.is_lost ≡ false
+      → has_finished hosts log host.node.recovery.epoch (node_of n) ≡ true
       → host.node.recovered ≡ true
 
 -- by it, and by what holds of each node, those who recovered have all
@@ -139,8 +148,10 @@ RecoveriesGo before after = (n : ℕ) (now : Host) → tree.get after.world.host
 
 module _ (before after : MomentWithPast) (grows : LogGrows before.world.log after.world.log) (some : 1 ≤ length before.world.log)
     (rises : EpochsRise before.world.hosts after.world.hosts) (finished : FinishedBefore before after) (goes : RecoveriesGo before after)
-    (sound : HostsAreSound after) (answered : AnswerersHaveCome after.world.hosts) (holds : TheFinishedCame before.world.log before.world.hosts) where
-  there_still : (n : ℕ) (o : Option Host) → tree.get before.world.hosts n ≡ o → is_some o ≡ true → is_some (tree.get after.world.hosts n) ≡ true
+    (sound : HostsAreSound after) (answered : AnswerersHaveCome after.world.hosts)
+    (holds : TheFinishedCame before.world.log before.world.hosts) where
+  there_still : (n : ℕ) (o : Option Host) → tree.get before.world.hosts n ≡ o → is_some o ≡ true
+      → is_some (tree.get after.world.hosts n) ≡ true
   there_still n None is there = absurd (cc (there))
   there_still n (Some host) is there = ap (λ (o : Option Host). is_some o) (rises n host is).1
 
@@ -148,7 +159,8 @@ module _ (before after : MomentWithPast) (grows : LogGrows before.world.log afte
   was_there : (n : ℕ) → is_some (tree.get before.world.hosts n) ≡ true → (host : Host) × (tree.get before.world.hosts n ≡ Some host)
   was_there n there = by_host (tree.get before.world.hosts n) refl there
     where
-      by_host : (o : Option Host) → tree.get before.world.hosts n ≡ o → is_some o ≡ true → (host : Host) × (tree.get before.world.hosts n ≡ Some host)
+      by_host : (o : Option Host) → tree.get before.world.hosts n ≡ o → is_some o ≡ true
+          → (host : Host) × (tree.get before.world.hosts n ≡ Some host)
       by_host None is there = absurd (cc (there))
       by_host (Some host) is there = (host, is)
 
@@ -178,7 +190,8 @@ module _ (before after : MomentWithPast) (grows : LogGrows before.world.log afte
     where
       none_waits : (waiting : List NodeId) → (length waiting == 0) ≡ true → has_node other waiting ≡ false
       none_waits [] listed = refl
-      none_waits (node ∷ waiting) listed = let no : length (node ∷ waiting) ≡ 0 = eqb-true (length (node ∷ waiting)) 0 listed in absurd (omega (arith, no))
+      none_waits (node ∷ waiting) listed =
+          let no : length (node ∷ waiting) ≡ 0 = eqb-true (length (node ∷ waiting)) 0 listed in absurd (omega (arith, no))
 
   stays_put : (n : ℕ) (now : Host) → tree.get after.world.hosts n ≡ Some now → now.is_lost ≡ false
       → has_finished after.world.hosts after.world.log now.node.recovery.epoch (node_of n) ≡ true → now.node.recovered ≡ true
@@ -195,8 +208,8 @@ module _ (before after : MomentWithPast) (grows : LogGrows before.world.log afte
       on.1)
       (λ (later : from.host.node.peer.epoch < now.node.recovery.epoch). absurd (omega (arith, later, within)))
       from.goes)
-      (λ (none : is_some (tree.get before.world.hosts n) ≡ false). let seat = holds.there n now.node.recovery.epoch old in absurd (cc (seat, none)))
-      (goes n now there up))
+      (λ (none : is_some (tree.get before.world.hosts n) ≡ false). let seat = holds.there n now.node.recovery.epoch old in absurd
+      (cc (seat, none))) (goes n now there up))
       (λ (ends : Ends n now.node.recovery.epoch).
       let same : ends.host ≡ now = same_Some ends.host now (sym ends.there ∙ there) in
       ap (λ (h : Host). h.node.recovered) (sym same) ∙ ends.put)

@@ -7,7 +7,6 @@ use Rattle.cluster_script.specs.declared.statement.Statement.{Statement}
 use Rattle.cluster_script.specs.Settings.{tries_of}
 use Rattle.peer_service.specs.State.{Peer}
 use Rattle.recovery.specs.State.{Recovery, initial_recovery}
-use Rattle.sheep_node.specs.declared.event.Event.{Event}
 use Rattle.sheep_node.specs.declared.input.Input.TheVariants as inputs
 use Rattle.sheep_node.specs.State as nodes
 use Rattle.sheep_node.specs.State.{Node}
@@ -18,6 +17,7 @@ use Rattle.sheep_world.specs.EventKinds.{log_after_return}
 use Rattle.sheep_world.specs.HostChanges.{HostsKeep}
 use Rattle.sheep_world.specs.Began.{Began}
 use Rattle.sheep_world.proofs.BegunWorlds.{each_where}
+use Rattle.sheep_world.specs.RunsWithAsks.{Move}
 use Rattle.overlap_law.specs.Past.{MomentWithPast, run_with_past}
 use Rattle.overlap_law.specs.MomentChanges.{MomentTrail, RunsAreInRange, KeptByChanges}
 use Rattle.overlap_law.proofs.ListedNodes.{opening_lists}
@@ -61,7 +61,7 @@ module _ (script : List Statement) (Q : ℕ → Recovery → Peer → Type 0)
   same_so n old new parts is =
       subst (λ (r : Recovery). Q n r new.peer) (sym parts.recovery) (subst (Q n old.recovery) (sym parts.peer) is)
 
-  pub recoveries-on_the_way : (events : List Event) (start moment : MomentWithPast) → run_with_past script events ≡ Some start
+  pub recoveries-on_the_way : (events : List Move) (start moment : MomentWithPast) → run_with_past script events ≡ Some start
       → MomentTrail script start moment → (n : ℕ) (host : Host) → tree.get moment.world.hosts n ≡ Some host
       → Q n host.node.recovery host.node.peer
   recoveries-on_the_way = nodes-on_the_way script (λ n node. Q n node.recovery node.peer) same_so holds

@@ -1,6 +1,7 @@
--- A node's recovery is of the members of its epoch, by what the node has read; and it is of the node's own epoch, if the node is a member of
--- that. Each step of a node leaves it so.
-use Rattle.std.proofs.Common.{◌≡◌, ◌⊎◌, inl, inr, ⊎_elim, arith, ℕ, suc, ◌+◌, ◌≤◌, ◌<◌, ◌&&◌, Bool, true, false, cond, List, [], ◌∷◌, ◌++◌, length, filter, map, Option, Some, None, refl, sym, ap, subst, ◌∙◌}
+-- A node's recovery is of the members of its epoch, by what the node has read; and it is of the node's own epoch, if the node is a member
+-- of that. Each step of a node leaves it so.
+use Rattle.std.proofs.Common.{◌≡◌, ◌⊎◌, inl, inr, ⊎_elim, arith, ℕ, suc, ◌+◌, ◌≤◌, ◌<◌, ◌&&◌, Bool, true, false, cond, List, [], ◌∷◌, ◌++◌}
+use Rattle.std.proofs.Common.{length, filter, map, Option, Some, None, refl, sym, ap, subst, ◌∙◌}
 use Rattle.std.proofs.lemmas.Bool.{eq-eqb}
 use Rattle.proof_tools.proofs.Booleans.{cond_either}
 use Rattle.object_id.specs.declared.entry.Entry.{Entry}
@@ -26,7 +27,8 @@ use Rattle.sheep_node.specs.declared.input.Input.TheVariants as inputs
 use Rattle.sheep_node.specs.State.{Node, initial_node}
 use Rattle.sheep_node.specs.RecoveryView.{recovery_state_of}
 use Rattle.sheep_node.specs.StepState.{StepState, at_first}
-use Rattle.sheep_node.specs.LogReading.{epochs_up_to, epoch_members, is_epoch_member, node_with_entry, recovery_in_epoch, entry_read, come_back_with, on_back}
+use Rattle.sheep_node.specs.LogReading.{epochs_up_to, epoch_members, is_epoch_member, node_with_entry, recovery_in_epoch, entry_read}
+use Rattle.sheep_node.specs.LogReading.{come_back_with, on_back}
 use Rattle.sheep_node.specs.Step.{on_request, recovery_stepped, on_put, on_recover_tick}
 use Rattle.sheep_node.specs.StepFacts.{epochs_of, may_begin_recovery, IsByTheLog}
 use Rattle.sheep_node.specs.Changes.{input_received, Leads}
@@ -40,8 +42,8 @@ use Rattle.overlap_law.proofs.SendsOfChanges.{in_order_so_far}
 abbrev pub nodes_of_members : List Member → List NodeId
 nodes_of_members list = map (λ (member : Member). member.node) list
 
--- a recovery is of an epoch that its node came to, with the members that what the node has read gives that epoch, the node among them; and it
--- is of the node's epoch, if the node is a member of that. Before the first recovery none is due
+-- a recovery is of an epoch that its node came to, with the members that what the node has read gives that epoch, the node among them; and
+-- it is of the node's epoch, if the node is a member of that. Before the first recovery none is due
 pub record RecoversBy (me : ℕ) (entries : List Entry) (epoch aim : ℕ) (nodes : List NodeId) (recovered : Bool) : Type 0 where
   pub begun : 1 ≤ aim
   pub entered : aim ≤ epoch
@@ -93,7 +95,8 @@ due_before false now stays due = refl
 
 -- it speaks of these parts, and of what is still to be put
 from_parts : (one other : RecoveryParts) (recovered was : Bool) → other ≡ one → (recovered ≡ false → was ≡ false)
-    → RecoversBy one.me.0 one.entries one.epoch one.aim one.nodes was → RecoversBy other.me.0 other.entries other.epoch other.aim other.nodes recovered
+    → RecoversBy one.me.0 one.entries one.epoch one.aim one.nodes was
+    → RecoversBy other.me.0 other.entries other.epoch other.aim other.nodes recovered
 from_parts one other recovered was same less so =
     subst (λ (p : RecoveryParts). RecoversBy p.me.0 p.entries p.epoch p.aim p.nodes recovered) (sym same) (record {
       begun = so.begun;
@@ -110,11 +113,12 @@ pub recovers_so_far : (input : Input) (node : Node) {so_far : StepState} → Lea
 recovers_so_far input node {so_far} leads so =
     let received = (input_received input (at_first node)).node in
     let in_order = in_order_so_far so_far leads in
-    from_parts (recovery_parts received) (recovery_parts so_far.node) so_far.node.recovered received.recovered (ap parts_untouched in_order.same)
-    (due_before received.recovered so_far.node.recovered in_order.recovered_stays) so
+    from_parts (recovery_parts received) (recovery_parts so_far.node) so_far.node.recovered received.recovered
+    (ap parts_untouched in_order.same) (due_before received.recovered so_far.node.recovered in_order.recovered_stays) so
 
 ended_parts : (number : ℕ) (said : Option PeerSay) (node : Node)
-    → recovery_parts (recovery_stepped (recovery_steps.message_end number said (recovery_state_of node)) (at_first node)).node ≡ recovery_parts node
+    → recovery_parts (recovery_stepped (recovery_steps.message_end number said (recovery_state_of node)) (at_first node)).node
+    ≡ recovery_parts node
 ended_parts number said node = ap
     (λ (f : Frame). record { me = node.me; entries = node.peer.entries; epoch = node.peer.epoch; aim = f.recovered; nodes = f.members })
     (frame_of_end number said (recovery_state_of node))
@@ -125,15 +129,21 @@ pub parts_received : (input : Input) (node : Node) → may_begin_recovery input 
 unfolding on_request on_recover_tick recovery_steps.recovery_on_reply recovery_steps.recovery_on_loss
 parts_received (inputs.Guest req session ask) node quiet = refl
 parts_received (inputs.Request request) node quiet = ap
-    (λ (log : Log). record { me = node.me; entries = log.entries; epoch = log.epoch; aim = node.recovery.epoch; nodes = node.recovery.members })
+    (λ (log : Log). record {
+      me = node.me;
+      entries = log.entries;
+      epoch = log.epoch;
+      aim = node.recovery.epoch;
+      nodes = node.recovery.members;
+    })
     (served_same node.peer request)
 parts_received (inputs.Reply rsp) node quiet =
-    cond_either (λ (so_far : StepState). recovery_parts so_far.node ≡ recovery_parts node) (gateways.gateway_awaits rsp.number node.gateway) (at_first node)
-    (recovery_stepped (recovery_steps.message_end rsp.number (Some rsp.say) (recovery_state_of node)) (at_first node))
+    cond_either (λ (so_far : StepState). recovery_parts so_far.node ≡ recovery_parts node) (gateways.gateway_awaits rsp.number node.gateway)
+    (at_first node) (recovery_stepped (recovery_steps.message_end rsp.number (Some rsp.say) (recovery_state_of node)) (at_first node))
     refl (ended_parts rsp.number (Some rsp.say) node)
 parts_received (inputs.Lost number) node quiet =
-    cond_either (λ (so_far : StepState). recovery_parts so_far.node ≡ recovery_parts node) (gateways.gateway_awaits number node.gateway) (at_first node)
-    (recovery_stepped (recovery_steps.message_end number None (recovery_state_of node)) (at_first node))
+    cond_either (λ (so_far : StepState). recovery_parts so_far.node ≡ recovery_parts node) (gateways.gateway_awaits number node.gateway)
+    (at_first node) (recovery_stepped (recovery_steps.message_end number None (recovery_state_of node)) (at_first node))
     refl (ended_parts number None node)
 parts_received (inputs.LogEntry entry) node quiet = absurd (cc (quiet))
 parts_received inputs.Put node quiet = by_outbox node.outbox
@@ -153,11 +163,11 @@ unfolding on_request on_recover_tick
 recovered_received (inputs.Guest req session ask) node quiet = refl
 recovered_received (inputs.Request request) node quiet = refl
 recovered_received (inputs.Reply rsp) node quiet =
-    cond_either (λ (so_far : StepState). so_far.node.recovered ≡ node.recovered) (gateways.gateway_awaits rsp.number node.gateway) (at_first node)
-    (recovery_stepped (recovery_steps.recovery_on_reply rsp (recovery_state_of node)) (at_first node)) refl refl
+    cond_either (λ (so_far : StepState). so_far.node.recovered ≡ node.recovered) (gateways.gateway_awaits rsp.number node.gateway)
+    (at_first node) (recovery_stepped (recovery_steps.recovery_on_reply rsp (recovery_state_of node)) (at_first node)) refl refl
 recovered_received (inputs.Lost number) node quiet =
-    cond_either (λ (so_far : StepState). so_far.node.recovered ≡ node.recovered) (gateways.gateway_awaits number node.gateway) (at_first node)
-    (recovery_stepped (recovery_steps.recovery_on_loss number (recovery_state_of node)) (at_first node)) refl refl
+    cond_either (λ (so_far : StepState). so_far.node.recovered ≡ node.recovered) (gateways.gateway_awaits number node.gateway)
+    (at_first node) (recovery_stepped (recovery_steps.recovery_on_loss number (recovery_state_of node)) (at_first node)) refl refl
 recovered_received (inputs.LogEntry entry) node quiet = absurd (cc (quiet))
 recovered_received inputs.Put node quiet = by_outbox node.outbox
   where
@@ -171,8 +181,9 @@ recovered_received (inputs.Back entries) node quiet = absurd (cc (quiet))
 pub quiet_recovers : (input : Input) (node : Node) → may_begin_recovery input ≡ false → RecoversByTheLog node
     → RecoversByTheLog (input_received input (at_first node)).node
 quiet_recovers input node quiet so =
-    from_parts (recovery_parts node) (recovery_parts (input_received input (at_first node)).node) (input_received input (at_first node)).node.recovered node.recovered
-    (parts_received input node quiet) (λ due. sym (recovered_received input node quiet) ∙ due) so
+    from_parts (recovery_parts node) (recovery_parts (input_received input (at_first node)).node)
+    (input_received input (at_first node)).node.recovered node.recovered (parts_received input node quiet)
+    (λ due. sym (recovered_received input node quiet) ∙ due) so
 
 -- ---- the members of the newest epoch
 
@@ -183,9 +194,11 @@ some_read (first ∷ later) entry = omega arith
 newest_at : (entries : List Entry) (begun : ℕ) → members_at (epochs_up_to entries (suc begun)) (suc begun) ≡ members_in entries (suc begun)
 unfolding epochs_up_to
 newest_at entries begun =
-    ap (λ (b : Bool). cond b (members_in entries (suc begun)) (members_at (epochs_up_to entries begun) (suc begun))) (eq-eqb (suc begun) (suc begun) refl)
+    ap (λ (b : Bool). cond b (members_in entries (suc begun)) (members_at (epochs_up_to entries begun) (suc begun)))
+    (eq-eqb (suc begun) (suc begun) refl)
 
-newest_members : (entries : List Entry) → members_at (epochs_up_to entries (epoch_of entries)) (epoch_of entries) ≡ members_in entries (epoch_of entries)
+newest_members : (entries : List Entry)
+    → members_at (epochs_up_to entries (epoch_of entries)) (epoch_of entries) ≡ members_in entries (epoch_of entries)
 newest_members entries =
     let is : epoch_of entries ≡ suc (length (filter begins_epoch entries)) = omega arith in
     subst (λ (epoch : ℕ). members_at (epochs_up_to entries epoch) epoch ≡ members_in entries epoch) (sym is)
@@ -200,7 +213,8 @@ pub members_of_newest : (node : Node) → IsByTheLog node → 1 ≤ length node.
     → members_at node.epochs node.peer.epoch ≡ members_in node.peer.entries (epoch_of node.peer.entries)
 members_of_newest node follows some =
     ap (members_at node.epochs) follows.epoch_so
-    ∙ ap (λ (epochs : List EpochMembers). members_at epochs (epoch_of node.peer.entries)) (follows.epochs_so ∙ epochs_some node.peer.entries some)
+    ∙ ap (λ (epochs : List EpochMembers). members_at epochs (epoch_of node.peer.entries))
+    (follows.epochs_so ∙ epochs_some node.peer.entries some)
     ∙ newest_members node.peer.entries
 
 -- ---- an entry is read
@@ -213,7 +227,8 @@ begun_epoch epoch nodes state =
     cond_either (λ (s : RecoveryState). (s.recovery.epoch ≡ epoch) × (s.recovery.members ≡ nodes)) (is_listed start.recovery)
     (record start { shown = shown_with_pending (to_recover start) start.shown }) start (refl, refl) (refl, refl)
 
-module _ (entry : Entry) (node : Node) (before : IsByTheLog node) (after : IsByTheLog (entry_read entry node)) (was : RecoversByTheLog node) where
+module _ (entry : Entry) (node : Node) (before : IsByTheLog node) (after : IsByTheLog (entry_read entry node))
+    (was : RecoversByTheLog node) where
   abbrev entered : Node
   entered = node_with_entry entry node
 
@@ -231,9 +246,11 @@ module _ (entry : Entry) (node : Node) (before : IsByTheLog node) (after : IsByT
       ∙ members_of_newest read after some_now
       ∙ ap (members_in read.peer.entries) (sym after.epoch_so)
 
-  members_kept : (epoch : ℕ) → 1 ≤ length node.peer.entries → epoch ≤ epoch_of node.peer.entries → members_in read.peer.entries epoch ≡ members_in node.peer.entries epoch
+  members_kept : (epoch : ℕ) → 1 ≤ length node.peer.entries → epoch ≤ epoch_of node.peer.entries
+      → members_in read.peer.entries epoch ≡ members_in node.peer.entries epoch
   members_kept epoch some begun =
-      ap (λ (entries : List Entry). members_in entries epoch) (entries_reading entry node) ∙ members_in-append node.peer.entries (entry ∷ []) epoch some begun
+      ap (λ (entries : List Entry). members_in entries epoch) (entries_reading entry node)
+      ∙ members_in-append node.peer.entries (entry ∷ []) epoch some begun
 
   -- who is in a later epoch than the first has read something
   some_before : 1 < node.peer.epoch → 1 ≤ length node.peer.entries
@@ -278,7 +295,8 @@ module _ (entry : Entry) (node : Node) (before : IsByTheLog node) (after : IsByT
           members_kept node.recovery.epoch (some_before (omega (arith, later, old))) (omega (arith, own, old))
 
   recovery_then : (begins member : Bool) → begins_epoch entry ≡ begins → is_epoch_member entered ≡ member
-      → Then (cond (begins && member) (recovery_in_epoch entered) (recovery_state_of entered)) (cond (begins && member) false node.recovered)
+      → Then (cond (begins && member) (recovery_in_epoch entered) (recovery_state_of entered))
+      (cond (begins && member) false node.recovered)
   recovery_then true true begins member =
       let begun = begun_epoch entered.peer.epoch (nodes_of_members (epoch_members entered)) (recovery_state_of entered) in
       let aim : (recovery_in_epoch entered).recovery.epoch ≡ read.peer.epoch = begun.0 ∙ sym (read_epoch entry node) in
@@ -288,8 +306,10 @@ module _ (entry : Entry) (node : Node) (before : IsByTheLog node) (after : IsByT
       record {
         begun = omega (arith, aim, next);
         entered = omega (arith, aim);
-        members_so = λ later. begun.1 ∙ ap nodes_of_members newest_then ∙ ap (λ (epoch : ℕ). nodes_of_members (members_in read.peer.entries epoch)) (sym aim);
-        own = λ later. ap (λ (epoch : ℕ). members.is_member node.me.0 (members_in read.peer.entries epoch)) aim ∙ ap (members.is_member node.me.0) (sym newest_then) ∙ member;
+        members_so = λ later. begun.1 ∙ ap nodes_of_members newest_then
+            ∙ ap (λ (epoch : ℕ). nodes_of_members (members_in read.peer.entries epoch)) (sym aim);
+        own = λ later. ap (λ (epoch : ℕ). members.is_member node.me.0 (members_in read.peer.entries epoch)) aim
+            ∙ ap (members.is_member node.me.0) (sym newest_then) ∙ member;
         present = inl aim;
         put = λ due. omega (arith, aim, next, low, high);
       }
@@ -323,11 +343,13 @@ module _ (entry : Entry) (node : Node) (before : IsByTheLog node) (after : IsByT
 
 -- ---- a node comes back
 
-pub back_members : (entries : List Entry) (node : Node) → epoch_members (come_back_with entries node) ≡ members_in entries (epoch_of entries)
+pub back_members : (entries : List Entry) (node : Node)
+    → epoch_members (come_back_with entries node) ≡ members_in entries (epoch_of entries)
 unfolding come_back closed_at_end peer_settled_to without_objects
 back_members entries node = newest_members entries
 
-pub back_recovers : (entries : List Entry) (node : Node) → 1 < epoch_of entries → members.is_member node.me.0 (members_in entries (epoch_of entries)) ≡ true
+pub back_recovers : (entries : List Entry) (node : Node) → 1 < epoch_of entries
+    → members.is_member node.me.0 (members_in entries (epoch_of entries)) ≡ true
     → RecoversByTheLog (on_back entries node)
 unfolding on_back come_back closed_at_end peer_settled_to without_objects
 back_recovers entries node above member =
@@ -337,7 +359,8 @@ back_recovers entries node above member =
     record {
       begun = omega (arith, aim, above);
       entered = omega (arith, aim);
-      members_so = λ later. begun.1 ∙ ap nodes_of_members (newest_members entries) ∙ ap (λ (epoch : ℕ). nodes_of_members (members_in entries epoch)) (sym aim);
+      members_so = λ later. begun.1 ∙ ap nodes_of_members (newest_members entries)
+          ∙ ap (λ (epoch : ℕ). nodes_of_members (members_in entries epoch)) (sym aim);
       own = λ later. ap (λ (epoch : ℕ). members.is_member node.me.0 (members_in entries epoch)) aim ∙ member;
       present = inl aim;
       put = λ due. omega (arith, aim, above);

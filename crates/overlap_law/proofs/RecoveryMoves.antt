@@ -1,6 +1,7 @@
 -- Over a change of a moment a recovery stays as it is; or it is of a node that isn't lost, had it so as the event began, and puts no
 -- `Recovered` by the change. And what was noted of a node's finished list stays noted.
-use Rattle.std.proofs.Common.{◌≡◌, ◌≢◌, ◌⊎◌, inl, inr, ⊎_elim, ℕ, true, false, List, [], ◌∷◌, ◌++◌, Option, Some, None, refl, sym, ap, subst, ◌∙◌}
+use Rattle.std.proofs.Common.{◌≡◌, ◌≢◌, ◌⊎◌, inl, inr, ⊎_elim, ℕ, true, false, List, [], ◌∷◌, ◌++◌, Option, Some, None, refl, sym, ap}
+use Rattle.std.proofs.Common.{subst, ◌∙◌}
 use Rattle.std.specs.List.{find, list_any}
 use Rattle.std.specs.Option.{option_map_or, option_or}
 use Rattle.std.specs.FinMap as tree
@@ -23,7 +24,8 @@ use Rattle.sheep_world.specs.Began.{Began}
 use Rattle.sheep_world.specs.EventKinds.{log_after_return}
 use Rattle.sheep_world.specs.HostChanges.{joined_host, host_after_return}
 use Rattle.sheep_world.specs.MembershipChanges.{join_of, last_weight, lost_host}
-use Rattle.sheep_world.specs.NodeCauses.{NodeCause, GuestAsks, RequestComes, ReplyComes, LossIsTold, EntryIsRead, EntryIsPut, RecoveryTicks, WorkIsRetried, input_of_cause, log_after_cause, host_with_node}
+use Rattle.sheep_world.specs.NodeCauses.{NodeCause, GuestAsks, RequestComes, ReplyComes, LossIsTold, EntryIsRead, EntryIsPut, RecoveryTicks}
+use Rattle.sheep_world.specs.NodeCauses.{WorkIsRetried, ClientAsks, input_of_cause, log_after_cause, host_with_node}
 use Rattle.sheep_world.specs.Step.{EventOutcome}
 use Rattle.sheep_world.specs.World.{Host, host_at}
 use Rattle.sheep_world.proofs.ControlLaws.{next_fits}
@@ -96,9 +98,11 @@ quiet node (EntryIsPut entry) by = inl (by_outbox node.outbox)
     by_outbox (first ∷ later) = refl
 quiet node RecoveryTicks by = inr (λ log. refl)
 quiet node WorkIsRetried by = absurd by
+quiet node (ClientAsks req ask) by = absurd by
 
 -- nobody has recovered by an entry that is none of that
-not_by_join : (log : List Entry) (entry : Entry) (epoch n : ℕ) → recovers epoch n entry ≡ false → has_recovered (log ++ entry ∷ []) epoch n ≡ true
+not_by_join : (log : List Entry) (entry : Entry) (epoch n : ℕ) → recovers epoch n entry ≡ false
+    → has_recovered (log ++ entry ∷ []) epoch n ≡ true
     → has_recovered log epoch n ≡ true
 not_by_join log entry epoch n plain is = ⊎_elim
     (λ (old : list_any (recovers epoch n) log ≡ true). old)
@@ -124,7 +128,8 @@ module _ (script : List Statement) (range : RunsAreInRange script) (start : Mome
     })
 
     kept : (so_far : StepState) → LeadsInStep stepping (first_in_step stepping) so_far
-        → (first_in_step stepping).node.recovery ≡ stepping.host.node.recovery → (was : Host) → tree.get start.world.hosts stepping.n ≡ Some was
+        → (first_in_step stepping).node.recovery ≡ stepping.host.node.recovery → (was : Host)
+        → tree.get start.world.hosts stepping.n ≡ Some was
         → Moves start (at so_far) stepping.n was (host_with_node stepping.host so_far.node)
     kept so_far leads same was there =
         let one : stepping.host ≡ was = same_Some stepping.host was (sym is.there ∙ there) in
@@ -189,7 +194,8 @@ module _ (script : List Statement) (range : RunsAreInRange script) (start : Mome
       → (epoch oid : ℕ) → is_object_among oid (own_at before.past.listed n epoch) ≡ true
       → is_object_among oid (own_at after.past.listed n epoch) ≡ true
 
-  from_start : (after : MomentWithPast) → after.past.listed ≡ start.past.listed ++ listed_by start.world after.world → StaysNoted start after
+  from_start : (after : MomentWithPast) → after.past.listed ≡ start.past.listed ++ listed_by start.world after.world
+      → StaysNoted start after
   from_start after noted n was now there at epoch oid among =
       ap (λ (all : List FinishedList). is_object_among oid (own_at all n epoch)) noted
       ∙ by_found (find (is_list_of n epoch) start.past.listed) refl
@@ -198,7 +204,8 @@ module _ (script : List Statement) (range : RunsAreInRange script) (start : Mome
           → is_object_among oid (own_at (start.past.listed ++ listed_by start.world after.world) n epoch) ≡ true
       by_found None none =
           let nothing : is_object_among oid [] ≡ true
-          = ap (λ (o : Option FinishedList). is_object_among oid (option_map_or (λ (list : FinishedList). list.own) o [])) (sym none) ∙ among in
+          = ap (λ (o : Option FinishedList). is_object_among oid (option_map_or (λ (list : FinishedList). list.own) o [])) (sym none)
+          ∙ among in
           absurd (cc (nothing))
       by_found (Some one) found =
           ap (is_object_among oid) (own_first start.world after.world start.past.listed n epoch one found) ∙ among
@@ -240,20 +247,22 @@ module _ (script : List Statement) (range : RunsAreInRange script) (start : Mome
           ≡ own_at (moment_in_step script stepping start next).past.listed n epoch
       same_own =
           ap (λ (all : List FinishedList). own_at all n epoch) (notes_in_step script start stepping so_far)
-          ∙ own_is start.world (moment_in_step script stepping start so_far).world (λ q host got. (sound.each q host got).read.own) n epoch was there
-          start.past.listed
+          ∙ own_is start.world (moment_in_step script stepping start so_far).world (λ q host got. (sound.each q host got).read.own) n epoch
+          was there start.past.listed
           ∙ ap (λ (o : Option FinishedList). option_map_or (λ (list : FinishedList). list.own)
           (option_or (find (is_list_of n epoch) start.past.listed) (passed (is_list_of n epoch) o)) []) same_listed
-          ∙ sym (own_is start.world (moment_in_step script stepping start next).world (λ q host got. (sound_next.each q host got).read.own) n epoch
-          now at start.past.listed)
+          ∙ sym (own_is start.world (moment_in_step script stepping start next).world (λ q host got. (sound_next.each q host got).read.own)
+          n epoch now at start.past.listed)
           ∙ sym (ap (λ (all : List FinishedList). own_at all n epoch) (notes_in_step script start stepping next))
 
   pub stays_noted : {before after : MomentWithPast} → HostsAreSound before → HostsAreSound after → MomentChange script start before after
       → StaysNoted before after
-  stays_noted {before} {after} sound sound_after (moments.StepBegins stepping is by) = from_start after (notes script (moments.StepBegins stepping is by))
+  stays_noted {before} {after} sound sound_after (moments.StepBegins stepping is by) =
+      from_start after (notes script (moments.StepBegins stepping is by))
   stays_noted {before} {after} sound sound_after (moments.StepGoesOn stepping so_far next is by within) =
       in_step stepping is so_far next within.leads (changes.Then within.leads within.change) sound sound_after
-  stays_noted {before} {after} sound sound_after (moments.StepIsMade stepping is by) = from_start after (notes script (moments.StepIsMade stepping is by))
+  stays_noted {before} {after} sound sound_after (moments.StepIsMade stepping is by) =
+      from_start after (notes script (moments.StepIsMade stepping is by))
   stays_noted {before} {after} sound sound_after (moments.LossIsUntold event made happened h) =
       from_start after (notes script (moments.LossIsUntold event made happened h))
   stays_noted {before} {after} sound sound_after (moments.DeliveryIsUnread event made happened h) =

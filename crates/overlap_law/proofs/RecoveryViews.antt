@@ -1,6 +1,7 @@
 -- What is kept of a node as its recovery sees it, whatever the recovery finds: it is kept where objects become pending and are so no more,
 -- and where the row of an object is put that was searched.
-use Rattle.std.proofs.Common.{◌≡◌, ℕ, ◌-◌, ◌==◌, Bool, true, false, cond, ◌||◌, List, [], ◌∷◌, length, Option, Some, None, refl, sym, ap, ◌∙◌}
+use Rattle.std.proofs.Common.{◌≡◌, ℕ, ◌-◌, ◌==◌, Bool, true, false, cond, ◌||◌, List, [], ◌∷◌, length, Option, Some, None, refl, sym, ap}
+use Rattle.std.proofs.Common.{◌∙◌}
 use Rattle.std.specs.Prelude.{nat_lt}
 use Rattle.std.specs.List.{list_any}
 use Rattle.std.specs.Option.{option_map_or}
@@ -17,8 +18,10 @@ use Rattle.peer_proto.specs.declared.say.PeerSay.{PeerSay}
 use Rattle.peer_proto.specs.declared.say.PeerSay.TheVariants as says
 use Rattle.recovery.specs.Shown.{NodeView, live_policy, first_in, is_pending_object, shown_with_pending, shown_without_pending, with_row}
 use Rattle.recovery.specs.State.{Message, Search, RecoveryState, search_at, still_on, search_on, is_listed, message_of}
-use Rattle.recovery.specs.Level.{are_enough, with_part_found, with_object_missing, to_ask, one_lower, level_without_part, own_index, own_part, rows_found, level_over_by, level_over, is_of_search, searching}
-use Rattle.recovery.specs.Steps.{to_recover, when_listed, at_start, recovery_from_epoch, without_unanswered, search_after_answer, after_list, after_read, after_ask, message_end}
+use Rattle.recovery.specs.Level.{are_enough, with_part_found, with_object_missing, to_ask, one_lower, level_without_part, own_index}
+use Rattle.recovery.specs.Level.{own_part, rows_found, level_over_by, level_over, is_of_search, searching}
+use Rattle.recovery.specs.Steps.{to_recover, when_listed, at_start, recovery_from_epoch, without_unanswered, search_after_answer}
+use Rattle.recovery.specs.Steps.{after_list, after_read, after_ask, message_end}
 use Rattle.recovery.specs.Tick.{or_next, next_search, tick_messages, with_messages, state_after_tick}
 
 -- an object is searched that is pending, whose policy is known and whose id isn't dead

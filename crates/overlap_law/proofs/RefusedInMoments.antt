@@ -1,6 +1,7 @@
 -- What is refused, over a change of a moment: a request that is refused then is no more at its node, and no message of its attempts was served
 -- or lost.
-use Rattle.std.proofs.Common.{◌≡◌, ◌⊎◌, inl, inr, ⊎_elim, ℕ, zero, suc, ◌+◌, ◌==◌, not, ◌||◌, Bool, true, false, cond, List, [], ◌∷◌, ◌++◌, map, filter, Contains, Option, Some, None, is_some, slice_get, refl, sym, ap, subst, ◌∙◌, append-nil}
+use Rattle.std.proofs.Common.{◌≡◌, ◌⊎◌, inl, inr, ⊎_elim, ℕ, zero, suc, ◌+◌, ◌==◌, not, ◌||◌, Bool, true, false, cond, List, [], ◌∷◌, ◌++◌}
+use Rattle.std.proofs.Common.{map, filter, Contains, Option, Some, None, is_some, slice_get, refl, sym, ap, subst, ◌∙◌, append-nil}
 use Rattle.std.specs.List.{list_any}
 use Rattle.std.specs.FinMap as tree
 use Rattle.std.proofs.lemmas.Bool.{and_parts, not-true, or_cases, eqb-true, eq-eqb}
@@ -31,7 +32,8 @@ use Rattle.sheep_node.proofs.OneWorkChanges.{StepHasOneWork}
 use Rattle.sheep_world.specs.World.{Host}
 use Rattle.sheep_world.specs.Asking.{session_asking}
 use Rattle.sheep_world.specs.Step.{EventOutcome}
-use Rattle.sheep_world.specs.NodeCauses.{NodeCause, GuestAsks, RequestComes, ReplyComes, LossIsTold, EntryIsRead, EntryIsPut, RecoveryTicks, WorkIsRetried, input_of_cause, host_with_node}
+use Rattle.sheep_world.specs.NodeCauses.{NodeCause, GuestAsks, RequestComes, ReplyComes, LossIsTold, EntryIsRead, EntryIsPut, RecoveryTicks}
+use Rattle.sheep_world.specs.NodeCauses.{WorkIsRetried, ClientAsks, input_of_cause, host_with_node}
 use Rattle.sheep_world.specs.EventKinds.{log_after_return}
 use Rattle.sheep_world.specs.Began.{Began}
 use Rattle.overlap_law.specs.Attempts.{AttemptRecord, Served}
@@ -40,7 +42,8 @@ use Rattle.overlap_law.specs.Past.{MomentWithPast, past_after_event, moment_afte
 use Rattle.overlap_law.specs.PastWords.{is_refusal, refuses_request, refused_in}
 use Rattle.overlap_law.specs.Packets.{message_name_at}
 use Rattle.overlap_law.specs.OpenWorks.{IsAwaitedAt, MayTouch}
-use Rattle.overlap_law.specs.StepMoments.{SteppingNode, IsStepping, StepsByChanges, StepsAtOnce, first_in_step, last_in_step, LeadsInStep, IsWithinStep, moment_in_step, attempts_of_change}
+use Rattle.overlap_law.specs.StepMoments.{SteppingNode, IsStepping, StepsByChanges, StepsAtOnce, first_in_step, last_in_step, LeadsInStep}
+use Rattle.overlap_law.specs.StepMoments.{IsWithinStep, moment_in_step, attempts_of_change}
 use Rattle.overlap_law.specs.MomentChanges as moments
 use Rattle.overlap_law.specs.MomentChanges.{MomentChange, RunsAreInRange}
 use Rattle.overlap_law.specs.TiedAttempts.{IsTied}
@@ -51,11 +54,11 @@ use Rattle.overlap_law.proofs.FreshRequests.{none_for_new}
 use Rattle.overlap_law.proofs.KnownFatesLater.{WasMarked}
 use Rattle.overlap_law.proofs.KnownSteps.{IsKnownStep, known_step}
 use Rattle.overlap_law.proofs.LostMessages.{lost_in_step}
-use Rattle.overlap_law.proofs.RefusedInRuns.{back_silent}
+use Rattle.overlap_law.proofs.RefusedInRuns.{back_silent, of_some}
 use Rattle.overlap_law.proofs.RefusedUntouched.{IsUntouched, MayBeRefused, change_refuses}
 use Rattle.overlap_law.proofs.RepliesApart.{apart_so_far}
 use Rattle.overlap_law.proofs.RequestsInSteps.{received_replies}
-use Rattle.overlap_law.proofs.SessionsOfRequests.{IsAskedIn, brought, asked_so_far, are_asked}
+use Rattle.overlap_law.proofs.SessionsOfRequests.{IsAskedIn, IsAskedBy, brought, asked_so_far, are_asked, by_line}
 use Rattle.overlap_law.proofs.TouchedInMoments.{BeginsWith, refused_in_step, begins}
 use Rattle.overlap_law.proofs.TouchedStay.{Arrives}
 use Rattle.overlap_law.proofs.TrafficAttempts.{HasBegun, came_from}
@@ -64,6 +67,7 @@ use Rattle.overlap_law.proofs.UnansweredInMoments.{origin_so_far}
 use Rattle.overlap_law.proofs.UnansweredMessages.{StaysUnanswered, IsHeardOf}
 use Rattle.overlap_law.proofs.UnansweredStay.{change_goes}
 use Rattle.overlap_law.proofs.WorkedCourses.{HadNoWork}
+use Rattle.sheep_world.specs.BegunRequests.{IsOfScript}
 
 -- ---- requests among the refused
 
@@ -145,6 +149,7 @@ made_silent (EntryIsRead entry) node by = absurd by
 made_silent (EntryIsPut entry) node by = due_silent (on_put node.outbox (at_first node)) ∙ put_silent node.outbox node
 made_silent RecoveryTicks node by = due_silent (on_recover_tick (at_first node))
 made_silent WorkIsRetried node by = absurd by
+made_silent (ClientAsks req ask) node by = absurd by
 
 none_contained : (replies : List (ℕ × GuestRsp)) → ((reply : ℕ × GuestRsp) → Contains replies reply → ⊥) → replies ≡ []
 none_contained [] none = refl
@@ -201,7 +206,8 @@ module _ (script : List Statement) (range : RunsAreInRange script) (start : Mome
     none_there reply there (Some request) got =
         absurd (apart_so_far (input_of_cause stepping.cause) stepping.host.node known.sound leads reply.0 request reply got there refl)
 
-    asked_then : (reply : ℕ × GuestRsp) → Contains next.outputs.replies reply → (session : ℕ) × IsAskedIn script stepping.n stepping.host.incarnation reply.0 session
+    asked_then : (reply : ℕ × GuestRsp) → Contains next.outputs.replies reply
+        → (session : ℕ) × IsAskedBy script stepping.n stepping.host.incarnation reply.0 session
     asked_then reply there =
         let (session, disk, so) = (asked_so_far script stepping.n stepping.host.incarnation (input_of_cause stepping.cause) stepping.host.node
         (brought script start.world stepping.n stepping.host stepping.cause is.caused) (are_asked script start.world began stepping.n stepping.host is.there) leads).replied reply there in
@@ -292,8 +298,9 @@ module _ (script : List Statement) (range : RunsAreInRange script) (start : Mome
 
     -- a reply that refuses in a change
     refused_now : IsTied before → TouchOrAreAwaited before → RequestsHaveWorked before → (reply : ℕ × GuestRsp) → Contains next.outputs.replies reply
-        → MayBeRefused (input_of_cause stepping.cause) stepping.host.node known.sound so_far good reply.0 → IsRefusedNow script after reply.0
-    refused_now tied due worked reply there may =
+        → IsOfScript script reply.0 → MayBeRefused (input_of_cause stepping.cause) stepping.host.node known.sound so_far good reply.0
+        → IsRefusedNow script after reply.0
+    refused_now tied due worked reply there of_script may =
         let none = none_there reply there (tree.get next.node.requests reply.0) refl in
         let (session, asked) = asked_then reply there in
         record {
@@ -303,7 +310,7 @@ module _ (script : List Statement) (range : RunsAreInRange script) (start : Mome
           up = up;
           none = none;
           session = session;
-          asked = asked;
+          asked = by_line script stepping.n stepping.host.incarnation reply.0 session asked of_script;
           untouching = λ j attempt got own gateway place target among touching.
               none_touching tied due worked reply.0 none may j attempt got own gateway place target among touching;
         }
@@ -339,7 +346,8 @@ module _ (script : List Statement) (range : RunsAreInRange script) (start : Mome
       was_refused (inr (ap (λ (q : ℕ). is_object_among q (refused_in script so_far.outputs.replies)) (sym same) ∙ refused_of script so_far.outputs.replies reply old refuses)))
       (λ (may : MayBeRefused (input_of_cause stepping.cause) stepping.host.node known.sound so_far good reply.0).
       inr (subst (IsRefusedNow script (moment_in_step script stepping start next)) same
-      (refused_now stepping so_far next is by within tied due worked reply there may)))
+      (refused_now stepping so_far next is by within tied due worked reply there
+      (of_some script reply.0 (and_parts (is_refusal reply.1) (is_some (session_asking script reply.0)) refuses).1) may)))
       (change_refuses (input_of_cause stepping.cause) stepping.host.node known.sound so_far good next within.change reply there (refusal_is script reply refuses)))
       (among_cases req start.past.refused (refused_in script next.outputs.replies)
       (sym (ap (is_object_among req) (refused_in_step script stepping start next)) ∙ among))

@@ -1,11 +1,12 @@
 -- In every run what was refused was begun and has its reply, and what has no reply was begun.
-use Rattle.std.proofs.Common.{◌≡◌, ◌≢◌, ◌⊎◌, inl, inr, ⊎_elim, arith, ℕ, ◌+◌, ◌<◌, ◌≤◌, ◌==◌, Bool, true, false, not, ◌||◌, cond, List, [], ◌∷◌, ◌++◌, map, filter, fold, Contains, Option, Some, None, refl, sym, ap, subst, ◌∙◌}
+use Rattle.std.proofs.Common.{◌≡◌, ◌≢◌, ◌⊎◌, inl, inr, ⊎_elim, arith, ℕ, ◌+◌, ◌<◌, ◌≤◌, ◌==◌, Bool, true, false, not, ◌||◌, cond, List, []}
+use Rattle.std.proofs.Common.{◌∷◌, ◌++◌, map, filter, fold, Contains, Option, Some, None, is_some, refl, sym, ap, subst, ◌∙◌}
 use Rattle.std.specs.Prelude.{unwrap_or}
 use Rattle.std.specs.List.{slice_get}
 use Rattle.std.specs.Option.{option_and_then}
 use Rattle.std.specs.Ordering.{nat_cmp}
 use Rattle.std.specs.FinMap as tree
-use Rattle.std.proofs.lemmas.Bool.{cases_eq, eqb-true, eq-eqb, both_ways, or_cases, not-true}
+use Rattle.std.proofs.lemmas.Bool.{and_parts, cases_eq, eqb-true, eq-eqb, both_ways, or_cases, not-true}
 use Rattle.std.proofs.lemmas.List.{append-nil}
 use Rattle.std.proofs.lemmas.List.Elements.{Contains-push_cases}
 use Rattle.std.proofs.lemmas.List.Folds.{list_any-append}
@@ -13,7 +14,7 @@ use Rattle.proof_tools.proofs.FiniteMaps.{get-insert_same, get-insert_other}
 use Rattle.proof_tools.proofs.Lists.{Contains-nil, Contains-cons, Contains-cons_cases, Contains-first, filter-contains}
 use Rattle.object_id.specs.declared.entry.Entry.{Entry}
 use Rattle.cluster_script.specs.declared.statement.Statement.{Statement}
-use Rattle.cluster_script.specs.NumberedRequests.{session_of, numbers_of_session}
+use Rattle.cluster_script.specs.NumberedRequests.{session_of, request_at, numbers_of_session}
 use Rattle.cluster_script.specs.Statements.{requests_of}
 use Rattle.peer_proto.specs.declared.guest.GuestRsp.{GuestRsp}
 use Rattle.sheep_node.specs.declared.ask.Ask.{Ask}
@@ -30,24 +31,28 @@ use Rattle.sheep_world.specs.World.{Host, World, no_progress, progress_at}
 use Rattle.sheep_world.specs.Asking.{session_asking}
 use Rattle.sheep_world.specs.NodeSteps.{progress_without_request, progress_after_reply_in, progress_after_reply}
 use Rattle.sheep_world.specs.Effects.{disk_open, progress_with_started}
-use Rattle.sheep_world.specs.BegunRequests.{begun_count, WasBegun}
+use Rattle.sheep_world.specs.BegunRequests.{begun_count, WasBegun, IsOfScript}
 use Rattle.sheep_world.specs.Began.{Began}
 use Rattle.sheep_world.specs.Opening.{initial_world}
 use Rattle.sheep_world.specs.Step.{EventOutcome}
-use Rattle.sheep_world.specs.NodeCauses.{NodeCause, GuestAsks, RequestComes, ReplyComes, LossIsTold, EntryIsRead, EntryIsPut, RecoveryTicks, WorkIsRetried, input_of_cause, IsCause, progress_at_cause, world_after_cause}
-use Rattle.sheep_world.specs.EventKinds.{log_after_return, EventKind, NodeStep, UntoldLoss, UnreadDelivery, NodeLoss, NodeLeave, NodeReweight, NodeJoin, NodeReturn, PhaseEnd}
+use Rattle.sheep_world.specs.NodeCauses.{NodeCause, GuestAsks, RequestComes, ReplyComes, LossIsTold, EntryIsRead, EntryIsPut, RecoveryTicks}
+use Rattle.sheep_world.specs.NodeCauses.{WorkIsRetried, ClientAsks, input_of_cause, IsCause, progress_at_cause, world_after_cause}
+use Rattle.sheep_world.specs.EventKinds.{log_after_return, EventKind, NodeStep, UntoldLoss, UnreadDelivery, NodeLoss, NodeLeave}
+use Rattle.sheep_world.specs.EventKinds.{NodeReweight, NodeJoin, NodeReturn, PhaseEnd}
 use Rattle.sheep_world.proofs.AskedStatements.{next_asks}
 use Rattle.sheep_world.proofs.BegunRequestLaws.{Grows, were_begun}
-use Rattle.sheep_world.proofs.EventInversion.{happens}
+use Rattle.sheep_world.proofs.ClientReads.{goes_by_kind}
 use Rattle.sheep_world.proofs.SessionNumbers.{once}
+use Rattle.sheep_world.specs.RunsWithAsks.{Move}
 use Rattle.overlap_law.specs.Holders.{is_object_among}
-use Rattle.overlap_law.specs.PastWords.{refuses_request, refused_in}
+use Rattle.overlap_law.specs.PastWords.{is_refusal, refuses_request, refused_in}
 use Rattle.overlap_law.specs.Past.{MomentWithPast, past_after_event, first_moment, run_with_past}
 use Rattle.overlap_law.specs.RequestsOfScript.{TheRefusedAreAnswered}
+use Rattle.overlap_law.proofs.AsksInCauses.{no_request}
 use Rattle.overlap_law.proofs.AttemptMessages.{contains_at}
 use Rattle.overlap_law.proofs.RequestsInSteps.{received_replies, KnownIn, received_none, change_known}
 use Rattle.overlap_law.proofs.RunsByEvents.{KeptByEvents, run-kept_by_events}
-use Rattle.overlap_law.proofs.SessionsOfRequests.{are_asked}
+use Rattle.overlap_law.proofs.SessionsOfRequests.{are_asked_by_line}
 
 abbrev Guests : Type 0
 Guests = tree.FinMap nat_cmp SessionProgress
@@ -83,11 +88,13 @@ module _ (script : List Statement) where
   replies_grow (reply ∷ later) guests = λ q.
       let one : begun_count q guests ≤ begun_count q (progress_after_reply script guests reply)
       = grown_answered reply.0 (session_asking script reply.0) guests q in
-      let rest : begun_count q (progress_after_reply script guests reply) ≤ begun_count q (fold (progress_after_reply script) (progress_after_reply script guests reply) later)
+      let rest : begun_count q (progress_after_reply script guests reply) ≤ begun_count q
+      (fold (progress_after_reply script) (progress_after_reply script guests reply) later)
       = replies_grow later (progress_after_reply script guests reply) q in
       omega (arith, one, rest)
 
-  pub still_begun : (guests later : Guests) → Grows guests later → (session req : ℕ) → WasBegun script guests session req → WasBegun script later session req
+  pub still_begun : (guests later : Guests) → Grows guests later → (session req : ℕ) → WasBegun script guests session req
+      → WasBegun script later session req
   still_begun guests later grows session req begun = record {
     place = begun.place;
     before =
@@ -104,18 +111,21 @@ module _ (script : List Statement) where
       ap (option_and_then session_of) asks.stands ∙ asks.own
 
   abbrev WasBegunThen : Guests → ℕ → ℕ → Bool → Type 0
-  WasBegunThen guests req session disk = WasBegun script guests session req
+  WasBegunThen guests req session disk = IsOfScript script req → WasBegun script guests session req
 
   -- ---- what is refused, and what has no reply
 
   pub record AreAnswered (guests : Guests) (refused : List ℕ) : Type 0 where
     pub started : (req : ℕ) → is_object_among req refused ≡ true → (session : ℕ) × WasBegun script guests session req
-    pub answered : (session : ℕ) (started : StartedRequest) → Contains (unanswered_in session guests) started → is_object_among started.req refused ≡ false
-    pub unanswered : (session : ℕ) (started : StartedRequest) → Contains (unanswered_in session guests) started → WasBegun script guests session started.req
+    pub answered : (session : ℕ) (started : StartedRequest) → Contains (unanswered_in session guests) started
+        → is_object_among started.req refused ≡ false
+    pub unanswered : (session : ℕ) (started : StartedRequest) → Contains (unanswered_in session guests) started
+        → WasBegun script guests session started.req
 
   -- a session begins its next request
   module _ (guests : Guests) (refused : List ℕ) (number : ℕ) (new : StartedRequest)
-      (next : slice_get (numbers_of_session script number) (begun_count number guests) ≡ Some new.req) (are : AreAnswered guests refused) where
+      (next : slice_get (numbers_of_session script number) (begun_count number guests) ≡ Some new.req)
+      (are : AreAnswered guests refused) where
     abbrev before : SessionProgress
     before = unwrap_or (tree.get guests number) no_progress
 
@@ -128,7 +138,8 @@ module _ (script : List Statement) where
     new_begun : WasBegun script after number new.req
     new_begun =
         let is : begun_count number after ≡ begun_count number guests + 1
-        = ap (λ (o : Option SessionProgress). (unwrap_or o no_progress).begun) (get-insert_same guests number (progress_with_started new before)) in
+        = ap (λ (o : Option SessionProgress). (unwrap_or o no_progress).begun)
+        (get-insert_same guests number (progress_with_started new before)) in
         record { place = begun_count number guests; before = omega (arith, is); there = next }
 
     -- the new one wasn't refused
@@ -154,7 +165,8 @@ module _ (script : List Statement) where
         (λ (own : q ≡ number).
         let is : unanswered_in q after ≡ before.unanswered ++ new ∷ []
         = ap (λ (k : ℕ). unanswered_in k after) own
-        ∙ ap (λ (o : Option SessionProgress). (unwrap_or o no_progress).unanswered) (get-insert_same guests number (progress_with_started new before)) in
+        ∙ ap (λ (o : Option SessionProgress). (unwrap_or o no_progress).unanswered)
+        (get-insert_same guests number (progress_with_started new before)) in
         ⊎_elim
         (λ (old : Contains before.unanswered started). inr (subst (λ (k : ℕ). Contains (unanswered_in k guests) started) (sym own) old))
         (λ (same : new ≡ started). inl (own, same))
@@ -177,8 +189,8 @@ module _ (script : List Statement) where
           (λ (own : (q ≡ number) × (new ≡ started)).
           subst (λ (k : ℕ). WasBegun script after k started.req) (sym own.0)
           (subst (λ (s : StartedRequest). WasBegun script after number s.req) own.1 new_begun))
-          (λ (old : Contains (unanswered_in q guests) started). still_begun guests after more_begun q started.req (are.unanswered q started old))
-          (new_or_was q started there);
+          (λ (old : Contains (unanswered_in q guests) started). still_begun guests after more_begun q started.req
+          (are.unanswered q started old)) (new_or_was q started there);
     }
 
   -- ---- replies
@@ -197,7 +209,8 @@ module _ (script : List Statement) where
       let is : unanswered_in q (tree.insert guests session (progress_without_request req guest))
       ≡ filter (λ (s : StartedRequest). not (s.req == req)) guest.unanswered
       = ap (λ (k : ℕ). unanswered_in k (tree.insert guests session (progress_without_request req guest))) own
-      ∙ ap (λ (o : Option SessionProgress). (unwrap_or o no_progress).unanswered) (get-insert_same guests session (progress_without_request req guest)) in
+      ∙ ap (λ (o : Option SessionProgress). (unwrap_or o no_progress).unanswered)
+      (get-insert_same guests session (progress_without_request req guest)) in
       let (old, other) = filter-contains (λ (s : StartedRequest). not (s.req == req)) guest.unanswered started
       (subst (λ (list : List StartedRequest). Contains list started) is there) in
       (subst (λ (k : ℕ). Contains (unanswered_in k guests) started) (sym own) old, λ same. not-true (started.req == req) other))
@@ -224,26 +237,43 @@ module _ (script : List Statement) where
             (Contains-cons_cases first later reply among),
       )
 
-  -- a request among the refused has a reply that refuses it
-  refusal_of : (req : ℕ) (replies : List (ℕ × GuestRsp)) → is_object_among req (refused_in script replies) ≡ true
-      → (reply : ℕ × GuestRsp) × Contains replies reply × (reply.0 ≡ req)
-  refusal_of req [] is = absurd (cc (is))
-  refusal_of req (first ∷ later) is = by_test (refuses_request script first) is (refusal_of req later)
+  -- a request of which it is known who asks is the script's
+  pub of_some : (req : ℕ) → is_some (session_asking script req) ≡ true → IsOfScript script req
+  of_some req = by_line (request_at script req)
     where
-      behind : ((reply : ℕ × GuestRsp) × Contains later reply × (reply.0 ≡ req)) → (reply : ℕ × GuestRsp) × Contains (first ∷ later) reply × (reply.0 ≡ req)
-      behind (reply, there, same) = (reply, Contains-cons first later reply there, same)
+      by_line : (o : Option Statement) → is_some (option_and_then session_of o) ≡ true → is_some o ≡ true
+      by_line None is = absurd (cc (is))
+      by_line (Some line) is = refl
 
-      by_test : (b : Bool) → is_object_among req (map (λ (answer : ℕ × GuestRsp). answer.0) (cond b (first ∷ filter (refuses_request script) later) (filter (refuses_request script) later))) ≡ true
-          → (is_object_among req (refused_in script later) ≡ true → (reply : ℕ × GuestRsp) × Contains later reply × (reply.0 ≡ req))
-          → (reply : ℕ × GuestRsp) × Contains (first ∷ later) reply × (reply.0 ≡ req)
-      by_test true is rest = ⊎_elim
-          (λ (own : (first.0 == req) ≡ true). (first, Contains-first first first later refl, eqb-true first.0 req own))
+  -- a request among the refused has a reply that refuses it, and is the script's
+  abbrev IsFound : ℕ → List (ℕ × GuestRsp) → Type 0
+  IsFound req list = (reply : ℕ × GuestRsp) × Contains list reply × (reply.0 ≡ req) × IsOfScript script reply.0
+
+  refusal_of : (req : ℕ) (replies : List (ℕ × GuestRsp)) → is_object_among req (refused_in script replies) ≡ true → IsFound req replies
+  refusal_of req [] is = absurd (cc (is))
+  refusal_of req (first ∷ later) is = by_test (refuses_request script first) refl is (refusal_of req later)
+    where
+      behind : IsFound req later → IsFound req (first ∷ later)
+      behind (reply, there, same, of_script) = (reply, Contains-cons first later reply there, same, of_script)
+
+      by_test : (b : Bool) → refuses_request script first ≡ b
+          → is_object_among req (map (λ (answer : ℕ × GuestRsp). answer.0)
+          (cond b (first ∷ filter (refuses_request script) later) (filter (refuses_request script) later))) ≡ true
+          → (is_object_among req (refused_in script later) ≡ true → IsFound req later) → IsFound req (first ∷ later)
+      by_test true test is rest = ⊎_elim
+          (λ (own : (first.0 == req) ≡ true). (
+            first,
+            Contains-first first first later refl,
+            eqb-true first.0 req own,
+            of_some first.0 (and_parts (is_refusal first.1) (is_some (session_asking script first.0)) test).1,
+          ))
           (λ (other : is_object_among req (refused_in script later) ≡ true). behind (rest other))
           (or_cases (first.0 == req) (is_object_among req (refused_in script later)) is)
-      by_test false is rest = behind (rest is)
+      by_test false test is rest = behind (rest is)
 
   module _ (guests : Guests) (refused : List ℕ) (replies : List (ℕ × GuestRsp)) (are : AreAnswered guests refused)
-      (begun : (reply : ℕ × GuestRsp) → Contains replies reply → (session : ℕ) × WasBegun script guests session reply.0) where
+      (begun : (reply : ℕ × GuestRsp) → Contains replies reply → IsOfScript script reply.0
+      → (session : ℕ) × WasBegun script guests session reply.0) where
     abbrev later : Guests
     later = fold (progress_after_reply script) guests replies
 
@@ -252,10 +282,11 @@ module _ (script : List Statement) where
         → is_object_among started.req (refused_in script replies) ≡ false
     none_refused q started was others = by_test (is_object_among started.req (refused_in script replies)) refl
       where
-        by_test : (b : Bool) → is_object_among started.req (refused_in script replies) ≡ b → is_object_among started.req (refused_in script replies) ≡ false
+        by_test : (b : Bool) → is_object_among started.req (refused_in script replies) ≡ b
+            → is_object_among started.req (refused_in script replies) ≡ false
         by_test false is = is
         by_test true is =
-            let (reply, there, same) = refusal_of started.req replies is in
+            let (reply, there, same, of_script) = refusal_of started.req replies is in
             let asking = ap (session_asking script) same ∙ begun_asking guests q started.req (are.unanswered q started was) in
             absurd (both_ways (started.req == reply.0) (others reply there asking) (eq-eqb started.req reply.0 (sym same)))
 
@@ -265,9 +296,12 @@ module _ (script : List Statement) where
           (λ (old : is_object_among req refused ≡ true).
           let (session, was) = are.started req old in (session, still_begun guests later (replies_grow replies guests) session req was))
           (λ (new : is_object_among req (refused_in script replies) ≡ true).
-          let (reply, there, same) = refusal_of req replies new in
-          let (session, was) = begun reply there in
-          (session, subst (λ (k : ℕ). WasBegun script later session k) same (still_begun guests later (replies_grow replies guests) session reply.0 was)))
+          let (reply, there, same, of_script) = refusal_of req replies new in
+          let (session, was) = begun reply there of_script in (
+            session,
+            subst (λ (k : ℕ). WasBegun script later session k) same
+                (still_begun guests later (replies_grow replies guests) session reply.0 was),
+          ))
           (or_cases (is_object_among req refused) (is_object_among req (refused_in script replies))
           (sym (list_any-append (λ other. other == req) refused (refused_in script replies)) ∙ is));
       answered = λ q started there.
@@ -275,17 +309,19 @@ module _ (script : List Statement) where
           list_any-append (λ other. other == started.req) refused (refused_in script replies)
           ∙ (λ i. are.answered q started was i || none_refused q started was others i);
       unanswered = λ q started there.
-          still_begun guests later (replies_grow replies guests) q started.req (are.unanswered q started (left_by replies guests q started there).0);
+          still_begun guests later (replies_grow replies guests) q started.req
+          (are.unanswered q started (left_by replies guests q started there).0);
     }
 
   -- ---- every event
 
   -- the requests of a node, and that of the guest which its step begins with, were begun
   module _ (world : World) (began : Began script world) (n : ℕ) (host : Host) (there : tree.get world.hosts n ≡ Some host) where
-    pub node_begun : (req : ℕ) (request : Request) → tree.get host.node.requests req ≡ Some request → WasBegun script world.guests request.session req
-    node_begun req request got =
-        let begun = were_begun script world began n host there req request got in
-        let asked = are_asked script world began n host there req request got in
+    pub node_begun : (req : ℕ) (request : Request) → tree.get host.node.requests req ≡ Some request → IsOfScript script req
+        → WasBegun script world.guests request.session req
+    node_begun req request got of_script =
+        let begun = were_begun script world began n host there req request got of_script in
+        let asked = are_asked_by_line script world began n host there req request got of_script in
         let same : begun.session.number ≡ request.session
         = cc (begun_asking world.guests begun.session.number req begun.begun, asked.asking) in
         subst (λ (k : ℕ). WasBegun script world.guests k req) same begun.begun
@@ -296,9 +332,10 @@ module _ (script : List Statement) where
         (progress_with_started (record { req = req; disk = disk_open session world }) (progress_at session.number world)) (omega arith)
     found_grows cause = λ q. omega arith
 
-    pub found_brings : (cause : NodeCause) → IsCause script world n host cause → (req session : ℕ) (ask : Ask) → input_of_cause cause ≡ inputs.Guest req session ask
+    pub found_brings : (cause : NodeCause) → IsCause script world n host cause → (req session : ℕ) (ask : Ask)
+        → input_of_cause cause ≡ inputs.Guest req session ask → IsOfScript script req
         → WasBegun script (progress_at_cause cause world) session req
-    found_brings (GuestAsks session begins asks) asked req number ask from =
+    found_brings (GuestAsks session begins asks) asked req number ask from of_script =
         let started = progress_with_started (record { req = begins; disk = disk_open session world }) (progress_at session.number world) in
         let is : begun_count session.number (tree.insert world.guests session.number started) ≡ (progress_at session.number world).begun + 1
         = ap (λ (o : Option SessionProgress). (unwrap_or o no_progress).begun) (get-insert_same world.guests session.number started) in
@@ -307,13 +344,17 @@ module _ (script : List Statement) where
         subst (λ (k : ℕ). WasBegun script (progress_at_cause (GuestAsks session begins asks) world) number k) same
         (subst (λ (k : ℕ). WasBegun script (progress_at_cause (GuestAsks session begins asks) world) k begins) own
         (record { place = (progress_at session.number world).begun; before = omega (arith, is); there = asked.next }))
-    found_brings (RequestComes name to request) so req number ask from = absurd (cc (from))
-    found_brings (ReplyComes name to rsp) so req number ask from = absurd (cc (from))
-    found_brings (LossIsTold name packet) so req number ask from = absurd (cc (from))
-    found_brings (EntryIsRead entry) so req number ask from = absurd (cc (from))
-    found_brings (EntryIsPut entry) so req number ask from = absurd (cc (from))
-    found_brings RecoveryTicks so req number ask from = absurd (cc (from))
-    found_brings WorkIsRetried so req number ask from = absurd (cc (from))
+    found_brings (RequestComes name to request) so req number ask from of_script = absurd (cc (from))
+    found_brings (ReplyComes name to rsp) so req number ask from of_script = absurd (cc (from))
+    found_brings (LossIsTold name packet) so req number ask from of_script = absurd (cc (from))
+    found_brings (EntryIsRead entry) so req number ask from of_script = absurd (cc (from))
+    found_brings (EntryIsPut entry) so req number ask from of_script = absurd (cc (from))
+    found_brings RecoveryTicks so req number ask from of_script = absurd (cc (from))
+    found_brings WorkIsRetried so req number ask from of_script = absurd (cc (from))
+    found_brings (ClientAsks begins what) so req number ask from of_script =
+        let same : begins ≡ req = cc (from) in
+        let none : is_some (request_at script req) ≡ false = ap (λ (o : Option Statement). is_some o) (no_request so req same) in
+        absurd (cc (none, of_script))
 
     pub found_answered : (refused : List ℕ) (cause : NodeCause) → IsCause script world n host cause → AreAnswered world.guests refused
         → AreAnswered (progress_at_cause cause world) refused
@@ -326,30 +367,36 @@ module _ (script : List Statement) where
     found_answered refused (EntryIsPut entry) so are = are
     found_answered refused RecoveryTicks so are = are
     found_answered refused WorkIsRetried so are = are
+    found_answered refused (ClientAsks req ask) so are = are
 
     pub replies_begun : (cause : NodeCause) → IsCause script world n host cause → (reply : ℕ × GuestRsp)
-        → Contains (node_step (input_of_cause cause) host.node).outputs.replies reply
+        → Contains (node_step (input_of_cause cause) host.node).outputs.replies reply → IsOfScript script reply.0
         → (session : ℕ) × WasBegun script (progress_at_cause cause world) session reply.0
     replies_begun cause caused =
-        (λ (reply : ℕ × GuestRsp) (there : Contains (node_step (input_of_cause cause) host.node).outputs.replies reply).
-        let (session, disk, begun) = (kept_by_chain (KnownIn (WasBegunThen (progress_at_cause cause world))) (change_known (WasBegunThen (progress_at_cause cause world)) (input_of_cause cause) host.node (found_brings cause caused))
+        (λ (reply : ℕ × GuestRsp) (there : Contains (node_step (input_of_cause cause) host.node).outputs.replies reply)
+        (of_script : IsOfScript script reply.0).
+        let (session, disk, begun) = (kept_by_chain (KnownIn (WasBegunThen (progress_at_cause cause world)))
+        (change_known (WasBegunThen (progress_at_cause cause world)) (input_of_cause cause) host.node (found_brings cause caused))
         (step_chain (input_of_cause cause) host.node)
-        (received_none (WasBegunThen (progress_at_cause cause world)) (input_of_cause cause) host.node (received_replies (input_of_cause cause) host.node)
-        (λ req request got.
-        still_begun world.guests (progress_at_cause cause world) (found_grows cause) request.session req (node_begun req request got)))).replied reply there in (session, begun))
+        (received_none (WasBegunThen (progress_at_cause cause world)) (input_of_cause cause) host.node
+        (received_replies (input_of_cause cause) host.node) (λ req request got of_its.
+        still_begun world.guests (progress_at_cause cause world) (found_grows cause) request.session req
+        (node_begun req request got of_its)))).replied reply there in (session, begun of_script))
 
     step_answered : (refused : List ℕ) (cause : NodeCause) → IsCause script world n host cause → AreAnswered world.guests refused
-        → AreAnswered (world_after_cause script n host cause world).guests (refused ++ refused_in script (node_step (input_of_cause cause) host.node).outputs.replies)
+        → AreAnswered (world_after_cause script n host cause world).guests
+        (refused ++ refused_in script (node_step (input_of_cause cause) host.node).outputs.replies)
     step_answered refused cause caused are =
         replied_answered (progress_at_cause cause world) refused (node_step (input_of_cause cause) host.node).outputs.replies
         (found_answered refused cause caused are) (replies_begun cause caused)
 
   -- a node that comes back replies to nobody
-  pub back_silent : (log : List Entry) (node : Node) (reply : ℕ × GuestRsp) → Contains (node_step (inputs.Back log) node).outputs.replies reply → ⊥
+  pub back_silent : (log : List Entry) (node : Node) (reply : ℕ × GuestRsp)
+      → Contains (node_step (inputs.Back log) node).outputs.replies reply → ⊥
   unfolding on_back
   back_silent log node reply there =
-      ((kept_by_chain (KnownIn (λ req session disk. ⊥)) (change_known (λ req session disk. ⊥) (inputs.Back log) node (λ req session ask from. absurd (cc (from))))
-      (step_chain (inputs.Back log) node)
+      ((kept_by_chain (KnownIn (λ req session disk. ⊥)) (change_known (λ req session disk. ⊥) (inputs.Back log) node
+      (λ req session ask from. absurd (cc (from)))) (step_chain (inputs.Back log) node)
       (record {
         asked = λ req request got. let none = tree.get-empty {X = Request} nat_cmp req in absurd (cc (none, got));
         replied = λ one there. absurd (Contains-nil one there);
@@ -361,12 +408,14 @@ module _ (script : List Statement) where
   abbrev AnsweredThen : List ℕ → EventOutcome → Type 0
   AnsweredThen refused m = AreAnswered m.world.guests (refused ++ refused_in script m.world.outputs.replies)
 
-  kind_answered : (event : Event) (world : World) (made : EventOutcome) (refused : List ℕ) → Began script world → EventKind script event world made
+  kind_answered : (event : Event) (world : World) (made : EventOutcome) (refused : List ℕ) → Began script world
+      → EventKind script event world made
       → AreAnswered world.guests refused → AreAnswered made.world.guests (refused ++ refused_in script made.world.outputs.replies)
   kind_answered event world made refused began kind are = by_kind kind
     where
       by_kind : EventKind script event world made → AreAnswered made.world.guests (refused ++ refused_in script made.world.outputs.replies)
-      by_kind (NodeStep h) = subst (AnsweredThen refused) h.made_so (step_answered world began h.n h.host h.there refused h.cause h.caused are)
+      by_kind (NodeStep h) =
+          subst (AnsweredThen refused) h.made_so (step_answered world began h.n h.host h.there refused h.cause h.caused are)
       by_kind (UntoldLoss h) = subst (AnsweredThen refused) h.made_so (still_answered world.guests refused are)
       by_kind (UnreadDelivery h) = subst (AnsweredThen refused) h.made_so (still_answered world.guests refused are)
       by_kind (NodeLoss h) = subst (AnsweredThen refused) h.made_so (still_answered world.guests refused are)
@@ -375,8 +424,8 @@ module _ (script : List Statement) where
       by_kind (NodeJoin h) = subst (AnsweredThen refused) h.made_so (still_answered world.guests refused are)
       by_kind (NodeReturn h) =
           subst (AnsweredThen refused) h.made_so
-          (replied_answered world.guests refused (node_step (inputs.Back (log_after_return script h.n world)) h.host.node).outputs.replies are
-          (λ reply there. absurd (back_silent (log_after_return script h.n world) h.host.node reply there)))
+          (replied_answered world.guests refused (node_step (inputs.Back (log_after_return script h.n world)) h.host.node).outputs.replies
+          are (λ reply there of_script. absurd (back_silent (log_after_return script h.n world) h.host.node reply there)))
       by_kind (PhaseEnd h) = subst (AnsweredThen refused) h.made_so (still_answered world.guests refused are)
 
   abbrev pub AreAnsweredAt : MomentWithPast → Type 0
@@ -385,7 +434,8 @@ module _ (script : List Statement) where
   pub none_unanswered : (session : ℕ) (started : StartedRequest) → Contains (unanswered_in session tree.empty) started → ⊥
   none_unanswered session started there =
       Contains-nil started
-      (subst (λ (o : Option SessionProgress). Contains (unwrap_or o no_progress).unanswered started) (tree.get-empty {X = SessionProgress} nat_cmp session) there)
+      (subst (λ (o : Option SessionProgress). Contains (unwrap_or o no_progress).unanswered started)
+      (tree.get-empty {X = SessionProgress} nat_cmp session) there)
 
   pub opens_answered : AreAnsweredAt (first_moment script)
   unfolding initial_world
@@ -398,15 +448,16 @@ module _ (script : List Statement) where
   pub events_answered : KeptByEvents script AreAnsweredAt
   unfolding past_after_event
   events_answered event before made began is are =
-      kind_answered event before.world made before.past.refused began (happens script event before.world made is) are
+      kind_answered event before.world made before.past.refused began (goes_by_kind script event before.world made is) are
 
-  pub refused_in_run : (events : List Event) (moment : MomentWithPast) → run_with_past script events ≡ Some moment
+  pub refused_in_run : (events : List Move) (moment : MomentWithPast) → run_with_past script events ≡ Some moment
       → TheRefusedAreAnswered script moment.world moment.past.refused
   refused_in_run events moment is =
       let are = run-kept_by_events script AreAnsweredAt opens_answered events_answered events moment is in
       record {
         started = are.started;
-        answered = λ session place started got. are.answered session started (contains_at (progress_at session moment.world).unanswered place started got);
+        answered = λ session place started got. are.answered session started
+            (contains_at (progress_at session moment.world).unanswered place started got);
         unanswered = λ session place started got.
             (session, are.unanswered session started (contains_at (progress_at session moment.world).unanswered place started got));
       }

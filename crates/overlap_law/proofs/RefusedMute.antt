@@ -1,6 +1,7 @@
 -- The attempts of a refused request are mute, no message of them was lost, and nothing of them is in flight: each change of a moment keeps
 -- that, and that a refused request is at no node any more.
-use Rattle.std.proofs.Common.{◌≡◌, ◌⊎◌, inl, inr, ⊎_elim, arith, ℕ, zero, suc, not, ◌||◌, Bool, true, false, List, [], ◌∷◌, Contains, length, Option, Some, None, is_some, slice_get, refl, sym, ap, subst, ◌∙◌}
+use Rattle.std.proofs.Common.{◌≡◌, ◌⊎◌, inl, inr, ⊎_elim, arith, ℕ, zero, suc, not, ◌||◌, Bool, true, false, List, [], ◌∷◌, Contains}
+use Rattle.std.proofs.Common.{length, Option, Some, None, is_some, slice_get, refl, sym, ap, subst, ◌∙◌}
 use Rattle.std.specs.List.{list_any}
 use Rattle.std.specs.FinMap as tree
 use Rattle.std.proofs.lemmas.Bool.{not-true}
@@ -32,7 +33,7 @@ use Rattle.overlap_law.proofs.FreshRequests.{begins_new}
 use Rattle.overlap_law.proofs.KnownFatesLater.{WasMarked}
 use Rattle.overlap_law.proofs.LostMessages.{lost_from}
 use Rattle.overlap_law.proofs.RefusedInMoments.{IsRefusedNow, refused_from}
-use Rattle.overlap_law.proofs.SessionsOfRequests.{IsAskedIn}
+use Rattle.overlap_law.proofs.SessionsOfRequests.{IsAskedIn, by_line, of_asking}
 use Rattle.overlap_law.proofs.StartedAttempts.{IsStarted}
 use Rattle.overlap_law.proofs.TouchedInMoments.{BeginsWith, HadRequests, each_had_requests}
 use Rattle.overlap_law.proofs.TrafficAttempts.{HasBegun, came_from, served_before}
@@ -47,7 +48,8 @@ served_at [] is = absurd (cc (is))
 served_at (fate ∷ fates) is = by_fate fate is (served_at fates)
   where
     by_fate : (fate : MessageFate) → (is_served fate || list_any is_served fates) ≡ true
-        → (list_any is_served fates ≡ true → (place : ℕ) × (slice_get fates place ≡ Some Served)) → (place : ℕ) × (slice_get (fate ∷ fates) place ≡ Some Served)
+        → (list_any is_served fates ≡ true → (place : ℕ) × (slice_get fates place ≡ Some Served))
+        → (place : ℕ) × (slice_get (fate ∷ fates) place ≡ Some Served)
     by_fate Flying is rest = let (place, at) = rest is in (suc place, at)
     by_fate Served is rest = (zero, refl)
     by_fate Doomed is rest = let (place, at) = rest is in (suc place, at)
@@ -73,7 +75,8 @@ never_served attempt mute place at =
     let no = not-true (list_any is_served attempt.fates) mute in
     cc (yes, no)
 
-target_of : {X : Type 0} {Y : Type 0} (xs : List X) (ys : List Y) → length xs ≡ length ys → (place : ℕ) (x : X) → slice_get xs place ≡ Some x
+target_of : {X : Type 0} {Y : Type 0} (xs : List X) (ys : List Y) → length xs ≡ length ys → (place : ℕ) (x : X)
+    → slice_get xs place ≡ Some x
     → (y : Y) × (slice_get ys place ≡ Some y)
 target_of {X = X} {Y = Y} [] ys long place x at = absurd (cc (at))
 target_of {X = X} {Y = Y} (z ∷ xs) [] long place x at = absurd (cc (long))
@@ -86,13 +89,16 @@ target_of {X = X} {Y = Y} (z ∷ xs) (y ∷ ys) long (suc place) x at =
 
 pub record RefusedAreOver (moment : MomentWithPast) : Type 0 where
   pub mute : RefusedRequestsAreMute moment.world.wire moment.past.refused moment.past.attempts
-  pub unlost : EachAttempt moment.past.attempts (λ j attempt. is_object_among attempt.req moment.past.refused ≡ true → (place : ℕ) (target : NodeId)
+  pub unlost : EachAttempt moment.past.attempts (λ j attempt. is_object_among attempt.req moment.past.refused ≡ true
+      → (place : ℕ) (target : NodeId)
       → slice_get attempt.targets place ≡ Some target → Contains moment.past.lost (message_name_at attempt place) → ⊥)
-  pub gone : EachUp moment.world.hosts (λ n node. (req : ℕ) → is_object_among req moment.past.refused ≡ true → tree.contains_key node.requests req ≡ false)
+  pub gone : EachUp moment.world.hosts (λ n node. (req : ℕ) → is_object_among req moment.past.refused ≡ true
+      → tree.contains_key node.requests req ≡ false)
 
 module _ (script : List Statement) (range : RunsAreInRange script) (start before after : MomentWithPast) (began : Began script start.world)
-    (first : HoldsBefore script start) (answered : (req : ℕ) → is_object_among req start.past.refused ≡ true → IsStarted script start.world.guests req)
-    (change : MomentChange script start before after) (tied : IsTied before) (tied_after : IsTied after) (awaited : AreOfOpenWorks after)
+    (first : HoldsBefore script start) (answered : (req : ℕ) → is_object_among req start.past.refused ≡ true
+    → IsStarted script start.world.guests req) (change : MomentChange script start before after) (tied : IsTied before)
+    (tied_after : IsTied after) (awaited : AreOfOpenWorks after)
     (due : TouchOrAreAwaited before) (worked : RequestsHaveWorked before) (scripts : AttemptsAreTheScripts script after.past.attempts)
     (over : RefusedAreOver before) where
   abbrev Refused : ℕ → Type 0
@@ -124,7 +130,9 @@ module _ (script : List Statement) (range : RunsAreInRange script) (start before
 
     new_gone : (r : IsRefusedNow script after req) → (request : requests.Request) → tree.get host.node.requests req ≡ Some request → ⊥
     new_gone r request got =
-        let asked : IsAskedIn script n host.incarnation req request.session = asked_after script start began change n host there req request got in
+        let asked : IsAskedIn script n host.incarnation req request.session
+        = by_line script n host.incarnation req request.session (asked_after script start began change n host there req request got)
+        (of_asking script req r.session r.asked.asking) in
         let session : request.session ≡ r.session = cc (asked.asking, r.asked.asking) in
         let same : asked.of ≡ r.asked.of
         = same_Some asked.of r.asked.of (sym asked.declared ∙ ap (session_numbered script) session ∙ r.asked.declared) in
@@ -138,10 +146,12 @@ module _ (script : List Statement) (range : RunsAreInRange script) (start before
     gone_then : Refused req → tree.contains_key host.node.requests req ≡ false
     gone_then is =
         none_of (tree.get host.node.requests req)
-        (λ request got. ⊎_elim (λ (was : WasRefused req). old_gone was request got) (λ (r : IsRefusedNow script after req). new_gone r request got) (from req is))
+        (λ request got. ⊎_elim (λ (was : WasRefused req). old_gone was request got)
+        (λ (r : IsRefusedNow script after req). new_gone r request got) (from req is))
 
   -- so none of them has a work
-  no_work : (n : ℕ) (host : Host) (there : tree.get after.world.hosts n ≡ Some host) → host.is_lost ≡ false → (req : ℕ) → tree.contains_key host.node.requests req ≡ false
+  no_work : (n : ℕ) (host : Host) (there : tree.get after.world.hosts n ≡ Some host) → host.is_lost ≡ false → (req : ℕ)
+      → tree.contains_key host.node.requests req ≡ false
       → may_work_at (tree.get host.node.requests req) ≡ true → ⊥
   no_work n host there up req none may = by_request (tree.get host.node.requests req) none may
     where
@@ -158,7 +168,8 @@ module _ (script : List Statement) (range : RunsAreInRange script) (start before
         let host = b.begun.sent_by.after in
         let none = gone_then b.n host b.begun.sent_by.there_after b.begun.up attempt.req is in
         no_work b.n host b.begun.sent_by.there_after b.begun.up attempt.req none
-        ((driven_after script range start began change b.n host b.begun.sent_by.there_after).open_works attempt.req b.begun.work b.begun.opened.there)
+        ((driven_after script range start began change b.n host b.begun.sent_by.there_after).open_works attempt.req b.begun.work
+        b.begun.opened.there)
 
     -- a request that is refused now is of the gateway's session
     now_gateway : (r : IsRefusedNow script after attempt.req) → attempt.gateway.0 ≡ r.n
@@ -172,7 +183,8 @@ module _ (script : List Statement) (range : RunsAreInRange script) (start before
     now_quiet : IsRefusedNow script after attempt.req → (place : ℕ) (target : NodeId) → slice_get attempt.targets place ≡ Some target
         → is_name_in_wire after.world.wire (message_name_at attempt place) ≡ true → ⊥
     now_quiet r place target among in_wire =
-        let a = awaited.each r.n r.host r.there r.up j attempt got (now_gateway r) place target (record { among = among; there = in_wire }) in
+        let a = awaited.each r.n r.host r.there r.up j attempt got (now_gateway r) place target
+        (record { among = among; there = in_wire }) in
         no_work r.n r.host r.there r.up attempt.req r.none
         ((driven_after script range start began change r.n r.host r.there).open_works attempt.req a.work a.opened.there)
 
@@ -180,15 +192,19 @@ module _ (script : List Statement) (range : RunsAreInRange script) (start before
       was_own : WasRefused w.was.req
       was_own = ap (λ (a : AttemptRecord). is_object_among a.req before.past.refused) w.same ∙ was
 
-      then_quiet : (place : ℕ) (target : NodeId) → slice_get w.was.targets place ≡ Some target → is_name_in_wire before.world.wire (message_name_at w.was place) ≡ false
+      then_quiet : (place : ℕ) (target : NodeId) → slice_get w.was.targets place ≡ Some target
+          → is_name_in_wire before.world.wire (message_name_at w.was place) ≡ false
       then_quiet place target among = (over.mute.quiet j w.was w.at was_own).none place target among
 
       old_quiet : (place : ℕ) (target : NodeId) → slice_get attempt.targets place ≡ Some target
           → is_name_in_wire after.world.wire (message_name_at attempt place) ≡ true → ⊥
       old_quiet place target among in_wire =
-          let among_then : slice_get w.was.targets place ≡ Some target = ap (λ (a : AttemptRecord). slice_get a.targets place) w.same ∙ among in
-          let some = traffic_fewer before.world.hosts after.world.hosts before.world.wire before.past.attempts tied.incarnations (traffic script range start began change)
-          j w.was w.at place target among_then (ap (λ (a : AttemptRecord). is_name_in_wire after.world.wire (message_name_at a place)) w.same ∙ in_wire) in
+          let among_then : slice_get w.was.targets place ≡ Some target = ap (λ (a : AttemptRecord). slice_get a.targets place) w.same
+          ∙ among in
+          let some = traffic_fewer before.world.hosts after.world.hosts before.world.wire before.past.attempts tied.incarnations
+          (traffic script range start began change)
+          j w.was w.at place target among_then (ap (λ (a : AttemptRecord). is_name_in_wire after.world.wire (message_name_at a place))
+          w.same ∙ in_wire) in
           let none = then_quiet place target among_then in
           cc (some, none)
 
@@ -196,11 +212,13 @@ module _ (script : List Statement) (range : RunsAreInRange script) (start before
       old_mute place served =
           let (f, at, either) = w.fates_so place Served (ap (λ (a : AttemptRecord). slice_get a.fates place) w.same ∙ served) in
           ⊎_elim
-          (λ (known : f ≡ Served). never_served w.was (over.mute.mute j w.was w.at was_own) place (at ∙ ap (λ (f : MessageFate). Some f) known))
+          (λ (known : f ≡ Served). never_served w.was (over.mute.mute j w.was w.at was_own) place
+          (at ∙ ap (λ (f : MessageFate). Some f) known))
           (λ (flies : f ≡ Flying).
           let (target, among) = target_of w.was.fates w.was.targets (tied.fates.whole j w.was w.at) place f at in
           let asking = subst (IsFateIn before.world.wire w.was place target) flies (tied.fates.each j w.was w.at place target f among at) in
-          let some : is_name_in_wire before.world.wire (message_name_at w.was place) ≡ true = ap (λ (o : Option Packet). is_some o) asking.there in
+          let some : is_name_in_wire before.world.wire (message_name_at w.was place)
+          ≡ true = ap (λ (o : Option Packet). is_some o) asking.there in
           let none = then_quiet place target among in
           cc (some, none))
           (served_before w.told f Served either refl)
@@ -209,12 +227,14 @@ module _ (script : List Statement) (range : RunsAreInRange script) (start before
       old_unlost : (place : ℕ) (target : NodeId) → slice_get attempt.targets place ≡ Some target
           → Contains after.past.lost (message_name_at attempt place) → ⊥
       old_unlost place target among lost =
-          let among_then : slice_get w.was.targets place ≡ Some target = ap (λ (a : AttemptRecord). slice_get a.targets place) w.same ∙ among in
+          let among_then : slice_get w.was.targets place ≡ Some target = ap (λ (a : AttemptRecord). slice_get a.targets place) w.same
+          ∙ among in
           let lost_then : Contains after.past.lost (message_name_at w.was place)
           = subst (λ (a : AttemptRecord). Contains after.past.lost (message_name_at a place)) (sym w.same) lost in
           ⊎_elim
           (λ (old : Contains before.past.lost (message_name_at w.was place)). over.unlost j w.was w.at was_own place target among_then old)
-          (λ (new : (is_name_in_wire before.world.wire (message_name_at w.was place) ≡ true) × (is_name_in_wire after.world.wire (message_name_at w.was place) ≡ false)).
+          (λ (new : (is_name_in_wire before.world.wire (message_name_at w.was place) ≡ true)
+          × (is_name_in_wire after.world.wire (message_name_at w.was place) ≡ false)).
           let some = new.0 in
           let none = then_quiet place target among_then in
           cc (some, none))
@@ -224,7 +244,9 @@ module _ (script : List Statement) (range : RunsAreInRange script) (start before
     Came = WasMarked before.past.attempts j attempt ⊎ HasBegun before.world.hosts after.world.hosts attempt
 
     came : Came
-    came = came_from before.world.hosts after.world.hosts before.world.wire before.past.attempts (traffic script range start began change) j attempt got
+    came =
+        came_from before.world.hosts after.world.hosts before.world.wire before.past.attempts (traffic script range start began change) j
+        attempt got
 
     none_in_wire : (place : ℕ) (target : NodeId) → slice_get attempt.targets place ≡ Some target
         → is_name_in_wire after.world.wire (message_name_at attempt place) ≡ true → ⊥
@@ -258,7 +280,8 @@ module _ (script : List Statement) (range : RunsAreInRange script) (start before
         (from attempt.req is)
 
     not_in_wire : (place : ℕ) (target : NodeId) → slice_get attempt.targets place ≡ Some target → (b : Bool)
-        → is_name_in_wire after.world.wire (message_name_at attempt place) ≡ b → is_name_in_wire after.world.wire (message_name_at attempt place) ≡ false
+        → is_name_in_wire after.world.wire (message_name_at attempt place) ≡ b
+        → is_name_in_wire after.world.wire (message_name_at attempt place) ≡ false
     not_in_wire place target among false in_wire = in_wire
     not_in_wire place target among true in_wire = absurd (none_in_wire place target among in_wire)
 

@@ -1,6 +1,7 @@
 -- A node refuses for want of an object only a request of its own epoch to write or read a row, of an object that it isn't to recover, and
 -- only if it has no open row of the key: for what is asked ends inside the rows of the object.
-use Rattle.std.proofs.Common.{◌≡◌, ℕ, ◌+◌, nat_lt, nat_le, Bool, true, false, cond, List, length, Option, Some, None, Result, Ok, Err, refl, sym, ap, subst, ◌∙◌}
+use Rattle.std.proofs.Common.{◌≡◌, ℕ, ◌+◌, nat_lt, nat_le, Bool, true, false, cond, List, length, Option, Some, None, Result, Ok, Err, refl}
+use Rattle.std.proofs.Common.{sym, ap, subst, ◌∙◌}
 use Rattle.std.specs.FinMap as tree
 use Rattle.std.proofs.lemmas.Bool.{le-leb}
 use Rattle.std.proofs.lemmas.Option.{same_Some}
@@ -23,7 +24,8 @@ use Rattle.peer_proto.specs.Work.{oid_of}
 use Rattle.gateway.specs.Work.{ask_for}
 use Rattle.peer_service.specs.State.{Peer, is_waiting}
 use Rattle.peer_service.specs.Fence.{epoch_refusal}
-use Rattle.peer_service.specs.Serve.{EndsInside, MayServe, step_behind_fence, own_epoch_step, step_if_recovered, peer_write_step, peer_say_step, piece_or_refusal, row_or_none, peer_step}
+use Rattle.peer_service.specs.Serve.{EndsInside, MayServe, step_behind_fence, own_epoch_step, step_if_recovered, peer_write_step}
+use Rattle.peer_service.specs.Serve.{peer_say_step, piece_or_refusal, row_or_none, peer_step}
 use Rattle.overlap_law.specs.AskedTargets.{IsTargetOf, AsksTarget}
 use Rattle.object_id.specs.declared.entry.Entry.{Entry}
 use Rattle.object_id.specs.declared.node.NodeId.{NodeId}

@@ -1,5 +1,6 @@
 -- A change of a node refuses a request only as it arrives, before its first work, or while it is untouched, also by what the step is told.
-use Rattle.std.proofs.Common.{◌≡◌, ◌⊎◌, inl, inr, ⊎_elim, ℕ, ◌+◌, nat_le, not, ◌&&◌, Bool, true, false, cond, List, Contains, Option, Some, None, is_some, refl, sym, ap, subst, ◌∙◌}
+use Rattle.std.proofs.Common.{◌≡◌, ◌⊎◌, inl, inr, ⊎_elim, ℕ, ◌+◌, nat_le, not, ◌&&◌, Bool, true, false, cond, List, Contains, Option, Some}
+use Rattle.std.proofs.Common.{None, is_some, refl, sym, ap, subst, ◌∙◌}
 use Rattle.std.specs.Option.{option_map_or}
 use Rattle.std.specs.FinMap as tree
 use Rattle.std.proofs.lemmas.Bool.{and_parts, not-true}
@@ -32,17 +33,23 @@ use Rattle.sheep_node.specs.StepState.{StepState, with_gateway, session_in, repl
 use Rattle.sheep_node.specs.RequestWorks.{course_refused}
 use Rattle.sheep_node.specs.Courses.{inode_open, work_reply}
 use Rattle.sheep_node.specs.Changes as changes
-use Rattle.sheep_node.specs.Changes.{IsTold, IsSoundStep, LearnsStatus, HasRequest, gateway_with_touch, without_ended_work, refusal_after_status, Outcome, ToWork, ToEntry, ToReply, outcome_of_driver, outcome_of_command, outcome_of_check, without_denied_work, zones_of_members, RequestSteps, DiskBegins, DiskGoesOn, CommandBegins, CommandGoesOn, CommandDecided, CheckBegins, CheckGoesOn, ObjectBegins, ObjectIsDone, EntryBegins, EntryDecided, WorkIsNext, AtOnce, InTurn, Again, AgainAlone, Change}
+use Rattle.sheep_node.specs.Changes.{IsTold, IsSoundStep, LearnsStatus, HasRequest, gateway_with_touch, without_ended_work}
+use Rattle.sheep_node.specs.Changes.{refusal_after_status, Outcome, ToWork, ToEntry, ToReply, outcome_of_driver, outcome_of_command}
+use Rattle.sheep_node.specs.Changes.{outcome_of_check, without_denied_work, zones_of_members, RequestSteps, DiskBegins, DiskGoesOn}
+use Rattle.sheep_node.specs.Changes.{CommandBegins, CommandGoesOn, CommandDecided, CheckBegins, CheckGoesOn, ObjectBegins, ObjectIsDone}
+use Rattle.sheep_node.specs.Changes.{EntryBegins, EntryDecided, WorkIsNext, AtOnce, InTurn, Again, AgainAlone, Change}
 use Rattle.sheep_node.proofs.RefusedCourses.{this_refused-keeps}
 use Rattle.sheep_node.proofs.OneWorkChanges.{StepHasOneWork, steps_free, never_alone}
 use Rattle.overlap_law.specs.PastWords.{is_refusal}
-use Rattle.overlap_law.proofs.RefusingNothing.{RefusesNothing, driver_refuses_nothing, command_refuses_nothing, entry_refuses_nothing, check_refuses_nothing, work_refuses_nothing}
+use Rattle.overlap_law.proofs.RefusingNothing.{RefusesNothing, driver_refuses_nothing, command_refuses_nothing, entry_refuses_nothing}
+use Rattle.overlap_law.proofs.RefusingNothing.{check_refuses_nothing, work_refuses_nothing}
 use Rattle.overlap_law.proofs.RequestsInSteps.{replies-in_order}
 use Rattle.overlap_law.proofs.TouchedStay.{Arrives, next_came}
 use Rattle.overlap_law.proofs.WorkedCourses.{HadNoWork, is_past_first, may_have_worked}
 
 -- an input tells one thing of a message
-pub told_once : (input : Input) (one other : ℕ) (status another : Status) → IsTold input one status → IsTold input other another → status ≡ another
+pub told_once : (input : Input) (one other : ℕ) (status another : Status) → IsTold input one status → IsTold input other another
+    → status ≡ another
 told_once (inputs.Guest req session ask) one other status another told too = absurd told
 told_once (inputs.Request request) one other status another told too = absurd told
 told_once (inputs.Reply rsp) one other status another told too = sym told.1 ∙ too.1
@@ -65,7 +72,8 @@ module _ (input : Input) (node : Node) (sound : IsSoundStep input node) (so_far 
   pub record IsUntouched (q : ℕ) : Type 0 where
     pub asked : tree.contains_key so_far.node.requests q ≡ true
     pub before : is_touched q so_far.node.gateway ≡ false
-    pub told : (work : Work) → tree.get so_far.node.gateway.works q ≡ Some work → is_making work.work ≡ true → (number : ℕ) (status : Status)
+    pub told : (work : Work) → tree.get so_far.node.gateway.works q ≡ Some work → is_making work.work ≡ true
+        → (number : ℕ) (status : Status)
         → IsTold input number status → may_be_made status ≡ true → ⊥
 
   -- why it may be refused
@@ -81,26 +89,32 @@ module _ (input : Input) (node : Node) (sound : IsSoundStep input node) (so_far 
       by_touch false is = is
       by_touch true is = let yes = stays is in absurd (cc (yes, none))
 
-  learned_untouched : (q number : ℕ) (work : Work) (attempt : gateways.Attempt) (status : Status) → LearnsStatus input node so_far q number work attempt status
-      → is_touched q (gateway_with_touch q work status so_far) ≡ false → (w : Work) → tree.get so_far.node.gateway.works q ≡ Some w → is_making w.work ≡ true
+  learned_untouched : (q number : ℕ) (work : Work) (attempt : gateways.Attempt) (status : Status)
+      → LearnsStatus input node so_far q number work attempt status
+      → is_touched q (gateway_with_touch q work status so_far) ≡ false → (w : Work) → tree.get so_far.node.gateway.works q ≡ Some w
+      → is_making w.work ≡ true
       → (k : ℕ) (told : Status) → IsTold input k told → may_be_made told ≡ true → ⊥
   learned_untouched q number work attempt status learns none w there making k told so made =
       let same : work ≡ w = same_Some work w (sym learns.there ∙ there) in
       let status_so : told ≡ status = told_once input k number told status so learns.told in
-      let yes = touched-made q work.work status so_far.node.gateway (ap (λ (v : Work). is_making v.work) same ∙ making) (ap may_be_made (sym status_so) ∙ made) in
+      let yes = touched-made q work.work status so_far.node.gateway (ap (λ (v : Work). is_making v.work) same ∙ making)
+      (ap may_be_made (sym status_so) ∙ made) in
       cc (yes, none)
 
-  ended_untouched : (q number : ℕ) (work : Work) (attempt : gateways.Attempt) (status : Status) → LearnsStatus input node so_far q number work attempt status
+  ended_untouched : (q number : ℕ) (work : Work) (attempt : gateways.Attempt) (status : Status)
+      → LearnsStatus input node so_far q number work attempt status
       → tree.contains_key so_far.node.requests q ≡ true → is_touched q (gateway_with_touch q work status so_far) ≡ false → IsUntouched q
   ended_untouched q number work attempt status learns asked none = record {
     asked = asked;
-    before = untouched_before q (with_gateway (gateway_with_touch q work status so_far) so_far) (touched-stays q q work.work status so_far.node.gateway) none;
+    before = untouched_before q (with_gateway (gateway_with_touch q work status so_far) so_far)
+        (touched-stays q q work.work status so_far.node.gateway) none;
     told = learned_untouched q number work attempt status learns none;
   }
 
   -- a request without a work isn't told of
   idle_untouched : (q : ℕ) (next : StepState) → (is_touched q so_far.node.gateway ≡ true → is_touched q next.node.gateway ≡ true)
-      → tree.contains_key so_far.node.requests q ≡ true → tree.get so_far.node.gateway.works q ≡ None → is_touched q next.node.gateway ≡ false → IsUntouched q
+      → tree.contains_key so_far.node.requests q ≡ true → tree.get so_far.node.gateway.works q ≡ None
+      → is_touched q next.node.gateway ≡ false → IsUntouched q
   idle_untouched q next stays asked idle none = record {
     asked = asked;
     before = untouched_before q next stays none;
@@ -108,43 +122,55 @@ module _ (input : Input) (node : Node) (sound : IsSoundStep input node) (so_far 
   }
 
   stepped_untouched : (session q : ℕ) (next : Outcome) (moved : StepState) → (steps : RequestSteps input node so_far session q next moved)
-      → tree.contains_key so_far.node.requests q ≡ true → tree.get moved.node.gateway.works q ≡ None → is_touched q moved.node.gateway ≡ false → IsUntouched q
-  stepped_untouched session q next moved (DiskBegins ask disk there on may) asked idle none = idle_untouched q moved (λ still. still) asked idle none
+      → tree.contains_key so_far.node.requests q ≡ true → tree.get moved.node.gateway.works q ≡ None
+      → is_touched q moved.node.gateway ≡ false → IsUntouched q
+  stepped_untouched session q next moved (DiskBegins ask disk there on may) asked idle none =
+      idle_untouched q moved (λ still. still) asked idle none
   stepped_untouched session q next moved (DiskGoesOn number work attempt status bytes driver disk step ends on is) asked idle none =
       ended_untouched q number work attempt status ends.ends.learns asked none
-  stepped_untouched session q next moved (CommandBegins ask step arrival is) asked idle none = idle_untouched q moved (λ still. still) asked idle none
+  stepped_untouched session q next moved (CommandBegins ask step arrival is) asked idle none =
+      idle_untouched q moved (λ still. still) asked idle none
   stepped_untouched session q next moved (CommandGoesOn number work attempt status bytes op step ends is) asked idle none =
       ended_untouched q number work attempt status ends.ends.learns asked none
-  stepped_untouched session q next moved (CommandDecided entry op step from read there waits is) asked idle none = idle_untouched q moved (λ still. still) asked idle none
-  stepped_untouched session q next moved (CheckBegins inode arrival on) asked idle none = idle_untouched q moved (λ still. still) asked idle none
+  stepped_untouched session q next moved (CommandDecided entry op step from read there waits is) asked idle none =
+      idle_untouched q moved (λ still. still) asked idle none
+  stepped_untouched session q next moved (CheckBegins inode arrival on) asked idle none =
+      idle_untouched q moved (λ still. still) asked idle none
   stepped_untouched session q next moved (CheckGoesOn number work attempt status bytes check step ends is) asked idle none =
       ended_untouched q number work attempt status ends.ends.learns asked none
-  stepped_untouched session q next moved (ObjectBegins does arrival) asked idle none = idle_untouched q moved (λ still. still) asked idle none
+  stepped_untouched session q next moved (ObjectBegins does arrival) asked idle none =
+      idle_untouched q moved (λ still. still) asked idle none
   stepped_untouched session q next moved (ObjectIsDone number work attempt status bytes does ends) asked idle none =
       ended_untouched q number work attempt status ends.ends.learns asked none
-  stepped_untouched session q next moved (EntryBegins entry arrival) asked idle none = idle_untouched q moved (λ still. still) asked idle none
-  stepped_untouched session q next moved (EntryDecided entry wanted from read there waits) asked idle none = idle_untouched q moved (λ still. still) asked idle none
+  stepped_untouched session q next moved (EntryBegins entry arrival) asked idle none =
+      idle_untouched q moved (λ still. still) asked idle none
+  stepped_untouched session q next moved (EntryDecided entry wanted from read there waits) asked idle none =
+      idle_untouched q moved (λ still. still) asked idle none
 
   next_untouched : (session q : ℕ) (tried : Work) (lined : StepState) → WorkIsNext input node so_far session q tried lined
       → tree.contains_key so_far.node.requests q ≡ true → is_touched q lined.node.gateway ≡ false → IsUntouched q
   next_untouched session q tried lined (AtOnce work moved steps begins) asked none =
-      stepped_untouched session q (ToWork work) moved steps asked (steps_free so_far session q (ToWork work) moved steps sound good).free.idle none
+      stepped_untouched session q (ToWork work) moved steps asked (steps_free so_far session q (ToWork work) moved steps sound
+      good).free.idle none
   next_untouched session q tried lined (InTurn work later waits is) asked none =
       let first : lines.Waiting = record { req = q; work = work } in
       idle_untouched q lined (λ still. still) asked
-      (good.waiting_free session first (subst (λ (list : List lines.Waiting). Contains list first) (sym is) (Contains-first first first later refl))) none
+      (good.waiting_free session first (subst (λ (list : List lines.Waiting). Contains list first) (sym is)
+      (Contains-first first first later refl))) none
   next_untouched session q tried lined (Again work course from next there request) asked none = record {
     asked = asked;
     before = none;
     told = λ w at making number status told made. subst (λ (i : Input). IsTold i number status) from told;
   }
-  next_untouched session q tried lined (AgainAlone work from next there alone) asked none = absurd (never_alone q tried so_far there alone good)
+  next_untouched session q tried lined (AgainAlone work from next there alone) asked none =
+      absurd (never_alone q tried so_far there alone good)
 
   -- ---- what is refused
 
   -- a reply that refuses was given before, or its request may be refused
   abbrev pub RefusesMay : Replies → Type 0
-  RefusesMay all = (reply : ℕ × GuestRsp) → Contains all reply → is_refusal reply.1 ≡ true → Contains so_far.outputs.replies reply ⊎ MayBeRefused reply.0
+  RefusesMay all =
+      (reply : ℕ × GuestRsp) → Contains all reply → is_refusal reply.1 ≡ true → Contains so_far.outputs.replies reply ⊎ MayBeRefused reply.0
 
   same_refuses : (all : Replies) → all ≡ so_far.outputs.replies → RefusesMay all
   same_refuses all same reply there refuses = inl (subst (λ (r : Replies). Contains r reply) same there)
@@ -163,7 +189,8 @@ module _ (input : Input) (node : Node) (sound : IsSoundStep input node) (so_far 
   unfolding request_ended
   ended_refuses req may session given now before = one_refuses req given now.outputs.replies (λ refuses. may) before
 
-  end_refuses : (session req : ℕ) (given : GuestRsp) (now : StepState) → (is_refusal given ≡ true → MayBeRefused req) → RefusesMay now.outputs.replies
+  end_refuses : (session req : ℕ) (given : GuestRsp) (now : StepState) → (is_refusal given ≡ true → MayBeRefused req)
+      → RefusesMay now.outputs.replies
       → RefusesMay (request_ended session req given now).outputs.replies
   unfolding request_ended
   end_refuses session req given now may before = one_refuses req given now.outputs.replies may before
@@ -193,29 +220,35 @@ module _ (input : Input) (node : Node) (sound : IsSoundStep input node) (so_far 
   refuses_never : (next : Outcome) (reply : GuestRsp) → next ≡ ToReply reply → is_refusal reply ≡ true → RefusesNothing next → ⊥
   refuses_never next reply is refuses none = let never : is_refusal reply ≡ false = subst RefusesNothing is none in cc (never, refuses)
 
-  arrives_so : (session req : ℕ) (ask : Ask) (refusal : Option Cause) → changes.Arrival input node so_far session req ask refusal → MayBeRefused req
+  arrives_so : (session req : ℕ) (ask : Ask) (refusal : Option Cause) → changes.Arrival input node so_far session req ask refusal
+      → MayBeRefused req
   arrives_so session req ask refusal arrival = inl (record { session = session; ask = ask; from = arrival.from; first = arrival.first })
 
   had_none : (session req : ℕ) (course : Course) → HasRequest session req course so_far → may_have_worked course ≡ false → MayBeRefused req
   had_none session req course there unworked =
       inr (inl (record { request = record { session = session; course = course }; there = there; unworked = unworked }))
 
-  steps_refuse : (session req : ℕ) (next : Outcome) (moved : StepState) → RequestSteps input node so_far session req next moved → (reply : GuestRsp) → next ≡ ToReply reply
+  steps_refuse : (session req : ℕ) (next : Outcome) (moved : StepState) → RequestSteps input node so_far session req next moved
+      → (reply : GuestRsp) → next ≡ ToReply reply
       → is_refusal reply ≡ true → MayBeRefused req
   steps_refuse session req next moved (DiskBegins ask disk there on may) reply is refuses = had_none session req (Waiting ask) there refl
   steps_refuse session req next moved (DiskGoesOn number work attempt status bytes driver disk step ends on done) reply is refuses =
       absurd (refuses_never (outcome_of_driver step.act) reply is refuses (driver_refuses_nothing disk.inode bytes driver step done))
-  steps_refuse session req next moved (CommandBegins ask step arrival begins) reply is refuses = arrives_so session req (asks.Vdi ask) None arrival
+  steps_refuse session req next moved (CommandBegins ask step arrival begins) reply is refuses =
+      arrives_so session req (asks.Vdi ask) None arrival
   steps_refuse session req next moved (CommandGoesOn number work attempt status bytes op step ends done) reply is refuses =
       absurd (refuses_never (outcome_of_command step.act) reply is refuses (command_refuses_nothing bytes op step done))
   steps_refuse session req next moved (CommandDecided entry op step from read there waits decided) reply is refuses = ⊎_elim
       (λ (first : is_past_first op.stage ≡ false). had_none session req (Commanding op) there first)
       (λ (none : RefusesNothing (outcome_of_command step.act)). absurd (refuses_never (outcome_of_command step.act) reply is refuses none))
-      (entry_refuses_nothing (effects_of so_far.node.peer) (inode_open (session_in session so_far).disk) (decision_on entry node.peer) op step decided)
-  steps_refuse session req next moved (CheckBegins inode arrival on) reply is refuses = arrives_so session req (asks.Vdi disk_commands.Check) None arrival
+      (entry_refuses_nothing (effects_of so_far.node.peer) (inode_open (session_in session so_far).disk) (decision_on entry node.peer) op
+      step decided)
+  steps_refuse session req next moved (CheckBegins inode arrival on) reply is refuses =
+      arrives_so session req (asks.Vdi disk_commands.Check) None arrival
   steps_refuse session req next moved (CheckGoesOn number work attempt status bytes check step ends done) reply is refuses =
       absurd (refuses_never (outcome_of_check step.act) reply is refuses (check_refuses_nothing step.act))
-  steps_refuse session req next moved (ObjectBegins asked arrival) reply is refuses = arrives_so session req (asks.Object asked) None arrival
+  steps_refuse session req next moved (ObjectBegins asked arrival) reply is refuses =
+      arrives_so session req (asks.Object asked) None arrival
   steps_refuse session req next moved (ObjectIsDone number work attempt status bytes asked ends) reply is refuses =
       absurd (refuses_never (ToReply (work_reply asked bytes)) reply is refuses (work_refuses_nothing asked bytes))
   steps_refuse session req next moved (EntryBegins entry arrival) reply is refuses = arrives_so session req (asks.Entry entry) None arrival
@@ -225,11 +258,13 @@ module _ (input : Input) (node : Node) (sound : IsSoundStep input node) (so_far 
   -- ---- every change
 
   refused_why : (req number : ℕ) (work : Work) (attempt : gateways.Attempt) (status : Status) (cause : Cause)
-      → refusal_after_status req number work attempt status so_far ≡ Some cause → is_touched req (gateway_with_touch req work status so_far) ≡ false
+      → refusal_after_status req number work attempt status so_far ≡ Some cause
+      → is_touched req (gateway_with_touch req work status so_far) ≡ false
   refused_why req number work attempt status cause why =
       let gateway = gateway_with_touch req work status so_far in
       let marked = attempt_with_status number status attempt in
-      let both = if_some (nat_le gateway.tries (work.ended + 1) && not (is_touched req gateway)) (first_failure work.work marked.epoch marked.messages) cause why in
+      let both = if_some (nat_le gateway.tries (work.ended + 1) && not (is_touched req gateway))
+      (first_failure work.work marked.epoch marked.messages) cause why in
       not-true (is_touched req gateway) (and_parts (nat_le gateway.tries (work.ended + 1)) (not (is_touched req gateway)) both).1
 
   pub change_refuses : (next : StepState) → Change input node so_far next → RefusesMay next.outputs.replies
@@ -240,8 +275,8 @@ module _ (input : Input) (node : Node) (sound : IsSoundStep input node) (so_far 
       let may : MayBeRefused req
       = inr (inr (ended_untouched req number work attempt status ends.learns (ap (λ (o : Option Request). is_some o) ends.request)
       (refused_why req number work attempt status cause why))) in
-      this_refused-keeps req (λ (now : StepState). RefusesMay now.outputs.replies) (ended_refuses req may) (λ entry before now. now) session cause course
-      (without_ended_work session req work status so_far) (same_refuses so_far.outputs.replies refl)
+      this_refused-keeps req (λ (now : StepState). RefusesMay now.outputs.replies) (ended_refuses req may) (λ entry before now. now) session
+      cause course (without_ended_work session req work status so_far) (same_refuses so_far.outputs.replies refl)
   change_refuses next (changes.Opens session req asked lined comes enough) =
       same_refuses lined.outputs.replies (next_silent session req asked lined comes)
   change_refuses next (changes.Holds session req asked lined comes short touched) =
@@ -259,16 +294,16 @@ module _ (input : Input) (node : Node) (sound : IsSoundStep input node) (so_far 
 
       may : (r : Request) → tree.get lined.node.requests req ≡ Some r → MayBeRefused req
       may r there = ⊎_elim
-          (λ (was : tree.contains_key so_far.node.requests req ≡ true). inr (inr (next_untouched session req tried lined comes was untouched)))
-          (λ (arrives : Arrives req input node so_far). inl arrives)
+          (λ (was : tree.contains_key so_far.node.requests req ≡ true). inr
+          (inr (next_untouched session req tried lined comes was untouched))) (λ (arrives : Arrives req input node so_far). inl arrives)
           (next_came req input node so_far session req tried lined comes (ap (λ (o : Option Request). is_some o) there))
 
       by_request : (request : Option Request) → tree.get lined.node.requests req ≡ request
           → RefusesMay (option_map_or (λ (r : Request). course_refused r.session req cause r.course denied) request denied).outputs.replies
       by_request None none = silent
       by_request (Some r) there =
-          this_refused-keeps req (λ (now : StepState). RefusesMay now.outputs.replies) (ended_refuses req (may r there)) (λ entry before now. now) r.session cause r.course denied
-          silent
+          this_refused-keeps req (λ (now : StepState). RefusesMay now.outputs.replies) (ended_refuses req (may r there))
+          (λ entry before now. now) r.session cause r.course denied silent
   change_refuses next (changes.Strays req work gateway there none apart) = same_refuses next.outputs.replies refl
   change_refuses next (changes.Lines session req work moved steps waits) =
       same_refuses moved.outputs.replies (steps_silent session req (ToWork work) moved steps)

@@ -2,7 +2,6 @@
 use Rattle.std.proofs.Common.{◌≡◌, ℕ, Bool, List, Some, sym, subst}
 use Rattle.cluster_script.specs.declared.statement.Statement.{Statement}
 use Rattle.vdi_directory.specs.Decisions.{log_effects}
-use Rattle.sheep_node.specs.declared.event.Event.{Event}
 use Rattle.overlap_law.specs.Headline.{ledger_of}
 use Rattle.overlap_law.specs.KeptHistory.{RepliesAreAlone}
 use Rattle.overlap_law.specs.MomentChanges.{MomentTrail, RunsAreInRange}
@@ -12,6 +11,7 @@ use Rattle.overlap_law.specs.StayingBlocks.{IsAloneWhereWritten}
 use Rattle.overlap_law.specs.StepMoments.{moment_in_step}
 use Rattle.overlap_law.specs.ToCome.{TablesStayTheInodes}
 use Rattle.overlap_law.proofs.RepliedSteps.{reply_alone}
+use Rattle.sheep_world.specs.RunsWithAsks.{Move}
 
 -- a request is alone behind a change where it was written
 abbrev pub IsAloneBehind : (ℕ → Bool) → ℕ → MomentWithPast → MomentWithPast → Type 0
@@ -24,7 +24,7 @@ TablesStay good_id moment =
     TablesStayTheInodes (log_effects moment.world.log) good_id moment.world.hosts moment.past.attempts
 
 module _ (script : List Statement) (range : RunsAreInRange script) where
-  pub replies-by_tables : (events : List Event) (start before after : MomentWithPast) → run_with_past script events ≡ Some start
+  pub replies-by_tables : (events : List Move) (start before after : MomentWithPast) → run_with_past script events ≡ Some start
       → MomentTrail script start before → (good_id : ℕ → Bool) → TablesStay good_id before
       → RepliesToChecksAreAlone script good_id start before after → RepliesAreAlone script good_id start before after
   replies-by_tables events start before after ran trail good_id tables owed =

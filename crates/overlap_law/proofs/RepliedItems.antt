@@ -1,6 +1,7 @@
--- Where the pieces of a write are alone, so is each block in which the write has an item, also behind a change by which nothing more may come
--- to be read; and where a request has no items nothing is asked.
-use Rattle.std.proofs.Common.{◌≡◌, ℕ, ◌+◌, ◌*◌, ◌%◌, ◌<◌, ◌≤◌, Bool, true, false, List, length, Contains, Option, Some, slice_get, refl, sym}
+-- Where the pieces of a write are alone, so is each block in which the write has an item, also behind a change by which nothing more may
+-- come to be read; and where a request has no items nothing is asked.
+use Rattle.std.proofs.Common.{◌≡◌, ℕ, ◌+◌, ◌*◌, ◌%◌, ◌<◌, ◌≤◌, Bool, true, false, List, length, Contains, Option, Some, slice_get, refl}
+use Rattle.std.proofs.Common.{sym}
 use Rattle.std.proofs.Common.{ap, subst, ◌∙◌}
 use Rattle.std.specs.Str.{bytes_eq}
 use Rattle.std.proofs.lemmas.Option.{same_Some}
@@ -68,7 +69,8 @@ module _ (effects : List Effect) (good_id : ℕ → Bool) (hosts later : Hosts) 
     of : IsItemOfPiece disk.inode.spec.shift offset payload index unit item
     of =
         subst (λ (s : VdiSpec). IsItemOfPiece s.shift offset payload index unit item) spec_so
-        (item_of_piece spec.shift offset index unit disk.inode.vid vid payload item (subst (λ (s : VdiSpec). 9 ≤ s.shift) (sym spec_so) long)
+        (item_of_piece spec.shift offset index unit disk.inode.vid vid payload item
+        (subst (λ (s : VdiSpec). 9 ≤ s.shift) (sym spec_so) long)
         whole block.inside own_item)
 
     entry_so : (j : ℕ) (entry : AttemptRecord) → IsEntryToCome later after vid index j entry → entry_by index entry ≡ vid

@@ -1,5 +1,5 @@
--- A reply that a change of a node gives, and that doesn't refuse its request, ends the request by a step that it takes; and no attempt begins
--- in the change.
+-- A reply that a change of a node gives, and that doesn't refuse its request, ends the request by a step that it takes; and no attempt
+-- begins in the change.
 use Rattle.std.proofs.Common.{◌≡◌, ◌≢◌, ⊎_elim, ℕ, true, false, List, [], Contains, Option, Some, None, refl, sym, ap, subst}
 use Rattle.std.specs.Option.{option_map_or}
 use Rattle.object_id.specs.declared.cause.Cause.{Cause}

@@ -1,20 +1,15 @@
 -- A reply to a write that doesn't refuse it comes with the write's last work, or at once where it has no pieces. So each block in which a
 -- request has an item is alone behind the reply to it, of each request but a check.
-use Rattle.std.proofs.Common.{◌≡◌, ◌≢◌, inl, inr, ⊎_elim, ℕ, Bool, true, false, List, [], ◌∷◌, ◌++◌, length, Contains, Option, Some, None, refl}
+use Rattle.std.proofs.Common.{◌≡◌, ◌≢◌, inl, inr, ⊎_elim, ℕ, Bool, true, false, List, [], ◌∷◌, ◌++◌, length, Contains, Option, Some, None}
+use Rattle.std.proofs.Common.{refl}
 use Rattle.std.proofs.Common.{sym, ap, subst, ◌∙◌}
-use Rattle.std.specs.Prelude.{flat_map}
 use Rattle.std.specs.List.{list_any}
-use Rattle.std.specs.Option.{option_map_or, option_and_then}
 use Rattle.std.specs.FinMap as tree
-use Rattle.std.proofs.lemmas.Bool.{or_cases}
-use Rattle.std.proofs.lemmas.List.Folds.{list_any-append}
 use Rattle.std.proofs.lemmas.Option.{same_Some}
 use Rattle.proof_tools.proofs.Lists.{Contains-nil}
 use Rattle.object_id.specs.declared.cause.Cause.{Cause}
 use Rattle.cluster_script.specs.declared.statement.Statement.{Statement}
-use Rattle.cluster_script.specs.declared.statement.Statement.TheVariants as lines
 use Rattle.cluster_script.specs.NumberedRequests.{request_at}
-use Rattle.disk_history.specs.declared.event.HistEvent.{HistEvent}
 use Rattle.vdi_directory.specs.Decisions.{log_effects}
 use Rattle.peer_proto.specs.declared.guest.DiskAsk.{DiskAsk}
 use Rattle.peer_proto.specs.declared.guest.DiskAsk.TheVariants as disk_asks
@@ -34,24 +29,18 @@ use Rattle.sheep_node.specs.declared.ask.Ask.{Ask}
 use Rattle.sheep_node.specs.declared.ask.Ask.TheVariants as asks
 use Rattle.sheep_node.specs.declared.course.Course.{Course}
 use Rattle.sheep_node.specs.declared.course.Course.TheVariants.{Waiting, Driving, Commanding, Checking, DoingWork, AwaitingDecision}
-use Rattle.sheep_node.specs.declared.course.Request.{Request}
-use Rattle.sheep_node.specs.declared.event.Event.{Event}
 use Rattle.sheep_node.specs.declared.input.Input.TheVariants as inputs
 use Rattle.sheep_node.specs.declared.session.Session.{Session}
-use Rattle.sheep_node.specs.Changes.{EndsWork, Outcome, ToReply, ToWork, outcome_of_driver, RequestSteps, DiskBegins, DiskGoesOn, CommandBegins}
+use Rattle.sheep_node.specs.Changes.{EndsWork, Outcome, ToReply, outcome_of_driver, RequestSteps, DiskBegins, DiskGoesOn, CommandBegins}
 use Rattle.sheep_node.specs.Changes.{CommandGoesOn, CommandDecided, CheckBegins, CheckGoesOn, ObjectBegins, ObjectIsDone, EntryBegins}
 use Rattle.sheep_node.specs.Changes.{EntryDecided}
 use Rattle.sheep_node.specs.SessionQueues.{session_among}
 use Rattle.sheep_node.specs.StepState.{StepState}
 use Rattle.sheep_node.proofs.QueueChanges.{same_view}
-use Rattle.sheep_world.specs.Asking.{ask_of_statement}
-use Rattle.sheep_world.specs.Effects.{open_disk_at}
-use Rattle.sheep_world.specs.HistoryAdditions.{is_write}
-use Rattle.sheep_world.specs.NodeCauses.{NodeCause, GuestAsks, RequestComes, ReplyComes, LossIsTold, EntryIsRead, EntryIsPut, RecoveryTicks}
-use Rattle.sheep_world.specs.NodeCauses.{WorkIsRetried, input_of_cause}
+use Rattle.sheep_world.specs.NodeCauses.{input_of_cause}
 use Rattle.sheep_world.specs.World.{Host}
+use Rattle.sheep_world.specs.RunsWithAsks.{Move}
 use Rattle.overlap_law.specs.Headline.{ledger_of}
-use Rattle.overlap_law.specs.HistoryGrowth.{added_at_cause, added_by_reply, check_write_at, world_at_cause}
 use Rattle.overlap_law.specs.MomentChanges.{MomentTrail, RunsAreInRange}
 use Rattle.overlap_law.specs.Past.{MomentWithPast, run_with_past}
 use Rattle.overlap_law.specs.PastWords.{is_refusal}
@@ -65,16 +54,12 @@ use Rattle.overlap_law.proofs.AloneStepsOnDisks.{writer_here}
 use Rattle.overlap_law.proofs.CoursesOfScript.{asked_by}
 use Rattle.overlap_law.proofs.DisksOfWriters.{IsWriterAt}
 use Rattle.overlap_law.proofs.DoneWrites.{none_left}
-use Rattle.overlap_law.proofs.HistoryInMoments.{history_so}
-use Rattle.overlap_law.proofs.ItemsAtBegin.{check_begins, request_begins}
-use Rattle.overlap_law.proofs.ItemsOfReplies as replied
-use Rattle.overlap_law.proofs.ItemsOfReplies.{is_check_at, is_write_at}
+use Rattle.overlap_law.proofs.ItemsOfReplies.{is_check_at}
 use Rattle.overlap_law.proofs.ItemsOfRequests.{begins_write_of, none_behind, none_by_history}
-use Rattle.overlap_law.proofs.NoRecoveredDue.{began-with_past}
 use Rattle.overlap_law.proofs.RepliedItems.{none_alone}
 use Rattle.overlap_law.proofs.RepliedNow.{IsRepliedBy, replied_by}
 use Rattle.overlap_law.proofs.RepliedWrites.{pieces_alone, replied_so}
-use Rattle.overlap_law.proofs.UnderWayInRuns.{writer_in_run}
+use Rattle.overlap_law.proofs.CoursesOfAsks.{asked_none}
 
 -- ---- where a write is replied to
 
@@ -124,7 +109,7 @@ by_act : (act : DriverAct) (rsp : GuestRsp) → outcome_of_driver act ≡ ToRepl
 by_act (acts.Work work) rsp is = absurd (cc (is))
 by_act (acts.Reply other) rsp is = let same : other ≡ rsp = cc (is) in ap (λ (r : GuestRsp). acts.Reply r) same
 
-module _ (script : List Statement) (range : RunsAreInRange script) (events : List Event) (start : MomentWithPast)
+module _ (script : List Statement) (range : RunsAreInRange script) (events : List Move) (start : MomentWithPast)
     (ran : run_with_past script events ≡ Some start) (on : SteppingNode) (is : IsStepping script start.world on)
     (by : StepsByChanges on.cause) (so_far next : StepState) (within : IsWithinStep on so_far next)
     (trail : MomentTrail script start (moment_in_step script on start so_far)) (good_id : ℕ → Bool)
@@ -150,9 +135,11 @@ module _ (script : List Statement) (range : RunsAreInRange script) (events : Lis
         → (disk : Option ℕ) × IsCourseOfAsk (asked_by script req) (session_among session so_far.node.sessions).disk disk course
     placed session course got =
         course_in_step script range events start ran on is by so_far within.leads req (record { session = session; course = course }) got
+        (asked_none (asked_by script req) (asks.Disk (disk_asks.Write offset payload)) course writes)
 
     brought : (session : ℕ) (ask : Ask) → input_of_cause on.cause ≡ inputs.Guest req session ask → asked_by script req ≡ Some ask
-    brought session ask from = asked_in_step script range events start ran on is by so_far within.leads req session ask from
+    brought session ask from =
+        asked_in_step script range events start ran on is by so_far within.leads req session ask from (λ none. cc (none, writes))
 
     begun : (session : ℕ) (ask : DiskAsk) (disk : Disk)
         → tree.get so_far.node.requests req ≡ Some (record { session = session; course = Waiting ask })
@@ -161,7 +148,8 @@ module _ (script : List Statement) (range : RunsAreInRange script) (events : Lis
         let asked = (placed session (Waiting ask) got).1.0 in
         let same : ask ≡ disk_asks.Write offset payload = cc (asked, writes) in
         let no_pieces : pieces disk.inode.spec.shift offset (length payload) ≡ []
-        = begin_replies disk offset payload rsp (subst (λ (a : DiskAsk). (begin_driver disk a).act ≡ acts.Reply rsp) same replies) accepts in
+        = begin_replies disk offset payload rsp (subst (λ (a : DiskAsk). (begin_driver disk a).act ≡ acts.Reply rsp) same replies)
+        accepts in
         let no_piece : (one : Piece) → Contains (pieces disk.inode.spec.shift offset (length payload)) one → ⊥
         = λ one among. Contains-nil one (subst (λ (all : List Piece). Contains all one) no_pieces among) in
         replied_so script range events start ran on is by so_far next within trail good_id none req offset payload writes

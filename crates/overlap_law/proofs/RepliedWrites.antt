@@ -1,6 +1,7 @@
--- As a write's last work is done, to which its node replies: each of its pieces is alone, and of the entry of each nothing is to come but the
--- disk's own id; and so is each block in which the write has an item, also behind the reply.
-use Rattle.std.proofs.Common.{◌≡◌, inl, ⊎_elim, ℕ, ◌<◌, ◌≤◌, ◌%◌, Bool, true, false, List, [], ◌∷◌, ◌++◌, append-nil, length, Contains, Option}
+-- As a write's last work is done, to which its node replies: each of its pieces is alone, and of the entry of each nothing is to come but
+-- the disk's own id; and so is each block in which the write has an item, also behind the reply.
+use Rattle.std.proofs.Common.{◌≡◌, inl, ⊎_elim, ℕ, ◌<◌, ◌≤◌, ◌%◌, Bool, true, false, List, [], ◌∷◌, ◌++◌, append-nil, length, Contains}
+use Rattle.std.proofs.Common.{Option}
 use Rattle.std.proofs.Common.{Some, IfSome, slice_get, refl, sym, ap, subst, ◌∙◌, arith}
 use Rattle.std.specs.FinMap as tree
 use Rattle.std.proofs.lemmas.List.Elements.{Contains-push_cases}
@@ -27,7 +28,6 @@ use Rattle.guest_driver.specs.Pieces.{Piece, pieces}
 use Rattle.sheep_node.specs.declared.ask.Ask.TheVariants as asks
 use Rattle.sheep_node.specs.declared.course.Course.TheVariants.{Driving}
 use Rattle.sheep_node.specs.declared.course.Request.{Request}
-use Rattle.sheep_node.specs.declared.event.Event.{Event}
 use Rattle.sheep_node.specs.Changes.{EndsWork}
 use Rattle.sheep_node.specs.Courses.{inode_open}
 use Rattle.sheep_node.specs.SessionQueues.{session_among}
@@ -37,6 +37,7 @@ use Rattle.sheep_node.specs.WantedWorks.{IsWantedAt, IsWorkWanted, IsWorkOfWrite
 use Rattle.sheep_world.specs.Began.{Began}
 use Rattle.sheep_world.specs.NodeCauses.{input_of_cause, host_with_node}
 use Rattle.sheep_world.specs.World.{Host}
+use Rattle.sheep_world.specs.RunsWithAsks.{Move}
 use Rattle.overlap_law.specs.AloneEntries.{IsOwnByTable}
 use Rattle.overlap_law.specs.Attempts.{AttemptRecord}
 use Rattle.overlap_law.specs.Each.{spec_in}
@@ -79,7 +80,7 @@ use Rattle.overlap_law.proofs.TiedInRuns.{kept_tied}
 use Rattle.overlap_law.proofs.ToComeStays.{to_come_before}
 use Rattle.overlap_law.proofs.WorksInMoments.{well_along}
 
-module _ (script : List Statement) (range : RunsAreInRange script) (events : List Event) (start : MomentWithPast)
+module _ (script : List Statement) (range : RunsAreInRange script) (events : List Move) (start : MomentWithPast)
     (ran : run_with_past script events ≡ Some start) (on : SteppingNode) (is : IsStepping script start.world on)
     (by : StepsByChanges on.cause) (so_far next : StepState) (within : IsWithinStep on so_far next)
     (trail : MomentTrail script start (moment_in_step script on start so_far)) (good_id : ℕ → Bool) where
@@ -162,8 +163,8 @@ module _ (script : List Statement) (range : RunsAreInRange script) (events : Lis
       last_entry : EndsAt stage rest → (index j : ℕ) (entry : AttemptRecord) → piece.index ≡ index → index < objects_of disk.inode.spec
           → Comes index j entry → entry_by index entry ≡ disk.inode.vid
       last_entry (InItsPlace in_place none) index j entry at inside comes =
-          write_alone script range events start here ran trail good_id tables on.n was was_there up req request disk payload stage piece rest
-          ends.ends.request opened refl good alive index inside
+          write_alone script range events start here ran trail good_id tables on.n was was_there up req request disk payload stage piece
+          rest ends.ends.request opened refl good alive index inside
           (subst (IsOwnByTable disk.inode) at
           (own_in_place script range events start ran on is by so_far next within trail session req number work attempt status bytes payload
           piece rest disk
@@ -224,8 +225,8 @@ module _ (script : List Statement) (range : RunsAreInRange script) (events : Lis
       known : IsKnownInode (effects_after (input_of_cause on.cause) on.host.node) disk.inode
       known =
           let (session, there, at) = session_of so_far.node request.session disk opened in
-          subst (λ (o : Option Disk). IfSome o (λ (d : Disk). IsKnownInode (effects_after (input_of_cause on.cause) on.host.node) d.inode)) at
-          ((knows_here script range start began on is by so_far next within).on_known.each_session request.session session there).disk
+          subst (λ (o : Option Disk). IfSome o (λ (d : Disk). IsKnownInode (effects_after (input_of_cause on.cause) on.host.node) d.inode))
+          at ((knows_here script range start began on is by so_far next within).on_known.each_session request.session session there).disk
 
       made : spec_in (log_effects (moment_in_step script on start so_far).world.log) disk.inode.vid ≡ Some disk.inode.spec
       made =

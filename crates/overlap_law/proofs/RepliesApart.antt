@@ -20,7 +20,9 @@ use Rattle.sheep_node.specs.State.{Node}
 use Rattle.sheep_node.specs.StepState.{StepState, at_first, replies_in_order, request_ended}
 use Rattle.sheep_node.specs.Step.{node_step}
 use Rattle.sheep_node.specs.Changes as changes
-use Rattle.sheep_node.specs.Changes.{Leads, IsSoundStep, Arrival, Outcome, ToWork, ToEntry, ToReply, RequestSteps, DiskBegins, DiskGoesOn, CommandBegins, CommandGoesOn, CommandDecided, CheckBegins, CheckGoesOn, ObjectBegins, ObjectIsDone, EntryBegins, EntryDecided, WorkIsNext, AtOnce, InTurn, Again, AgainAlone, input_received, Change}
+use Rattle.sheep_node.specs.Changes.{Leads, IsSoundStep, Arrival, Outcome, ToWork, ToEntry, ToReply, RequestSteps, DiskBegins, DiskGoesOn}
+use Rattle.sheep_node.specs.Changes.{CommandBegins, CommandGoesOn, CommandDecided, CheckBegins, CheckGoesOn, ObjectBegins, ObjectIsDone}
+use Rattle.sheep_node.specs.Changes.{EntryBegins, EntryDecided, WorkIsNext, AtOnce, InTurn, Again, AgainAlone, input_received, Change}
 use Rattle.sheep_node.proofs.OneWorkParts.{Requests}
 use Rattle.sheep_node.proofs.RefusedCourses.{course_refused-keeps, request_refused-keeps}
 use Rattle.sheep_node.proofs.StepChain.{kept_by_chain, step_chain}
@@ -28,7 +30,8 @@ use Rattle.overlap_law.proofs.RequestsInSteps.{received_replies, replies-in_orde
 
 -- no request has a reply among these
 abbrev AreApart : Requests → List (ℕ × GuestRsp) → Type 0
-AreApart requests replies = (req : ℕ) (request : Request) (reply : ℕ × GuestRsp) → tree.get requests req ≡ Some request → Contains replies reply
+AreApart requests replies =
+    (req : ℕ) (request : Request) (reply : ℕ × GuestRsp) → tree.get requests req ≡ Some request → Contains replies reply
     → reply.0 ≢ req
 
 abbrev pub ApartIn : StepState → Type 0
@@ -64,11 +67,13 @@ unfolding request_ended
 ended_apart session req reply so_far apart = gone_apart so_far.node.requests so_far.outputs.replies req reply apart
 
 module _ (input : Input) (node : Node) where
-  first_silent : (so_far : StepState) (session req : ℕ) (ask : Ask) (refusal : Option Cause) → Arrival input node so_far session req ask refusal
+  first_silent : (so_far : StepState) (session req : ℕ) (ask : Ask) (refusal : Option Cause)
+      → Arrival input node so_far session req ask refusal
       → so_far.outputs.replies ≡ []
   first_silent so_far session req ask refusal arrival = ap (λ (s : StepState). s.outputs.replies) arrival.first
 
-  steps_apart : (so_far : StepState) (session req : ℕ) (next : Outcome) (moved : StepState) → RequestSteps input node so_far session req next moved
+  steps_apart : (so_far : StepState) (session req : ℕ) (next : Outcome) (moved : StepState)
+      → RequestSteps input node so_far session req next moved
       → ApartIn so_far → ApartIn moved
   steps_apart so_far session req next moved (DiskBegins ask disk there on may) apart =
       again_apart so_far.node.requests so_far.outputs.replies req (record { session = session; course = Waiting ask })
@@ -86,8 +91,8 @@ module _ (input : Input) (node : Node) where
       again_apart so_far.node.requests so_far.outputs.replies req (record { session = session; course = Commanding op })
       (record { session = session; course = Commanding step.op }) there apart
   steps_apart so_far session req next moved (CheckBegins inode arrival on) apart =
-      none_apart (tree.insert so_far.node.requests req (record { session = session; course = Checking (begin_check inode).check })) so_far.outputs.replies
-      (ap (λ (s : StepState). s.outputs.replies) arrival.first)
+      none_apart (tree.insert so_far.node.requests req (record { session = session; course = Checking (begin_check inode).check }))
+      so_far.outputs.replies (ap (λ (s : StepState). s.outputs.replies) arrival.first)
   steps_apart so_far session req next moved (CheckGoesOn number work attempt status bytes check step ends is) apart =
       again_apart so_far.node.requests so_far.outputs.replies req (record { session = session; course = Checking check })
       (record { session = session; course = Checking step.check }) ends.ends.request apart
@@ -96,13 +101,15 @@ module _ (input : Input) (node : Node) where
       (ap (λ (s : StepState). s.outputs.replies) arrival.first)
   steps_apart so_far session req next moved (ObjectIsDone number work attempt status bytes does ends) apart = apart
   steps_apart so_far session req next moved (EntryBegins entry arrival) apart =
-      none_apart (tree.insert so_far.node.requests req (record { session = session; course = AwaitingDecision entry })) so_far.outputs.replies
-      (ap (λ (s : StepState). s.outputs.replies) arrival.first)
+      none_apart (tree.insert so_far.node.requests req (record { session = session; course = AwaitingDecision entry }))
+      so_far.outputs.replies (ap (λ (s : StepState). s.outputs.replies) arrival.first)
   steps_apart so_far session req next moved (EntryDecided entry wanted from read there waits) apart = apart
 
-  pub comes_apart : (so_far : StepState) (session req : ℕ) (tried : Work) (lined : StepState) → WorkIsNext input node so_far session req tried lined
+  pub comes_apart : (so_far : StepState) (session req : ℕ) (tried : Work) (lined : StepState)
+      → WorkIsNext input node so_far session req tried lined
       → ApartIn so_far → ApartIn lined
-  comes_apart so_far session req tried lined (AtOnce work moved steps begins) apart = steps_apart so_far session req (ToWork work) moved steps apart
+  comes_apart so_far session req tried lined (AtOnce work moved steps begins) apart =
+      steps_apart so_far session req (ToWork work) moved steps apart
   comes_apart so_far session req tried lined (InTurn work later none is) apart = apart
   comes_apart so_far session req tried lined (Again work course from next there request) apart = apart
   comes_apart so_far session req tried lined (AgainAlone work from next there none) apart = apart
@@ -112,15 +119,21 @@ module _ (input : Input) (node : Node) where
   change_apart sound so_far next (changes.Fails session req number work attempt status course ends done why) apart = apart
   change_apart sound so_far next (changes.Stops session req number work attempt status course bytes ends over) apart = apart
   change_apart sound so_far next (changes.Refuses session req number work attempt status course cause ends done why) apart =
-      course_refused-keeps ApartIn ended_apart (λ entry before now. now) session req cause course (changes.without_ended_work session req work status so_far) apart
-  change_apart sound so_far next (changes.Opens session req tried lined comes short) apart = comes_apart so_far session req tried lined comes apart
-  change_apart sound so_far next (changes.Holds session req tried lined comes short touched) apart = comes_apart so_far session req tried lined comes apart
+      course_refused-keeps ApartIn ended_apart (λ entry before now. now) session req cause course
+      (changes.without_ended_work session req work status so_far) apart
+  change_apart sound so_far next (changes.Opens session req tried lined comes short) apart =
+      comes_apart so_far session req tried lined comes apart
+  change_apart sound so_far next (changes.Holds session req tried lined comes short touched) apart =
+      comes_apart so_far session req tried lined comes apart
   change_apart sound so_far next (changes.Denies session req tried lined request comes short untouched there own) apart =
-      request_refused-keeps ApartIn ended_apart (λ entry before now. now) req (Halt (changes.zones_of_members lined.node) (zones_for tried.work)) request
+      request_refused-keeps ApartIn ended_apart (λ entry before now. now) req
+      (Halt (changes.zones_of_members lined.node) (zones_for tried.work)) request
       (changes.without_denied_work session req tried lined) (comes_apart so_far session req tried lined comes apart)
   change_apart sound so_far next (changes.Strays req work gateway there none other) apart = apart
-  change_apart sound so_far next (changes.Lines session req work moved steps waits) apart = steps_apart so_far session req (ToWork work) moved steps apart
-  change_apart sound so_far next (changes.Appends session req entry moved steps) apart = steps_apart so_far session req (ToEntry entry) moved steps apart
+  change_apart sound so_far next (changes.Lines session req work moved steps waits) apart =
+      steps_apart so_far session req (ToWork work) moved steps apart
+  change_apart sound so_far next (changes.Appends session req entry moved steps) apart =
+      steps_apart so_far session req (ToEntry entry) moved steps apart
   change_apart sound so_far next (changes.Replies session req reply moved steps) apart =
       ended_apart session req reply moved (steps_apart so_far session req (ToReply reply) moved steps apart)
   change_apart sound so_far next (changes.Arrives session req ask disk arrival on) apart =
@@ -129,17 +142,20 @@ module _ (input : Input) (node : Node) where
   change_apart sound so_far next (changes.Rejects session req ask cause arrival) apart = λ q at one got replied. ⊎_elim
       (λ (new : (req, refusals.Refused cause) ≡ one). λ (same : one.0 ≡ q).
       let free = arrival.none sound in
-      let is : tree.get so_far.node.requests q ≡ None = ap (tree.get so_far.node.requests) (sym (ap (λ (r : ℕ × GuestRsp). r.0) new ∙ same)) ∙ free in
+      let is : tree.get so_far.node.requests q ≡ None = ap (tree.get so_far.node.requests) (sym (ap (λ (r : ℕ × GuestRsp). r.0) new ∙ same))
+      ∙ free in
       absurd (cc (is, got)))
       (λ (old : Contains so_far.outputs.replies one). apart q at one got old)
       (replies-in_order (req, refusals.Refused cause) so_far.outputs.replies one replied)
   change_apart sound so_far next (changes.Recovers due) apart = apart
 
   -- at each point of a sound step
-  pub apart_so_far : IsSoundStep input node → {so_far : StepState} → Leads input node (input_received input (at_first node)) so_far → ApartIn so_far
+  pub apart_so_far : IsSoundStep input node → {so_far : StepState} → Leads input node (input_received input (at_first node)) so_far
+      → ApartIn so_far
   apart_so_far sound leads =
       kept_by_chain ApartIn (change_apart sound) leads
-      (none_apart (input_received input (at_first node)).node.requests (input_received input (at_first node)).outputs.replies (received_replies input node))
+      (none_apart (input_received input (at_first node)).node.requests (input_received input (at_first node)).outputs.replies
+      (received_replies input node))
 
   -- and at its end
   pub step_apart : IsSoundStep input node → ApartIn (node_step input node)

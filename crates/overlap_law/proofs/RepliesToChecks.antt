@@ -18,7 +18,8 @@ use Rattle.gateway.specs.Step as gateway_steps
 use Rattle.gateway.specs.Outcomes.{work_done_in}
 use Rattle.gateway.specs.Kept.{work_if_done}
 use Rattle.gateway.proofs.DoneWorks.{work_done-is}
-use Rattle.disk_check.specs.Check.{Check, CheckStep, CheckStage, Comparing, WritingBack, Answered, check_on_done, check_done_at, write_back_step, value_at_stage}
+use Rattle.disk_check.specs.Check.{Check, CheckStep, CheckStage, Comparing, WritingBack, Answered, check_on_done, check_done_at}
+use Rattle.disk_check.specs.Check.{write_back_step, value_at_stage}
 use Rattle.disk_check.specs.Value.{pieces_in}
 use Rattle.recovery.specs.Steps as recovery_steps
 use Rattle.sheep_node.specs.declared.check_write.CheckWrite.{CheckWrite}

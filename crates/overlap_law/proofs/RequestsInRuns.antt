@@ -1,19 +1,19 @@
 -- In each run in range each request of a node is the script's of its number, of a session of the node's incarnation, and has no reply.
-use Rattle.std.proofs.Common.{◌≡◌, ℕ, zero, suc, List, [], ◌∷◌, slice_get, Contains, Option, Some, None, inl, inr, refl, ap}
+use Rattle.std.proofs.Common.{◌≡◌, ℕ, zero, suc, List, [], ◌∷◌, slice_get, Contains, Option, Some, None, inl, inr, refl, ap, false}
 use Rattle.std.specs.Option.{option_and_then}
 use Rattle.std.specs.FinMap as tree
 use Rattle.proof_tools.proofs.Lists.{Contains-nil, Contains-cons_cases}
 use Rattle.cluster_script.specs.declared.statement.Statement.{Statement}
 use Rattle.cluster_script.specs.NumberedRequests.{session_of, request_at}
-use Rattle.sheep_node.specs.declared.event.Event.{Event}
 use Rattle.sheep_node.specs.declared.course.Request.{Request}
 use Rattle.sheep_world.specs.World.{Host, World, progress_at}
 use Rattle.sheep_world.specs.Began.{Began}
+use Rattle.sheep_world.specs.RunsWithAsks.{Move}
 use Rattle.overlap_law.specs.Past.{MomentWithPast, run_with_past}
 use Rattle.overlap_law.specs.MomentChanges.{RunsAreInRange}
-use Rattle.overlap_law.specs.RequestsOfScript.{IsWithoutReply, RequestsAreWithoutReply}
+use Rattle.overlap_law.specs.RequestsOfScript.{IsWithoutReply, RequestsAreWithoutReply, is_of_client}
 use Rattle.overlap_law.proofs.NoRecoveredDue.{began-with_past}
-use Rattle.overlap_law.proofs.SessionsOfRequests.{are_asked}
+use Rattle.overlap_law.proofs.SessionsOfRequests.{of_asking, are_scripts}
 use Rattle.overlap_law.proofs.UnansweredRequests.{requests_tied}
 
 -- what a list contains stands at a place of it
@@ -31,11 +31,13 @@ statement_of session None asks = absurd (cc (asks))
 statement_of session (Some statement) asks = (statement, refl, asks)
 
 module _ (script : List Statement) (range : RunsAreInRange script) (world : World) (began : Began script world) where
-  without_reply : (n req : ℕ) (host : Host) (request : Request) → tree.get world.hosts n ≡ Some host → tree.get host.node.requests req ≡ Some request
-      → IsWithoutReply script world n host req request
-  without_reply n req host request there got =
-      let asked = are_asked script world began n host there req request got in
-      let has = (requests_tied script range world began n host there req request got).unanswered in
+  without_reply : (n req : ℕ) (host : Host) (request : Request) → tree.get world.hosts n ≡ Some host
+      → tree.get host.node.requests req ≡ Some request
+      → is_of_client request.course ≡ false → IsWithoutReply script world n host req request
+  without_reply n req host request there got none =
+      let asked = are_scripts script range.is_script world began n host there req request got none in
+      let has = (requests_tied script range world began n host there req request got
+      (of_asking script req request.session asked.asking)).unanswered in
       let (statement, stands, own) = statement_of request.session (request_at script req) asked.asking in
       let (place, unanswered) = at_place (progress_at request.session world).unanswered has.started has.there in
       record {
@@ -52,9 +54,10 @@ module _ (script : List Statement) (range : RunsAreInRange script) (world : Worl
         number = has.number;
       }
 
-module _ (script : List Statement) (range : RunsAreInRange script) (events : List Event) (moment : MomentWithPast)
+module _ (script : List Statement) (range : RunsAreInRange script) (events : List Move) (moment : MomentWithPast)
     (is : run_with_past script events ≡ Some moment) where
   pub without_reply-in_run : RequestsAreWithoutReply script moment.world
   without_reply-in_run = record {
-    each = λ n req host request there got. without_reply script range moment.world (began-with_past script events moment is) n req host request there got;
+    each = λ n req host request there got none.
+        without_reply script range moment.world (began-with_past script events moment is) n req host request there got none;
   }

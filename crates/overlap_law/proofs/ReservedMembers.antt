@@ -25,14 +25,15 @@ use Rattle.sheep_world.specs.EventKinds.{NodeReturn, PhaseEnd}
 use Rattle.sheep_world.specs.LogHolds.{is_member_now, LogHolds}
 use Rattle.sheep_world.specs.MembershipChanges.{last_weight}
 use Rattle.sheep_world.specs.NodeCauses.{NodeCause, GuestAsks, RequestComes, ReplyComes, LossIsTold, EntryIsRead, EntryIsPut, RecoveryTicks}
-use Rattle.sheep_world.specs.NodeCauses.{WorkIsRetried, IsCause, log_after_cause}
+use Rattle.sheep_world.specs.NodeCauses.{WorkIsRetried, ClientAsks, IsCause, log_after_cause}
 use Rattle.sheep_world.specs.Step.{EventOutcome}
 use Rattle.sheep_world.specs.World.{Host}
-use Rattle.sheep_world.proofs.EventInversion.{happens}
+use Rattle.sheep_world.proofs.ClientReads.{goes_by_kind}
 use Rattle.sheep_world.proofs.LogAtOpening.{log-holds, nodes-valid}
 use Rattle.sheep_world.proofs.MembersOfLog.{member-members_with, member-members_reweighted, member-members_without, now-plain, now-begun}
 use Rattle.sheep_world.proofs.NodesByTheLog.{knows_its_number}
 use Rattle.sheep_world.proofs.PuttableEntries.{each_puts}
+use Rattle.sheep_world.specs.RunsWithAsks.{Move}
 use Rattle.overlap_law.specs.Grants.{gives, given_to, reserver, writer_of}
 use Rattle.overlap_law.specs.MomentChanges.{RunsAreInRange}
 use Rattle.overlap_law.specs.Past.{MomentWithPast, run_with_past}
@@ -150,6 +151,7 @@ module _ (script : List Statement) (range : RunsAreInRange script) where
     stepped n host there up (EntryIsPut entry) so = put n host there up entry so
     stepped n host there up RecoveryTicks so = all
     stepped n host there up WorkIsRetried so = all
+    stepped n host there up (ClientAsks req ask) so = all
 
     -- a node that joins, or comes back
     joined : (k zone vnodes : ℕ) → ReserversAreMembers (start.world.log ++ entries.Join (record { 0 = k }) zone vnodes ∷ [])
@@ -194,9 +196,9 @@ module _ (script : List Statement) (range : RunsAreInRange script) where
   AreMembersAt moment = ReserversAreMembers moment.world.log
 
   event_keeps : KeptByEvents script AreMembersAt
-  event_keeps event before made began is all = keeps before began all event made (happens script event before.world made is)
+  event_keeps event before made began is all = keeps before began all event made (goes_by_kind script event before.world made is)
 
-  module _ (events : List Event) (moment : MomentWithPast) (is : run_with_past script events ≡ Some moment) (vid : ℕ) (r : Reservation)
+  module _ (events : List Move) (moment : MomentWithPast) (is : run_with_past script events ≡ Some moment) (vid : ℕ) (r : Reservation)
       (stands : StandsReserved moment.world.log vid r) where
     pub reserver_member : is_member_now moment.world.log r.by.0 ≡ true
     reserver_member =

@@ -1,6 +1,7 @@
--- In each world of a run of a script with few controls there is room for one epoch more: each epoch begins by a control that is taken, or by the
--- leave of a member, and each member opened the log or came by a control.
-use Rattle.std.proofs.Common.{◌≡◌, arith, ℕ, suc, ◌+◌, ◌≤◌, ◌<◌, nat_lt, not, Bool, true, false, cond, ◌||◌, List, [], ◌∷◌, ◌++◌, length, drop, filter, slice_get, Some, refl, ap, subst, ◌∙◌, append_assoc}
+-- In each world of a run of a script with few controls there is room for one epoch more: each epoch begins by a control that is taken, or
+-- by the leave of a member, and each member opened the log or came by a control.
+use Rattle.std.proofs.Common.{◌≡◌, arith, ℕ, suc, ◌+◌, ◌≤◌, ◌<◌, nat_lt, not, Bool, true, false, cond, ◌||◌, List, [], ◌∷◌, ◌++◌, length}
+use Rattle.std.proofs.Common.{drop, filter, slice_get, Some, refl, ap, subst, ◌∙◌, append_assoc}
 use Rattle.std.specs.FinMap as tree
 use Rattle.object_id.specs.declared.entry.Entry.{Entry}
 use Rattle.object_id.specs.declared.entry.Entry.TheVariants as entries
@@ -19,15 +20,17 @@ use Rattle.sheep_world.specs.World.{Host, World, next_control}
 use Rattle.sheep_world.specs.Opening.{controls_at, initial_world}
 use Rattle.sheep_world.specs.MembershipChanges.{join_of, last_weight}
 use Rattle.sheep_world.specs.Step.{EventOutcome}
-use Rattle.sheep_world.specs.NodeCauses.{NodeCause, GuestAsks, RequestComes, ReplyComes, LossIsTold, EntryIsRead, EntryIsPut, RecoveryTicks, WorkIsRetried, IsCause, log_after_cause}
-use Rattle.sheep_world.specs.EventKinds.{EventKind, NodeStep, UntoldLoss, UnreadDelivery, NodeLoss, NodeLeave, NodeReweight, NodeJoin, NodeReturn, PhaseEnd}
+use Rattle.sheep_world.specs.NodeCauses.{NodeCause, GuestAsks, RequestComes, ReplyComes, LossIsTold, EntryIsRead, EntryIsPut, RecoveryTicks}
+use Rattle.sheep_world.specs.NodeCauses.{WorkIsRetried, ClientAsks, IsCause, log_after_cause}
+use Rattle.sheep_world.specs.EventKinds.{EventKind, NodeStep, UntoldLoss, UnreadDelivery, NodeLoss, NodeLeave, NodeReweight, NodeJoin}
+use Rattle.sheep_world.specs.EventKinds.{NodeReturn, PhaseEnd}
 use Rattle.sheep_world.specs.HostChanges.{HoldsOfEachHost}
 use Rattle.sheep_world.specs.ControlsToCome.{controls_behind, controls_to_come}
 use Rattle.sheep_world.specs.Began.{Began}
 use Rattle.sheep_world.specs.LogHolds.{MayGrow, LogHolds}
 use Rattle.sheep_world.proofs.BegunWorlds.{by_induction}
 use Rattle.sheep_world.proofs.ControlLaws.{behind_next}
-use Rattle.sheep_world.proofs.EventInversion.{happens}
+use Rattle.sheep_world.proofs.ClientReads.{goes_by_kind}
 use Rattle.sheep_world.proofs.HostChangeLaws.{each_opens, each_kept}
 use Rattle.sheep_world.proofs.LogAtEvents.{keeps_log}
 use Rattle.sheep_world.proofs.LogAtOpening.{weight_at_first, opens_log}
@@ -82,7 +85,8 @@ left_of script world = length (controls_to_come script world)
 -- epochs and members, and twice the controls to come, are no more than at first
 abbrev IsWithin : List Statement → World → Type 0
 IsWithin script world =
-    epoch_of world.log + length (members_now world.log) + left_of script world + left_of script world ≤ count_of_controls script + count_of_controls script + 65
+    epoch_of world.log + length (members_now world.log) + left_of script world + left_of script world ≤ count_of_controls script
+    + count_of_controls script + 65
 
 -- what an entry adds to epochs and members
 abbrev Adds : List Entry → List Entry → ℕ → Type 0
@@ -97,7 +101,8 @@ plain_adds log entry some plain =
     let sum : epoch_of (log ++ entry ∷ []) ≡ epoch_of log + length (filter begins_epoch (entry ∷ [])) = epoch_of-append log (entry ∷ []) in
     let same : epoch_of (log ++ entry ∷ []) ≡ epoch_of log = omega (arith, none, sum) in
     let members : length (members_now (log ++ entry ∷ [])) ≡ length (members_now log)
-    = ap (λ (epoch : ℕ). length (members_in (log ++ entry ∷ []) epoch)) same ∙ ap (λ (list : List Member). length list) (members_in-append log (entry ∷ []) (epoch_of log) some (omega arith)) in
+    = ap (λ (epoch : ℕ). length (members_in (log ++ entry ∷ []) epoch)) same
+    ∙ ap (λ (list : List Member). length list) (members_in-append log (entry ∷ []) (epoch_of log) some (omega arith)) in
     omega (arith, same, members)
 
 -- the members once an epoch began
@@ -142,7 +147,8 @@ module _ (script : List Statement) (is_script : IsScript script) (event : Event)
   some = IsLog-some world.log holds.log
 
   -- by what an event added, and the controls that it left
-  within_by : (log_after : List Entry) (left more : ℕ) → Adds world.log log_after more → left + left + more ≤ left_of script world + left_of script world
+  within_by : (log_after : List Entry) (left more : ℕ) → Adds world.log log_after more
+      → left + left + more ≤ left_of script world + left_of script world
       → epoch_of log_after + length (members_now log_after) + left + left ≤ count_of_controls script + count_of_controls script + 65
   within_by log_after left more adds less = omega (arith, adds, less, within)
 
@@ -156,6 +162,7 @@ module _ (script : List Statement) (is_script : IsScript script) (event : Event)
   step_adds n host (EntryIsPut entry) there (later, first) = plain_adds world.log entry some (puts n host entry later there first).plain
   step_adds n host RecoveryTicks there so = none_added world.log
   step_adds n host WorkIsRetried there so = none_added world.log
+  step_adds n host (ClientAsks req ask) there so = none_added world.log
 
   abbrev Behind : List Statement
   Behind = controls_behind (phases_of script) (world.phase + 1)
@@ -175,7 +182,8 @@ module _ (script : List Statement) (is_script : IsScript script) (event : Event)
       (within_by world.log (length (drop 1 world.controls ++ Behind)) 0 (none_added world.log) (omega (arith, less)))
   event_within (NodeLeave h) =
       subst (λ (m : EventOutcome). IsWithin script m.world) h.made_so
-      (within_by (world.log ++ entries.Leave (record { 0 = h.n }) ∷ []) (left_of script world) 0 (leave_adds world.log some h.n h.member) (omega arith))
+      (within_by (world.log ++ entries.Leave (record { 0 = h.n }) ∷ []) (left_of script world) 0 (leave_adds world.log some h.n h.member)
+      (omega arith))
   event_within (NodeReweight h) =
       let less = control_taken _ h.control in
       subst (λ (m : EventOutcome). IsWithin script m.world) h.made_so
@@ -192,13 +200,14 @@ module _ (script : List Statement) (is_script : IsScript script) (event : Event)
       (within_by (world.log ++ join_of script h.n (last_weight world.log h.n) ∷ []) (length (drop 1 world.controls ++ Behind)) 2
       (join_adds world.log some h.n (zone_of script h.n) (last_weight world.log h.n)) (omega (arith, less)))
   event_within (PhaseEnd h) =
-      let same : length ((world.controls ++ controls_at script (world.phase + 1)) ++ controls_behind (phases_of script) ((world.phase + 1) + 1)) ≡ left_of script world
+      let same : length ((world.controls ++ controls_at script (world.phase + 1))
+      ++ controls_behind (phases_of script) ((world.phase + 1) + 1)) ≡ left_of script world
       = ap (λ (list : List Statement). length list)
       (append_assoc world.controls (controls_at script (world.phase + 1)) (controls_behind (phases_of script) ((world.phase + 1) + 1))
       ∙ ap (λ (later : List Statement). world.controls ++ later) (behind_next (phases_of script) (world.phase + 1))) in
       subst (λ (m : EventOutcome). IsWithin script m.world) h.made_so
-      (within_by world.log (length ((world.controls ++ controls_at script (world.phase + 1)) ++ controls_behind (phases_of script) ((world.phase + 1) + 1))) 0
-      (none_added world.log) (omega (arith, same)))
+      (within_by world.log (length ((world.controls ++ controls_at script (world.phase + 1))
+      ++ controls_behind (phases_of script) ((world.phase + 1) + 1))) 0 (none_added world.log) (omega (arith, same)))
 
 -- ---- every world
 
@@ -222,9 +231,11 @@ module _ (script : List Statement) (is_script : IsScript script) (few : HasFewCo
     opens = (opens_log script is_script, each_opens script LogHolds IsValidHost (hosts_stay_valid script is_script), opens_within);
     keeps = λ event world made began is holds.
         let puts = each_puts script world began holds.1 in
-        let kind = happens script event world made is in (
-          keeps_log script (weight_at_first script is_script) event world made puts (room_within world holds.2).room (controls-fit script world is_script began) holds.0 kind,
-          each_kept script LogHolds IsValidHost (hosts_stay_valid script is_script) event world made is holds.0 holds.1,
+        let kind = goes_by_kind script event world made is in (
+          keeps_log script (weight_at_first script is_script) event world made puts (room_within world holds.2).room
+              (controls-fit script world is_script began) holds.0 kind,
+          each_kept script LogHolds IsValidHost
+              (hosts_stay_valid script is_script) event world made is holds.0 holds.1,
           event_within script is_script event world made puts holds.0 holds.2 kind,
         );
   })

@@ -1,6 +1,7 @@
 -- In each world of a run in range a session has room for its next request, so that each step is one that a node may take; and so queues,
 -- commands and works of sessions are sound there.
-use Rattle.std.proofs.Common.{◌≡◌, ◌≢◌, arith, ℕ, ◌-◌, ◌≤◌, ◌<◌, ◌==◌, Bool, true, false, ◌&&◌, List, [], ◌∷◌, length, map, Contains, inl, inr, Option, Some, None, is_none, refl, sym, ap, subst, ◌∙◌}
+use Rattle.std.proofs.Common.{is_some, ◌≡◌, ◌≢◌, arith, ℕ, ◌-◌, ◌≤◌, ◌<◌, ◌==◌, Bool, true, false, ◌&&◌, List, [], ◌∷◌, length, map}
+use Rattle.std.proofs.Common.{Contains, inl, inr, Option, Some, None, is_none, refl, sym, ap, subst, ◌∙◌}
 use Rattle.std.specs.Prelude.{nat_le, nat_lt, nat_eq}
 use Rattle.std.specs.List.{list_all, AllByRecursion, IsDistinct}
 use Rattle.std.specs.Cmp.{nat_eq_equiv}
@@ -50,7 +51,8 @@ use Rattle.sheep_world.specs.declared.progress.StartedRequest.{StartedRequest}
 use Rattle.sheep_world.specs.World.{Host, World, progress_at, is_host_up}
 use Rattle.sheep_world.specs.Conditions.{is_disk_request_at, fits_beside}
 use Rattle.sheep_world.specs.Opening.{format_entry, initial_world}
-use Rattle.sheep_world.specs.NodeCauses.{NodeCause, GuestAsks, RequestComes, ReplyComes, LossIsTold, EntryIsRead, EntryIsPut, RecoveryTicks, WorkIsRetried, input_of_cause, IsCause}
+use Rattle.sheep_world.specs.NodeCauses.{NodeCause, GuestAsks, RequestComes, ReplyComes, LossIsTold, EntryIsRead, EntryIsPut, RecoveryTicks}
+use Rattle.sheep_world.specs.NodeCauses.{WorkIsRetried, ClientAsks, input_of_cause, IsCause}
 use Rattle.sheep_world.specs.EventKinds.{log_after_return}
 use Rattle.sheep_world.specs.HostChanges.{HostsKeep}
 use Rattle.sheep_world.specs.Began.{Began}
@@ -65,7 +67,13 @@ use Rattle.overlap_law.proofs.GuestsOfScript.{guest_asks}
 use Rattle.overlap_law.proofs.KnownSteps.{together}
 use Rattle.overlap_law.proofs.QueueOnce.{IsOnce, AreOnceIn, none_once, once_so_far}
 use Rattle.overlap_law.proofs.RequestsInSteps.{is_disk_ask}
-use Rattle.overlap_law.proofs.UnansweredRequests.{Guests, unanswered_in, RequestsAreTied, brings_tied, requests_tied}
+use Rattle.overlap_law.proofs.UnansweredRequests.{Guests, unanswered_in, RequestsAreTied, brings_tied, requests_tied, IsTied}
+use Rattle.sheep_world.proofs.AsksOfClients.{clients_ask}
+use Rattle.sheep_world.proofs.AsksTaken.{meets_read}
+use Rattle.cluster_script.specs.Language.{IsScript}
+use Rattle.cluster_script.specs.Sessions.{ScriptSession, session_numbered}
+use Rattle.sheep_world.proofs.AsksInSteps.{session_above}
+use Rattle.overlap_law.proofs.SessionsOfRequests.{asked_in_session, of_asking}
 
 -- what sessions have is sound: their queues are their reads and writes, each once, any other request is alone, a read or write that began
 -- is apart from the earlier ones and on the open disk, works are those that are waited for, and its line is open as its works are
@@ -93,7 +101,8 @@ opening_sound me tries = record {
 }
 
 -- a step that the node may take
-may_sound : (input : Input) (node : Node) → May input node → HasOneWorkPerRequest node → HasSoundGuests node → HasSoundGuests (node_step input node).node
+may_sound : (input : Input) (node : Node) → May input node → HasOneWorkPerRequest node → HasSoundGuests node
+    → HasSoundGuests (node_step input node).node
 may_sound input node may driven is =
     let sound : IsSoundStep input node = (meets_numbers input node may.condition, driven) in
     let both = once_so_far sound (step_chain input node) is.queues is.once in
@@ -151,7 +160,8 @@ unfolding IsDistinct
 once_distinct [] is = tt
 once_distinct (first ∷ later) is = (apart_numbers first.req later is.0, once_distinct later is.1)
 
-number_in : (q : ℕ) (queue : List Queued) → Contains (map (λ (one : Queued). one.req) queue) q → (one : Queued) × Contains queue one × (one.req ≡ q)
+number_in : (q : ℕ) (queue : List Queued) → Contains (map (λ (one : Queued). one.req) queue) q
+    → (one : Queued) × Contains queue one × (one.req ≡ q)
 number_in q [] there = absurd (Contains-nil q there)
 number_in q (first ∷ later) there = elim (Contains-cons_cases first.req (map (λ (one : Queued). one.req) later) q there) [
   | inl same ↦ (first, Contains-head first later, same)
@@ -173,16 +183,30 @@ few_queued queue unanswered once each =
     let (one, there, same) = number_in q queue ((is_member-Decides same_number ours q).0 member) in
     let (started, among, number) = each one there in
     (is_member-Decides same_number theirs q).1
-    (subst (λ (k : ℕ). Contains theirs k) (number ∙ same) (Contains-map (λ (started : StartedRequest). started.req) unanswered started among))) in
+    (subst (λ (k : ℕ). Contains theirs k) (number ∙ same) (Contains-map (λ (started : StartedRequest). started.req) unanswered started
+    among))) in
     let left : length ours ≡ length queue = length-map queue (λ (one : Queued). one.req) in
     let right : length theirs ≡ length unanswered = length-map unanswered (λ (started : StartedRequest). started.req) in
     omega (arith, most, left, right)
 
-module _ (script : List Statement) (guests : Guests) (node : Node) (sound : HasSoundGuests node) (tied : RequestsAreTied script guests node) (session : ℕ) where
+-- the requests of a session that the script declares are tied to it
+pub tied_of : (script : List Statement) → IsScript script → (world : World) → Began script world → (n : ℕ) (host : Host)
+    → tree.get world.hosts n ≡ Some host → (session : ScriptSession) → session_numbered script session.number ≡ Some session
+    → RequestsAreTied script world.guests host.node → (req : ℕ) (request : Request) → tree.get host.node.requests req ≡ Some request
+    → request.session ≡ session.number → IsTied script world.guests req request.session (is_disk_course request.course)
+tied_of script is_script world began n host there session declared tied req request got own =
+    let asked = asked_in_session script world began n host there req request got
+    (λ zero. let above = session_above script is_script session.number session declared in omega (arith, above, zero, own)) in
+    tied req request got (of_asking script req request.session asked.asking)
+
+module _ (script : List Statement) (guests : Guests) (node : Node) (sound : HasSoundGuests node) (session : ℕ)
+    (tied : (req : ℕ) (request : Request) → tree.get node.requests req ≡ Some request → request.session ≡ session
+    → IsTied script guests req request.session (is_disk_course request.course)) where
   abbrev left : List StartedRequest
   left = unanswered_in session guests
 
-  queued_left : (one : Queued) → Contains (queue_in session node.sessions) one → (started : StartedRequest) × Contains left started × (started.req ≡ one.req)
+  queued_left : (one : Queued) → Contains (queue_in session node.sessions) one
+      → (started : StartedRequest) × Contains left started × (started.req ≡ one.req)
   queued_left one there = by_request (tree.get node.requests one.req) refl (sound.queues.there session one.req (one, there, refl))
     where
       by_request : (o : Option Request) → tree.get node.requests one.req ≡ o → is_disk_request_of session o ≡ true
@@ -190,14 +214,14 @@ module _ (script : List Statement) (guests : Guests) (node : Node) (sound : HasS
       by_request None got on = absurd (cc (on))
       by_request (Some request) got on =
           let own = eqb-true request.session session (and_parts (request.session == session) (is_disk_course request.course) on).0 in
-          let is = (tied one.req request got).unanswered in
+          let is = (tied one.req request got own).unanswered in
           (is.started, subst (λ (k : ℕ). Contains (unanswered_in k guests) is.started) own is.there, is.number)
 
   command_left : (req : ℕ) → command_in session node.sessions ≡ Some req
       → (started : StartedRequest) × Contains left started × (started.req ≡ req) × (is_disk_request_at script req ≡ false)
   command_left req is =
       let (request, got, own, off) = sound.alone.there session req is in
-      let tie = tied req request got in
+      let tie = tied req request got own in
       let has = tie.unanswered in
       (has.started, subst (λ (k : ℕ). Contains (unanswered_in k guests) has.started) own has.there, has.number, sym tie.kind ∙ off)
 
@@ -208,7 +232,8 @@ module _ (script : List Statement) (guests : Guests) (node : Node) (sound : HasS
       (started, subst (λ (l : List StartedRequest). Contains l started) is among, number))
 
   -- no command is there where what has no reply is a read or write
-  no_command : (list : List StartedRequest) → left ≡ list → list_all (λ (started : StartedRequest). is_disk_request_at script started.req) list ≡ true
+  no_command : (list : List StartedRequest) → left ≡ list
+      → list_all (λ (started : StartedRequest). is_disk_request_at script started.req) list ≡ true
       → is_none (command_in session node.sessions) ≡ true
   no_command list is all = by_command (command_in session node.sessions) refl
     where
@@ -225,7 +250,8 @@ module _ (script : List Statement) (guests : Guests) (node : Node) (sound : HasS
       → has_room_for ask (session_at session node) ≡ true
   room req ask kind fits = by_list left refl fits
     where
-      by_list : (list : List StartedRequest) → left ≡ list → fits_beside script req list ≡ true → has_room_for ask (session_at session node) ≡ true
+      by_list : (list : List StartedRequest) → left ≡ list → fits_beside script req list ≡ true
+          → has_room_for ask (session_at session node) ≡ true
       by_list [] is fits =
           let none : length (queue_in session node.sessions) ≤ 0 = short [] is in
           both_true (is_none (command_in session node.sessions)) (nat_le (length (queue_in session node.sessions)) (queued_at_most ask))
@@ -249,7 +275,8 @@ module _ (script : List Statement) (guests : Guests) (node : Node) (sound : HasS
 
 module _ (script : List Statement) (range : RunsAreInRange script) where
   step_sound : (world : World) → Began script world → (n : ℕ) (host : Host) → tree.get world.hosts n ≡ Some host → is_host_up host ≡ true
-      → HasSoundGuests host.node → (cause : NodeCause) → IsCause script world n host cause → HasSoundGuests (node_step (input_of_cause cause) host.node).node
+      → HasSoundGuests host.node → (cause : NodeCause) → IsCause script world n host cause
+      → HasSoundGuests (node_step (input_of_cause cause) host.node).node
   step_sound world began n host there up is cause caused = by_cause cause caused
     where
       ready : IsReady script world n host
@@ -257,21 +284,27 @@ module _ (script : List Statement) (range : RunsAreInRange script) where
 
       by_cause : (cause : NodeCause) → IsCause script world n host cause → HasSoundGuests (node_step (input_of_cause cause) host.node).node
       by_cause (GuestAsks session req ask) asked =
-          let fits = (and_parts (nat_le (phase_of_request script req) world.phase) (fits_beside script req (progress_at session.number world).unanswered) asked.may).1 in
-          let kind = (brings_tied script world n host (GuestAsks session req ask) asked req session.number ask refl).kind in
+          let fits = (and_parts (nat_le (phase_of_request script req) world.phase)
+          (fits_beside script req (progress_at session.number world).unanswered) asked.may).1 in
+          let kind = (brings_tied script world n host (GuestAsks session req ask) asked req session.number ask refl
+          (ap (λ (o : Option Statement). is_some o) asked.stands)).kind in
           may_sound (inputs.Guest req session.number ask) host.node
           (steps_on_may script world n host (GuestAsks session req ask) asked ready (
-            room script world.guests host.node is (requests_tied script range world began n host there) session.number req ask kind fits,
+            room script world.guests host.node is session.number
+                (tied_of script range.is_script world began n host there session asked.declared
+                (requests_tied script range world began n host there)) req ask kind fits,
             guest_asks host.node script range.is_script req asked.line ask asked.stands asked.asks,
           )) ready.driven is
       by_cause (RequestComes name to request) here = served_sound request host.node is
       by_cause (ReplyComes name from rsp) here =
           may_sound (inputs.Reply rsp) host.node (steps_on_may script world n host (ReplyComes name from rsp) here ready tt) ready.driven is
       by_cause (LossIsTold name packet) here =
-          may_sound (inputs.Lost name.number) host.node (steps_on_may script world n host (LossIsTold name packet) here ready tt) ready.driven is
+          may_sound (inputs.Lost name.number) host.node (steps_on_may script world n host (LossIsTold name packet) here ready tt)
+          ready.driven is
       by_cause (EntryIsRead entry) next =
           may_sound (inputs.LogEntry entry) host.node
-          (steps_on_may script world n host (EntryIsRead entry) next ready (reads-may script range.is_script range.room world began n host entry there next))
+          (steps_on_may script world n host (EntryIsRead entry) next ready
+          (reads-may script range.is_script range.room world began n host entry there next))
           ready.driven is
       by_cause (EntryIsPut entry) first =
           may_sound inputs.Put host.node (steps_on_may script world n host (EntryIsPut entry) first ready tt) ready.driven is
@@ -279,6 +312,10 @@ module _ (script : List Statement) (range : RunsAreInRange script) where
           may_sound inputs.RecoverTick host.node (steps_on_may script world n host RecoveryTicks may ready tt) ready.driven is
       by_cause WorkIsRetried may =
           may_sound inputs.RetryTick host.node (steps_on_may script world n host WorkIsRetried may ready tt) ready.driven is
+      by_cause (ClientAsks req ask) may =
+          may_sound (inputs.Guest req 0 ask) host.node
+          (steps_on_may script world n host (ClientAsks req ask) may ready
+          (meets_read script world (clients_ask script range.is_script world began) n host there up req ask may is.alone)) ready.driven is
 
   guests_kept : HostsKeep script (Began script) (λ (world : World) (n : ℕ) (host : Host). HasSoundGuests host.node)
   unfolding initial_world
@@ -286,7 +323,10 @@ module _ (script : List Statement) (range : RunsAreInRange script) where
     opens = λ member.
         let node = nodes.initial_node member.node (tries_of script) in
         may_sound (inputs.LogEntry (format_entry script)) node
-        (record { numbers = le-leb 0 SENDS_MAX (omega arith); condition = first_may (format_entry script) [] (opens_log script range.is_script).log })
+        (record {
+          numbers = le-leb 0 SENDS_MAX (omega arith);
+          condition = first_may (format_entry script) [] (opens_log script range.is_script).log;
+        })
         (one_work_at_opening member.node (tries_of script)) (opening_sound member.node (tries_of script));
     stays = λ event world made h began n host so. so;
     steps = λ world n host cause began there up caused so. step_sound world began n host there up so cause caused;
@@ -295,5 +335,8 @@ module _ (script : List Statement) (range : RunsAreInRange script) where
     joins = λ world n began control. opening_sound (record { 0 = n }) (tries_of script);
   }
 
-  pub guests_sound : (world : World) → Began script world → (n : ℕ) (host : Host) → tree.get world.hosts n ≡ Some host → HasSoundGuests host.node
-  guests_sound = each_where script (Began script) (λ (world : World) (n : ℕ) (host : Host). HasSoundGuests host.node) (λ world began. began) guests_kept
+  pub guests_sound : (world : World) → Began script world → (n : ℕ) (host : Host) → tree.get world.hosts n ≡ Some host
+      → HasSoundGuests host.node
+  guests_sound =
+      each_where script (Began script) (λ (world : World) (n : ℕ) (host : Host). HasSoundGuests host.node) (λ world began. began)
+      guests_kept

@@ -34,7 +34,9 @@ use Rattle.sheep_world.specs.World.{Host, World}
 use Rattle.sheep_world.specs.Opening.{format_entry, initial_member_node, initial_world}
 use Rattle.sheep_world.specs.MembershipChanges.{lost_host}
 use Rattle.sheep_world.specs.Step.{EventOutcome}
-use Rattle.sheep_world.specs.NodeCauses.{NodeCause, GuestAsks, RequestComes, ReplyComes, LossIsTold, EntryIsRead, EntryIsPut, RecoveryTicks, WorkIsRetried, input_of_cause, event_of_cause, IsCause, host_with_node, world_after_cause}
+use Rattle.sheep_world.specs.NodeCauses.{NodeCause, GuestAsks, RequestComes, ReplyComes, LossIsTold, EntryIsRead, EntryIsPut, RecoveryTicks}
+use Rattle.sheep_world.specs.NodeCauses.{WorkIsRetried, ClientAsks, input_of_cause, event_of_cause, IsCause, host_with_node}
+use Rattle.sheep_world.specs.NodeCauses.{world_after_cause}
 use Rattle.sheep_world.specs.EventKinds.{log_after_return, outcome_of_step}
 use Rattle.sheep_world.specs.HostChanges.{host_after_return, joined_host}
 use Rattle.sheep_world.specs.Began.{Began}
@@ -45,7 +47,8 @@ use Rattle.overlap_law.specs.Attempts.{attempts_with_fate, fate_of_say}
 use Rattle.overlap_law.specs.Reached.{Hosts}
 use Rattle.overlap_law.specs.Packets.{IsAsking}
 use Rattle.overlap_law.specs.Past.{MomentWithPast, first_moment}
-use Rattle.overlap_law.specs.StepMoments.{SteppingNode, IsStepping, StepsByChanges, first_in_step, last_in_step, moment_in_step, attempts_at_cause}
+use Rattle.overlap_law.specs.StepMoments.{SteppingNode, IsStepping, StepsByChanges, first_in_step, last_in_step, moment_in_step}
+use Rattle.overlap_law.specs.StepMoments.{attempts_at_cause}
 use Rattle.overlap_law.specs.MomentChanges as moments
 use Rattle.overlap_law.specs.MomentChanges.{MomentChange, RunsAreInRange}
 use Rattle.overlap_law.proofs.AttemptsInSteps.{attempts-at_end}
@@ -154,6 +157,7 @@ not_served (EntryIsRead entry) by request is = cc (is)
 not_served (EntryIsPut entry) by request is = cc (is)
 not_served RecoveryTicks by request is = cc (is)
 not_served WorkIsRetried by request is = cc (is)
+not_served (ClientAsks req ask) by request is = cc (is)
 
 serving : (script : List Statement) (start after : MomentWithPast) (n : ℕ) (host : Host) (cause : NodeCause)
     → IsCause script start.world n host cause → after.past.attempts ≡ attempts_at_cause host.node cause start.past.attempts
@@ -174,6 +178,7 @@ serving script start after n host (EntryIsRead entry) so told request is = absur
 serving script start after n host (EntryIsPut entry) so told request is = absurd (cc (is))
 serving script start after n host RecoveryTicks so told request is = absurd (cc (is))
 serving script start after n host WorkIsRetried so told request is = absurd (cc (is))
+serving script start after n host (ClientAsks req ask) so told request is = absurd (cc (is))
 
 -- ---- every change
 

@@ -31,16 +31,18 @@ use Rattle.sheep_node.proofs.NodeLaws.{IsSoundNode-initial}
 use Rattle.sheep_world.specs.World.{Host, World, is_host_up}
 use Rattle.sheep_world.specs.Opening.{format_entry, initial_world, initial_member_node}
 use Rattle.sheep_world.specs.MembershipChanges.{lost_host}
-use Rattle.sheep_world.specs.Step.{EventOutcome, step}
-use Rattle.sheep_world.specs.NodeCauses.{NodeCause, GuestAsks, RequestComes, ReplyComes, LossIsTold, EntryIsRead, EntryIsPut, RecoveryTicks, WorkIsRetried, input_of_cause, IsCause}
-use Rattle.sheep_world.specs.EventKinds.{log_after_return, world_after_return, IsNodeReturn, EventKind, NodeStep, UntoldLoss, UnreadDelivery, NodeLoss, NodeLeave, NodeReweight, NodeJoin, NodeReturn, PhaseEnd}
+use Rattle.sheep_world.specs.Step.{EventOutcome}
+use Rattle.sheep_world.specs.NodeCauses.{NodeCause, GuestAsks, RequestComes, ReplyComes, LossIsTold, EntryIsRead, EntryIsPut, RecoveryTicks}
+use Rattle.sheep_world.specs.NodeCauses.{WorkIsRetried, ClientAsks, input_of_cause, IsCause}
+use Rattle.sheep_world.specs.EventKinds.{log_after_return, world_after_return, IsNodeReturn, EventKind, NodeStep, UntoldLoss}
+use Rattle.sheep_world.specs.EventKinds.{UnreadDelivery, NodeLoss, NodeLeave, NodeReweight, NodeJoin, NodeReturn, PhaseEnd}
 use Rattle.sheep_world.specs.HostChanges.{host_after_step, host_after_return, joined_host}
-use Rattle.sheep_world.specs.Began.{Began, IsInvariant}
+use Rattle.sheep_world.specs.Began.{Began, IsInvariant, MakesMove}
 use Rattle.sheep_world.specs.LogFronts.{IsFront}
 use Rattle.sheep_world.specs.LogHolds.{MayGrow}
 use Rattle.sheep_world.specs.HoldsTogether.{RepliesFit}
 use Rattle.sheep_world.proofs.BegunWorlds.{goes_on, by_induction}
-use Rattle.sheep_world.proofs.EventInversion.{happens}
+use Rattle.sheep_world.proofs.ClientReads.{goes_by_kind}
 use Rattle.sheep_world.proofs.LogAtOpening.{opens_log, log-holds}
 use Rattle.sheep_world.proofs.LogFrontLaws.{log_grows, all_read}
 use Rattle.sheep_world.proofs.NodesByTheLog.{returns_on_may}
@@ -110,12 +112,12 @@ module _ (script : List Statement) (is_script : IsScript script) (grows : (world
   module _ (world : World) (began : Began script world) (is : IsSoundWorld script world)
       (before : EachHasRows (log_effects world.log) world)
       (few : ObjectsAreFew world) (creates : CreatesAreInRange world) (event : Event) (made : EventOutcome)
-      (happened : step script event world ≡ Some made) where
+      (happened : MakesMove script event world made) where
     abbrev replies : RepliesFit world
     replies = replies_fit script is_script grows world began is (told_where_rows world few before)
 
     kind : EventKind script event world made
-    kind = happens script event world made happened
+    kind = goes_by_kind script event world made happened
 
     front : IsFront world.log made.world.log
     front = log_grows script event world made kind
@@ -177,6 +179,7 @@ module _ (script : List Statement) (is_script : IsScript script) (grows : (world
       rows_after (EntryIsPut entry) so = by inputs.Put (may (EntryIsPut entry) so (λ request same. absurd (cc (same))))
       rows_after RecoveryTicks so = by inputs.RecoverTick (may RecoveryTicks so (λ request same. absurd (cc (same))))
       rows_after WorkIsRetried so = by inputs.RetryTick (may WorkIsRetried so (λ request same. absurd (cc (same))))
+      rows_after (ClientAsks req ask) so = by (inputs.Guest req 0 ask) (may (ClientAsks req ask) so (λ request same. absurd (cc (same))))
 
     returned_rows : (h : IsNodeReturn script event world made)
         → HasRowsBy effects (host_after_return (log_after_return script h.n world) h.host).node.peer

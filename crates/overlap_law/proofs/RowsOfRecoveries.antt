@@ -1,5 +1,6 @@
 -- The rows of a node stay as the rows of their objects are, whatever its recovery finds.
-use Rattle.std.proofs.Common.{◌≡◌, arith, ℕ, zero, suc, ◌+◌, ◌-◌, ◌*◌, ◌/◌, ◌%◌, ◌<◌, ◌≤◌, ◌==◌, Bool, true, false, cond, List, [], ◌∷◌, length, map, take, drop, Option, Some, None, IfSome, unwrap_or, refl, sym, ap, subst, ◌∙◌}
+use Rattle.std.proofs.Common.{◌≡◌, arith, ℕ, zero, suc, ◌+◌, ◌-◌, ◌*◌, ◌/◌, ◌%◌, ◌<◌, ◌≤◌, ◌==◌, Bool, true, false, cond, List, [], ◌∷◌}
+use Rattle.std.proofs.Common.{length, map, take, drop, Option, Some, None, IfSome, unwrap_or, refl, sym, ap, subst, ◌∙◌}
 use Rattle.std.specs.Prelude.{nat_lt}
 use Rattle.std.specs.List.{list_any, position, position_or_len}
 use Rattle.std.proofs.lemmas.Bool.{eqb-true, ltb-true}
@@ -33,8 +34,11 @@ use Rattle.peer_service.specs.State.{row_size}
 use Rattle.recovery.specs.Shown.{NodeView, live_policy, is_pending_object, shown_with_pending}
 use Rattle.recovery.specs.State.{Message, Search, RecoveryState, search_on, is_listed, message_of}
 use Rattle.recovery.specs.Step.{HaveSize, IsFittingRow, IsFittingSay, SaysOfRow, MayEndLevel, MayStep}
-use Rattle.recovery.specs.Steps.{to_recover, when_listed, at_start, recovery_from_epoch, without_unanswered, search_after_answer, after_list, after_read, after_ask, message_end}
-use Rattle.recovery.specs.Level.{indexes_of, rows_taken, rows_in_order, are_enough, part_from_rows, with_part_found, with_object_missing, to_ask, one_lower, level_without_part, own_index, own_part, rows_found, level_over_by, level_over, is_of_search, searching}
+use Rattle.recovery.specs.Steps.{to_recover, when_listed, at_start, recovery_from_epoch, without_unanswered, search_after_answer}
+use Rattle.recovery.specs.Steps.{after_list, after_read, after_ask, message_end}
+use Rattle.recovery.specs.Level.{indexes_of, rows_taken, rows_in_order, are_enough, part_from_rows, with_part_found, with_object_missing}
+use Rattle.recovery.specs.Level.{to_ask, one_lower, level_without_part, own_index, own_part, rows_found, level_over_by, level_over}
+use Rattle.recovery.specs.Level.{is_of_search, searching}
 use Rattle.recovery.specs.Tick.{next_search, tick_messages, with_messages, state_after_tick}
 use Rattle.recovery.specs.State as recoveries
 use Rattle.recovery.proofs.EndLemmas.{may-end}

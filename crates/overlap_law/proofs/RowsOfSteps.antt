@@ -1,5 +1,6 @@
 -- A step of a sound node leaves its rows as the rows of their objects are.
-use Rattle.std.proofs.Common.{◌≡◌, arith, ℕ, ◌-◌, ◌^◌, ◌<◌, ◌≤◌, nat_lt, Bool, true, false, not, cond, List, [], ◌∷◌, map, All, Option, Some, None, IfSome, refl, sym, ap, subst}
+use Rattle.std.proofs.Common.{◌≡◌, arith, ℕ, ◌-◌, ◌^◌, ◌<◌, ◌≤◌, nat_lt, Bool, true, false, not, cond, List, [], ◌∷◌, map, All, Option}
+use Rattle.std.proofs.Common.{Some, None, IfSome, refl, sym, ap, subst}
 use Rattle.std.specs.Option.{option_map}
 use Rattle.std.proofs.lemmas.Bool.{leb-true}
 use Rattle.std.proofs.lemmas.List.Elements.{All-nil, All-filter}
@@ -41,7 +42,8 @@ use Rattle.sheep_node.specs.State.{Node}
 use Rattle.sheep_node.specs.RecoveryView.{shown_node, recovery_state_of, with_recovered_rows}
 use Rattle.sheep_node.specs.StepState.{StepState, at_first}
 use Rattle.sheep_node.specs.May.{May}
-use Rattle.sheep_node.specs.LogReading.{epoch_members, epochs_with_entry, peer_with_entry, node_with_entry, recovery_in_epoch, begins_recovery, recovery_with_entry, entry_read, come_back_with, on_back}
+use Rattle.sheep_node.specs.LogReading.{epoch_members, epochs_with_entry, peer_with_entry, node_with_entry, recovery_in_epoch}
+use Rattle.sheep_node.specs.LogReading.{begins_recovery, recovery_with_entry, entry_read, come_back_with, on_back}
 use Rattle.sheep_node.specs.Step.{on_request, recovery_stepped, on_put, on_recover_tick, node_step}
 use Rattle.sheep_node.specs.Changes.{input_received}
 use Rattle.sheep_node.specs.NodeInvariant.{IsSoundNode}
@@ -50,7 +52,8 @@ use Rattle.sheep_node.proofs.StepResults.{step_peer}
 use Rattle.sheep_world.proofs.RangeBySteps.{few_targets}
 use Rattle.overlap_law.specs.Each.{spec_in}
 use Rattle.overlap_law.specs.RowsInRange.{CreatesAsRowsAre}
-use Rattle.overlap_law.proofs.RowsOfPeers.{IsRowBy, AreRowsBy, IsNumber, HasRowsBy, later_rows, served_rows, entered_are, back_are, settled_are, read_are}
+use Rattle.overlap_law.proofs.RowsOfPeers.{IsRowBy, AreRowsBy, IsNumber, HasRowsBy, later_rows, served_rows, entered_are, back_are}
+use Rattle.overlap_law.proofs.RowsOfPeers.{settled_are, read_are}
 use Rattle.overlap_law.proofs.RowsOfRecoveries.{KnowsSpec, IsRowView, RowsAt, begun_rows, ticked_rows, ended_rows_of}
 use Rattle.overlap_law.proofs.ServedNodes.{sound_epoch}
 

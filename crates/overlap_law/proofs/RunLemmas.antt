@@ -7,32 +7,34 @@ use Rattle.cluster_script.specs.declared.statement.Statement.{Statement}
 use Rattle.disk_history.specs.declared.event.HistEvent.{HistEvent}
 use Rattle.disk_history.specs.declared.event.HistEvent.TheVariants.{Create}
 use Rattle.sheep_node.specs.declared.event.Event.{Event}
-use Rattle.sheep_world.specs.Step.{EventOutcome, step}
+use Rattle.sheep_world.specs.Step.{EventOutcome}
 use Rattle.sheep_world.specs.Run as runs
 use Rattle.overlap_law.specs.Holders.{is_available_disk}
 use Rattle.overlap_law.specs.BegunAttempts.{attempts_after}
 use Rattle.overlap_law.specs.PastWords.{unavailable_at, is_counted}
 use Rattle.overlap_law.specs.Past.{MomentWithPast, past_after_event, moment_after, run_on, first_moment, run_with_past, without_past}
 use Rattle.sheep_world.specs.Incarnations.{incarnations_after}
+use Rattle.sheep_world.specs.RunsWithAsks.{Move, made_by, event_of_move, moves_from, run_with_asks}
 
-along : (script : List Statement) (event : Event) (events : List Event) (moment : MomentWithPast)
-    → ((next : MomentWithPast) → option_map without_past (run_on script next events) ≡ runs.run_from script events (without_past next))
+along : (script : List Statement) (event : Move) (events : List Move) (moment : MomentWithPast)
+    → ((next : MomentWithPast) → option_map without_past (run_on script next events) ≡ moves_from script events (without_past next))
     → (o : Option EventOutcome)
-    → option_map without_past (option_and_then (λ (next : MomentWithPast). run_on script next events) (option_map (moment_after script event moment) o))
-    ≡ option_and_then (runs.run_from script events) (option_map (runs.moment_with_made moment.past.history) o)
+    → option_map without_past (option_and_then (λ (next : MomentWithPast). run_on script next events)
+    (option_map (moment_after script (event_of_move event) moment) o))
+    ≡ option_and_then (moves_from script events) (option_map (runs.moment_with_made moment.past.history) o)
 unfolding past_after_event
 along script event events moment later None = refl
-along script event events moment later (Some made) = later (moment_after script event moment made)
+along script event events moment later (Some made) = later (moment_after script (event_of_move event) moment made)
 
-run_on-follows : (script : List Statement) (events : List Event) (moment : MomentWithPast)
-    → option_map without_past (run_on script moment events) ≡ runs.run_from script events (without_past moment)
-unfolding run_on runs.run_from
+run_on-follows : (script : List Statement) (events : List Move) (moment : MomentWithPast)
+    → option_map without_past (run_on script moment events) ≡ moves_from script events (without_past moment)
+unfolding run_on moves_from
 run_on-follows script [] moment = refl
 run_on-follows script (event ∷ events) moment =
-    along script event events moment (λ (next : MomentWithPast). run_on-follows script events next) (step script event moment.world)
+    along script event events moment (λ (next : MomentWithPast). run_on-follows script events next) (made_by script event moment.world)
 
-pub past-follows : (script : List Statement) (events : List Event)
-    → option_map without_past (run_with_past script events) ≡ runs.run script events
+pub past-follows : (script : List Statement) (events : List Move)
+    → option_map without_past (run_with_past script events) ≡ run_with_asks script events
 unfolding run_with_past
 past-follows script events = run_on-follows script events (first_moment script)
 
@@ -42,7 +44,8 @@ counted log (Create disk blocks) = refl
 counted log event = refl
 
 with_counted : (log : List Entry) (event : HistEvent) (events : List HistEvent) → filter (is_counted log []) events ≡ events
-    → (b : Bool) → is_counted log [] event ≡ b → cond b (event ∷ filter (is_counted log []) events) (filter (is_counted log []) events) ≡ event ∷ events
+    → (b : Bool) → is_counted log [] event ≡ b
+    → cond b (event ∷ filter (is_counted log []) events) (filter (is_counted log []) events) ≡ event ∷ events
 with_counted log event events later true e = ap (λ (rest : List HistEvent). event ∷ rest) later
 with_counted log event events later false e = absurd (cc (e, counted log event))
 
@@ -83,7 +86,8 @@ abbrev KeepsReads : MomentWithPast → MomentWithPast → Type 0
 KeepsReads first last = Grows first.past.unavailable last.past.unavailable
     × (last.past.unavailable ≡ [] → first.past.available_history ≡ first.past.history → last.past.available_history ≡ last.past.history)
 
-pub step-keeps_reads : (script : List Statement) (event : Event) (moment : MomentWithPast) (made : EventOutcome) → moment.past.unavailable ≡ []
+pub step-keeps_reads : (script : List Statement) (event : Event) (moment : MomentWithPast) (made : EventOutcome)
+    → moment.past.unavailable ≡ []
     → moment.past.available_history ≡ moment.past.history
     → (moment_after script event moment made).past.available_history ≡ (moment_after script event moment made).past.history
 unfolding past_after_event
@@ -106,28 +110,30 @@ then-keeps_reads script event first last made later =
           same),
     )
 
-keeps_reads-along : (script : List Statement) (event : Event) (events : List Event) (first last : MomentWithPast)
+keeps_reads-along : (script : List Statement) (event : Move) (events : List Move) (first last : MomentWithPast)
     → ((next : MomentWithPast) → run_on script next events ≡ Some last → KeepsReads next last)
     → (o : Option EventOutcome)
-    → option_and_then (λ (next : MomentWithPast). run_on script next events) (option_map (moment_after script event first) o) ≡ Some last
+    → option_and_then (λ (next : MomentWithPast). run_on script next events)
+    (option_map (moment_after script (event_of_move event) first) o) ≡ Some last
     → KeepsReads first last
 keeps_reads-along script event events first last later None e = absurd (cc)
 keeps_reads-along script event events first last later (Some made) e =
-    then-keeps_reads script event first last made (later (moment_after script event first made) e)
+    then-keeps_reads script (event_of_move event) first last made (later (moment_after script (event_of_move event) first made) e)
 
 same-some : (one two : MomentWithPast) → Some one ≡ Some two → one ≡ two
 same-some one two e = cc
 
-run_on-keeps_reads : (script : List Statement) (events : List Event) (first last : MomentWithPast) → run_on script first events ≡ Some last
+run_on-keeps_reads : (script : List Statement) (events : List Move) (first last : MomentWithPast) → run_on script first events ≡ Some last
     → KeepsReads first last
 unfolding run_on
-run_on-keeps_reads script [] first last e = subst (λ (m : MomentWithPast). KeepsReads first m) (same-some first last e) (no_events-keep_reads first)
+run_on-keeps_reads script [] first last e =
+    subst (λ (m : MomentWithPast). KeepsReads first m) (same-some first last e) (no_events-keep_reads first)
 run_on-keeps_reads script (event ∷ events) first last e = keeps_reads-along
     script event events first last
     (λ (next : MomentWithPast) (h : run_on script next events ≡ Some last). run_on-keeps_reads script events next last h)
-    (step script event first.world) e
+    (made_by script event first.world) e
 
-pub nothing-left_out : (script : List Statement) (events : List Event) (moment : MomentWithPast) → run_with_past script events ≡ Some moment
+pub nothing-left_out : (script : List Statement) (events : List Move) (moment : MomentWithPast) → run_with_past script events ≡ Some moment
     → moment.past.unavailable ≡ [] → moment.past.available_history ≡ moment.past.history
 unfolding run_with_past
 nothing-left_out script events moment e none =

@@ -1,5 +1,7 @@
--- What a node says of a request is of the epoch that its say needs: a refusal by the epoch is of another one, any other say of the request's own.
-use Rattle.std.proofs.Common.{◌≡◌, ◌≢◌, ⊎_elim, arith, ℕ, ◌≤◌, ◌<◌, nat_lt, Bool, true, false, cond, List, Option, Some, None, Result, Ok, Err, refl, ap, ◌∙◌}
+-- What a node says of a request is of the epoch that its say needs: a refusal by the epoch is of another one, any other say of the
+-- request's own.
+use Rattle.std.proofs.Common.{◌≡◌, ◌≢◌, ⊎_elim, arith, ℕ, ◌≤◌, ◌<◌, nat_lt, Bool, true, false, cond, List, Option, Some, None, Result, Ok}
+use Rattle.std.proofs.Common.{Err, refl, ap, ◌∙◌}
 use Rattle.std.proofs.lemmas.Bool.{cases_lt, le-ltb}
 use Rattle.object_store.specs.declared.fault.StoreFault.{StoreFault}
 use Rattle.object_store.specs.declared.row.RowCopy.{RowCopy}
@@ -11,7 +13,8 @@ use Rattle.peer_proto.specs.declared.say.Refusal.{Refusal}
 use Rattle.peer_proto.specs.declared.say.Refusal.TheVariants.{OldEpoch, NewEpoch, Recovery, NoObj}
 use Rattle.peer_service.specs.State.{Peer, is_waiting}
 use Rattle.peer_service.specs.Fence.{epoch_refusal}
-use Rattle.peer_service.specs.Serve.{PeerStep, peer_say_step, piece_or_refusal, peer_write_step, row_or_none, step_if_recovered, own_epoch_step, step_behind_fence, peer_step}
+use Rattle.peer_service.specs.Serve.{PeerStep, peer_say_step, piece_or_refusal, peer_write_step, row_or_none, step_if_recovered}
+use Rattle.peer_service.specs.Serve.{own_epoch_step, step_behind_fence, peer_step}
 use Rattle.overlap_law.specs.Flight.{IsSaidSo}
 use Rattle.overlap_law.proofs.EpochLemmas.{older, newer}
 

@@ -160,7 +160,8 @@ ticked_came H first state =
 
 -- ---- a recovery begins
 
-pub begun-none : (epoch : ℕ) (members : List NodeId) (state : RecoveryState) → (recovery_from_epoch epoch members state).recovery.search ≡ None
+pub begun-none : (epoch : ℕ) (members : List NodeId) (state : RecoveryState)
+    → (recovery_from_epoch epoch members state).recovery.search ≡ None
 unfolding recovery_from_epoch
 begun-none epoch members state =
     let begun : RecoveryState = at_start epoch members state in

@@ -15,7 +15,8 @@ use Rattle.recovery.specs.Steps.{message_end}
 use Rattle.recovery.specs.Tick.{next_search}
 use Rattle.sheep_node.specs.declared.input.Input.{Input}
 use Rattle.sheep_node.specs.declared.input.Input.TheVariants as inputs
-use Rattle.sheep_node.specs.LogReading.{epoch_members, peer_with_entry, node_with_entry, recovery_in_epoch, begins_recovery, recovery_with_entry, entry_read, come_back_with, on_back}
+use Rattle.sheep_node.specs.LogReading.{epoch_members, peer_with_entry, node_with_entry, recovery_in_epoch, begins_recovery}
+use Rattle.sheep_node.specs.LogReading.{recovery_with_entry, entry_read, come_back_with, on_back}
 use Rattle.sheep_node.specs.RecoveryView.{recovery_state_of, with_recovered_rows}
 use Rattle.sheep_node.specs.State.{Node}
 use Rattle.sheep_node.specs.Step.{on_request, recovery_stepped, on_put, on_recover_tick}

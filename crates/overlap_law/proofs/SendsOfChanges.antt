@@ -30,11 +30,14 @@ use Rattle.sheep_node.specs.RequestWorks.{course_refused}
 use Rattle.sheep_node.specs.LogReading.{entry_read}
 use Rattle.sheep_node.specs.Step.{on_put, on_input, is_due, with_recovered, recovered_put, recovery_stepped, node_step}
 use Rattle.sheep_node.specs.Changes as changes
-use Rattle.sheep_node.specs.Changes.{input_received, Outcome, ToWork, RequestSteps, DiskBegins, DiskGoesOn, CommandBegins, CommandGoesOn, CommandDecided, CheckBegins, CheckGoesOn, ObjectBegins, ObjectIsDone, EntryBegins, EntryDecided, WorkIsNext, AtOnce, InTurn, Again, AgainAlone, Change, Leads}
+use Rattle.sheep_node.specs.Changes.{input_received, Outcome, ToWork, RequestSteps, DiskBegins, DiskGoesOn, CommandBegins, CommandGoesOn}
+use Rattle.sheep_node.specs.Changes.{CommandDecided, CheckBegins, CheckGoesOn, ObjectBegins, ObjectIsDone, EntryBegins, EntryDecided}
+use Rattle.sheep_node.specs.Changes.{WorkIsNext, AtOnce, InTurn, Again, AgainAlone, Change, Leads}
 use Rattle.sheep_node.proofs.RefusedCourses.{course_refused-keeps, request_refused-keeps}
 use Rattle.sheep_node.proofs.StepChain.{kept_by_chain}
 use Rattle.sheep_node.proofs.StepEffects.{Untouched, untouched_in, IsInOrder, change_keeps_order, received_in_order}
-use Rattle.sheep_world.specs.NodeCauses.{NodeCause, GuestAsks, RequestComes, ReplyComes, LossIsTold, EntryIsRead, EntryIsPut, RecoveryTicks, WorkIsRetried, input_of_cause}
+use Rattle.sheep_world.specs.NodeCauses.{NodeCause, GuestAsks, RequestComes, ReplyComes, LossIsTold, EntryIsRead, EntryIsPut, RecoveryTicks}
+use Rattle.sheep_world.specs.NodeCauses.{WorkIsRetried, ClientAsks, input_of_cause}
 use Rattle.overlap_law.specs.StepMoments.{StepsByChanges}
 
 -- nothing was sent between two points of a step
@@ -54,7 +57,8 @@ no_longer : (so_far next : StepState) → next.outputs.sends ≡ so_far.outputs.
 no_longer so_far next same = ([], same ∙ sym (append-nil so_far.outputs.sends), λ send there. absurd (Contains-nil send there))
 
 -- the messages of an attempt are of its epoch
-pub attempt_in_epoch : (me : NodeId) (epoch : Epoch) (work : ObjWork) (messages : List Message) → AreOfEpoch epoch.0 (map (send_of me epoch work) messages)
+pub attempt_in_epoch : (me : NodeId) (epoch : Epoch) (work : ObjWork) (messages : List Message)
+    → AreOfEpoch epoch.0 (map (send_of me epoch work) messages)
 attempt_in_epoch me epoch work [] send there = absurd (Contains-nil send there)
 attempt_in_epoch me epoch work (message ∷ messages) send there = ⊎_elim
     (λ (same : send_of me epoch work message ≡ send). ap (λ (s : NodeId × PeerReq). s.1.epoch.0) (sym same))
@@ -66,20 +70,26 @@ ended_sends_nothing : (first : StepState) (session req : ℕ) (reply : GuestRsp)
 unfolding request_ended
 ended_sends_nothing first session req reply so_far same = same
 
-pub end_sends_nothing : (session req : ℕ) (reply : GuestRsp) (so_far : StepState) → SendsNothing so_far (request_ended session req reply so_far)
+pub end_sends_nothing : (session req : ℕ) (reply : GuestRsp) (so_far : StepState)
+    → SendsNothing so_far (request_ended session req reply so_far)
 end_sends_nothing session req reply so_far = ended_sends_nothing so_far session req reply so_far (refl, refl)
 
-pub refusal_sends_nothing : (session req : ℕ) (cause : Cause) (course : Course) (so_far : StepState) → SendsNothing so_far (course_refused session req cause course so_far)
+pub refusal_sends_nothing : (session req : ℕ) (cause : Cause) (course : Course) (so_far : StepState)
+    → SendsNothing so_far (course_refused session req cause course so_far)
 refusal_sends_nothing session req cause course so_far =
-    course_refused-keeps (SendsNothing so_far) (ended_sends_nothing so_far) (λ entry before same. same) session req cause course so_far (refl, refl)
+    course_refused-keeps (SendsNothing so_far) (ended_sends_nothing so_far) (λ entry before same. same) session req cause course so_far
+    (refl, refl)
 
 pub denial_sends_nothing : (req : ℕ) (cause : Cause) (request : Option Request) (so_far : StepState)
-    → SendsNothing so_far (option_map_or (λ (request : Request). course_refused request.session req cause request.course so_far) request so_far)
+    → SendsNothing so_far (option_map_or (λ (request : Request). course_refused request.session req cause request.course so_far) request
+    so_far)
 denial_sends_nothing req cause request so_far =
-    request_refused-keeps (SendsNothing so_far) (ended_sends_nothing so_far) (λ entry before same. same) req cause request so_far (refl, refl)
+    request_refused-keeps (SendsNothing so_far) (ended_sends_nothing so_far) (λ entry before same. same) req cause request so_far
+    (refl, refl)
 
 -- the input of a step that goes by changes sends nothing by itself
-pub received_nothing : (cause : NodeCause) (node : Node) → StepsByChanges cause → SendsNothing (at_first node) (input_received (input_of_cause cause) (at_first node))
+pub received_nothing : (cause : NodeCause) (node : Node) → StepsByChanges cause
+    → SendsNothing (at_first node) (input_received (input_of_cause cause) (at_first node))
 unfolding entry_read
 received_nothing (GuestAsks session req ask) node by = (refl, refl)
 received_nothing (RequestComes name to request) node by = absurd by
@@ -93,9 +103,11 @@ received_nothing (EntryIsRead entry) node by = (refl, refl)
 received_nothing (EntryIsPut entry) node by = absurd by
 received_nothing RecoveryTicks node by = absurd by
 received_nothing WorkIsRetried node by = (refl, refl)
+received_nothing (ClientAsks req ask) node by = (refl, refl)
 
 module _ {input : Input} {node : Node} where
-  pub steps_send_nothing : (so_far : StepState) (session req : ℕ) (next : Outcome) (moved : StepState) → RequestSteps input node so_far session req next moved
+  pub steps_send_nothing : (so_far : StepState) (session req : ℕ) (next : Outcome) (moved : StepState)
+      → RequestSteps input node so_far session req next moved
       → SendsNothing so_far moved
   steps_send_nothing so_far session req next moved (DiskBegins ask disk there on may) = (refl, refl)
   steps_send_nothing so_far session req next moved (DiskGoesOn number work attempt status bytes driver disk step ends on is) = (refl, refl)
@@ -109,9 +121,11 @@ module _ {input : Input} {node : Node} where
   steps_send_nothing so_far session req next moved (EntryBegins entry arrival) = (refl, refl)
   steps_send_nothing so_far session req next moved (EntryDecided entry wanted from read there waits) = (refl, refl)
 
-  pub next_sends_nothing : (so_far : StepState) (session req : ℕ) (asked : Work) (lined : StepState) → WorkIsNext input node so_far session req asked lined
+  pub next_sends_nothing : (so_far : StepState) (session req : ℕ) (asked : Work) (lined : StepState)
+      → WorkIsNext input node so_far session req asked lined
       → SendsNothing so_far lined
-  next_sends_nothing so_far session req asked lined (AtOnce work moved steps begins) = steps_send_nothing so_far session req (ToWork work) moved steps
+  next_sends_nothing so_far session req asked lined (AtOnce work moved steps begins) =
+      steps_send_nothing so_far session req (ToWork work) moved steps
   next_sends_nothing so_far session req asked lined (InTurn work later none is) = (refl, refl)
   next_sends_nothing so_far session req asked lined (Again work course from next there request) = (refl, refl)
   next_sends_nothing so_far session req asked lined (AgainAlone work from next there none) = (refl, refl)
@@ -124,23 +138,28 @@ module _ {input : Input} {node : Node} where
   sends_grow so_far next (changes.Refuses session req number work attempt status course cause ends done why) =
       no_longer so_far next (refusal_sends_nothing session req cause course (changes.without_ended_work session req work status so_far)).1
   sends_grow so_far next (changes.Opens session req asked lined comes enough) =
-      let more = map (send_of lined.node.gateway.me (record { 0 = lined.node.peer.epoch }) asked.work) (changes.attempt_in asked lined.node).messages in (
+      let more = map (send_of lined.node.gateway.me (record { 0 = lined.node.peer.epoch }) asked.work)
+      (changes.attempt_in asked lined.node).messages in (
         more,
         ap (λ (sends : List (NodeId × PeerReq)). sends ++ more) (next_sends_nothing so_far session req asked lined comes).1,
-        attempt_in_epoch lined.node.gateway.me (record { 0 = lined.node.peer.epoch }) asked.work (changes.attempt_in asked lined.node).messages,
+        attempt_in_epoch lined.node.gateway.me (record { 0 = lined.node.peer.epoch }) asked.work
+            (changes.attempt_in asked lined.node).messages,
       )
   sends_grow so_far next (changes.Holds session req asked lined comes short touched) =
       no_longer so_far next (next_sends_nothing so_far session req asked lined comes).1
   sends_grow so_far next (changes.Denies session req asked lined request comes short untouched there own) =
       no_longer so_far next
-      ((denial_sends_nothing req (Halt (changes.zones_of_members lined.node) (zones_for asked.work)) request (changes.without_denied_work session req asked lined)).1
+      ((denial_sends_nothing req (Halt (changes.zones_of_members lined.node) (zones_for asked.work)) request
+      (changes.without_denied_work session req asked lined)).1
       ∙ (next_sends_nothing so_far session req asked lined comes).1)
   sends_grow so_far next (changes.Strays req work gateway there none apart) = no_longer so_far next refl
-  sends_grow so_far next (changes.Lines session req work moved steps waits) = no_longer so_far next (steps_send_nothing so_far session req (ToWork work) moved steps).1
+  sends_grow so_far next (changes.Lines session req work moved steps waits) =
+      no_longer so_far next (steps_send_nothing so_far session req (ToWork work) moved steps).1
   sends_grow so_far next (changes.Appends session req entry moved steps) =
       no_longer so_far next (steps_send_nothing so_far session req (changes.ToEntry entry) moved steps).1
   sends_grow so_far next (changes.Replies session req reply moved steps) =
-      no_longer so_far next ((end_sends_nothing session req reply moved).1 ∙ (steps_send_nothing so_far session req (changes.ToReply reply) moved steps).1)
+      no_longer so_far next ((end_sends_nothing session req reply moved).1
+      ∙ (steps_send_nothing so_far session req (changes.ToReply reply) moved steps).1)
   sends_grow so_far next (changes.Arrives session req ask disk arrival on) = no_longer so_far next refl
   sends_grow so_far next (changes.Rejects session req ask cause arrival) = no_longer so_far next refl
   sends_grow so_far next (changes.Recovers due) = no_longer so_far next refl
@@ -157,7 +176,8 @@ module _ {input : Input} {node : Node} where
   -- ---- in the middle of a step
 
   pub in_order_so_far : (so_far : StepState) → Leads input node (input_received input (at_first node)) so_far
-      → IsInOrder node.sends (input_received input (at_first node)).node.recovered (untouched_in (input_received input (at_first node))) so_far
+      → IsInOrder node.sends (input_received input (at_first node)).node.recovered (untouched_in (input_received input (at_first node)))
+      so_far
   in_order_so_far so_far leads =
       let start = input_received input (at_first node) in
       kept_by_chain (IsInOrder node.sends start.node.recovered (untouched_in start))
@@ -175,7 +195,8 @@ module _ {input : Input} {node : Node} where
   sends_in_epoch silent last (changes.Then {so_far} {next} leads change) send there =
       let (more, is, epochs) = sends_grow so_far next change in
       let peers : so_far.node.peer.epoch ≡ next.node.peer.epoch
-      = ap (λ (u : Untouched). u.peer.epoch) ((in_order_so_far so_far leads).same ∙ sym (in_order_so_far next (changes.Then leads change)).same) in
+      = ap (λ (u : Untouched). u.peer.epoch) ((in_order_so_far so_far leads).same
+      ∙ sym (in_order_so_far next (changes.Then leads change)).same) in
       ⊎_elim
       (λ (old : Contains so_far.outputs.sends send). sends_in_epoch silent so_far leads send old ∙ peers)
       (λ (new : Contains more send). epochs send new)
@@ -186,7 +207,8 @@ pub put_sends : (node : Node) → (node_step inputs.Put node).outputs.sends ≡ 
 unfolding node_step on_input recovered_put
 put_sends node =
     let put = on_put node.outbox (at_first node) in
-    cond_either (λ (so_far : StepState). so_far.outputs.sends ≡ []) (is_due put.node) (with_recovered put) put (by_outbox node.outbox) (by_outbox node.outbox)
+    cond_either (λ (so_far : StepState). so_far.outputs.sends ≡ []) (is_due put.node) (with_recovered put) put (by_outbox node.outbox)
+    (by_outbox node.outbox)
   where
     by_outbox : (outbox : List Entry) → (on_put outbox (at_first node)).outputs.sends ≡ []
     by_outbox [] = refl

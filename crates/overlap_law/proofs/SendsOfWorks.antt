@@ -22,7 +22,8 @@ use Rattle.sheep_node.specs.Step.{node_step}
 use Rattle.sheep_node.specs.Changes as changes
 use Rattle.sheep_node.specs.Changes.{ToWork, attempt_in, has_too_few_zones, with_open_attempt, WorkIsNext, Change, Leads, input_received}
 use Rattle.sheep_node.proofs.StepChain.{step_chain}
-use Rattle.overlap_law.proofs.SendsOfChanges.{next_sends_nothing, steps_send_nothing, end_sends_nothing, refusal_sends_nothing, denial_sends_nothing}
+use Rattle.overlap_law.proofs.SendsOfChanges.{next_sends_nothing, steps_send_nothing, end_sends_nothing, refusal_sends_nothing}
+use Rattle.overlap_law.proofs.SendsOfChanges.{denial_sends_nothing}
 
 -- what an attempt sends for a work
 abbrev pub sends_for : Work → Node → List (NodeId × PeerReq)

@@ -24,12 +24,14 @@ use Rattle.message_wire.specs.declared.name.MessageName.{MessageName}
 use Rattle.message_wire.specs.Message.{name_cmp}
 use Rattle.sheep_world.specs.World.{Host, World, is_host_up, message_at}
 use Rattle.sheep_world.specs.Opening.{initial_world}
-use Rattle.sheep_world.specs.Step.{EventOutcome, step}
-use Rattle.sheep_world.specs.NodeCauses.{NodeCause, GuestAsks, RequestComes, ReplyComes, LossIsTold, EntryIsRead, EntryIsPut, RecoveryTicks, WorkIsRetried, input_of_cause, IsCause, world_after_cause}
-use Rattle.sheep_world.specs.EventKinds.{log_after_return, EventKind, NodeStep, UntoldLoss, UnreadDelivery, NodeLoss, NodeLeave, NodeReweight, NodeJoin, NodeReturn, PhaseEnd}
-use Rattle.sheep_world.specs.Began.{Began}
+use Rattle.sheep_world.specs.Step.{EventOutcome}
+use Rattle.sheep_world.specs.NodeCauses.{NodeCause, GuestAsks, RequestComes, ReplyComes, LossIsTold, EntryIsRead, EntryIsPut, RecoveryTicks}
+use Rattle.sheep_world.specs.NodeCauses.{WorkIsRetried, ClientAsks, input_of_cause, IsCause, world_after_cause}
+use Rattle.sheep_world.specs.EventKinds.{log_after_return, EventKind, NodeStep, UntoldLoss, UnreadDelivery, NodeLoss, NodeLeave}
+use Rattle.sheep_world.specs.EventKinds.{NodeReweight, NodeJoin, NodeReturn, PhaseEnd}
+use Rattle.sheep_world.specs.Began.{Began, MakesMove}
 use Rattle.sheep_world.proofs.BegunWorlds.{goes_on}
-use Rattle.sheep_world.proofs.EventInversion.{happens}
+use Rattle.sheep_world.proofs.ClientReads.{goes_by_kind}
 use Rattle.sheep_world.proofs.LogFrontLaws.{log_grows}
 use Rattle.sheep_world.proofs.RecoveryMessages.{same_asked}
 use Rattle.sheep_world.proofs.ReturningNodes.{stepped_renewed}
@@ -98,6 +100,7 @@ module _ (Is : NodeId → PeerReq → Type 0) where
     step_so (EntryIsPut entry) node works = none_so _ (put_sends node)
     step_so RecoveryTicks node works = works tt (tick_so node)
     step_so WorkIsRetried node works = works tt (none_so _ (received_nothing WorkIsRetried node tt).1)
+    step_so (ClientAsks req ask) node works = works tt (none_so _ (received_nothing (ClientAsks req ask) node tt).1)
 
 -- ---- the wire of a world
 
@@ -125,7 +128,7 @@ module _ (P : List Entry → NodeId → PeerReq → Type 0) where
 
   module _ (stays : (log more : List Entry) (to : NodeId) (request : PeerReq) → P log to request → P (log ++ more) to request)
       (script : List Statement) (world : World) (began : Began script world) (steps : StepsSendSo script world) (before : EachAsks world)
-      (event : Event) (made : EventOutcome) (happened : step script event world ≡ Some made)
+      (event : Event) (made : EventOutcome) (happened : MakesMove script event world made)
       (spelled : All IsSpelled made.world.outputs.sends) where
     abbrev new : Packet → Type 0
     new = PacketIs (P made.world.log)
@@ -133,7 +136,7 @@ module _ (P : List Entry → NodeId → PeerReq → Type 0) where
     old_so : AllSo new world.wire
     old_so name (Reply from bytes) got = tt
     old_so name (Request to bytes) got = λ request read.
-        let front = log_grows script event world made (happens script event world made happened) in
+        let front = log_grows script event world made (goes_by_kind script event world made happened) in
         subst (λ (log : List Entry). P log to request) (sym front.is)
         (stays world.log front.rest to request (before name to bytes request got read))
 
@@ -160,6 +163,6 @@ module _ (P : List Entry → NodeId → PeerReq → Type 0) where
 
     pub asks_after : EachAsks made.world
     asks_after name to bytes request got read =
-        let kind = happens script event world made happened in
+        let kind = goes_by_kind script event world made happened in
         wire_so new script event world made old_so kind (sends_after kind)
         (any_reply new (λ from rsp. tt) script event world made kind) name (Request to bytes) got request read

@@ -33,10 +33,10 @@ use Rattle.sheep_node.specs.SessionQueues.{command_in}
 use Rattle.sheep_node.specs.declared.course.Course.{Course}
 use Rattle.sheep_node.specs.declared.course.Course.TheVariants.{Commanding}
 use Rattle.sheep_node.specs.declared.course.Request.{Request}
-use Rattle.sheep_node.specs.declared.event.Event.{Event}
 use Rattle.sheep_world.specs.Began.{Began}
 use Rattle.sheep_world.specs.NodeCauses.{input_of_cause, host_with_node}
 use Rattle.sheep_world.specs.World.{Host}
+use Rattle.sheep_world.specs.RunsWithAsks.{Move}
 use Rattle.overlap_law.specs.Attempts.{AttemptRecord, object_of}
 use Rattle.overlap_law.specs.CommandDisks.{opened_in, IsOpenAtStage, IsOpenAtCourse}
 use Rattle.overlap_law.specs.Each.{spec_in}
@@ -97,7 +97,7 @@ back_of_works vid inode = record {
 
 -- ---- a command that writes back, at a moment
 
-module _ (script : List Statement) (range : RunsAreInRange script) (events : List Event) (start moment : MomentWithPast)
+module _ (script : List Statement) (range : RunsAreInRange script) (events : List Move) (start moment : MomentWithPast)
     (ran : run_with_past script events ≡ Some start) (way : MomentTrail script start moment) (n : ℕ) (host : Host)
     (there : tree.get moment.world.hosts n ≡ Some host) (up : host.is_lost ≡ false) (req : ℕ) (request : Request) (op : Op) (vid : Vid)
     (inode : Content) (got : tree.get host.node.requests req ≡ Some request) (command : request.course ≡ Commanding op)
@@ -174,7 +174,7 @@ module _ (script : List Statement) (range : RunsAreInRange script) (events : Lis
 
 -- ---- over each change
 
-module _ (script : List Statement) (range : RunsAreInRange script) (events : List Event) (start before after : MomentWithPast)
+module _ (script : List Statement) (range : RunsAreInRange script) (events : List Move) (start before after : MomentWithPast)
     (run : run_with_past script events ≡ Some start) (trail : MomentTrail script start before)
     (change : MomentChange script start before after) (good_id : ℕ → Bool) (kept : EntriesReadAreKept script good_id start before)
     (reads : ReadsAreToCome script good_id start before)
@@ -184,7 +184,8 @@ module _ (script : List Statement) (range : RunsAreInRange script) (events : Lis
 
   -- each entry of the inode's table was served last before the change
   abbrev WasServed : Content → ℕ → Type 0
-  WasServed inode index = IsServedLast (gives_value index (slice_index inode.table index)) (gives_value index (slice_index inode.table index))
+  WasServed inode index =
+      IsServedLast (gives_value index (slice_index inode.table index)) (gives_value index (slice_index inode.table index))
       before.world.hosts before.past.attempts (inode_number inode.vid) (entry_unit index)
 
   module _ (n : ℕ) (host : Host) (there : tree.get after.world.hosts n ≡ Some host) (up : host.is_lost ≡ false) (req index : ℕ)

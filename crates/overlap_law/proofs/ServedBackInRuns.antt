@@ -3,7 +3,6 @@
 use Rattle.std.proofs.Common.{ℕ, Bool, List, refl}
 use Rattle.vdi_directory.specs.Decisions.{log_effects}
 use Rattle.cluster_script.specs.declared.statement.Statement.{Statement}
-use Rattle.sheep_node.specs.declared.event.Event.{Event}
 use Rattle.overlap_law.specs.HistoryStands.{CallsAvailable}
 use Rattle.overlap_law.specs.InodesRead.{ReadsAreToCome}
 use Rattle.overlap_law.specs.KeptHistory.{CommandsWriteWhatMayCome}
@@ -21,6 +20,7 @@ use Rattle.overlap_law.proofs.OpeningOverlap.{no_request}
 use Rattle.overlap_law.proofs.ReadsToComeInRuns.{reads_to_come-in_run}
 use Rattle.overlap_law.proofs.ReadsToldTables.{tables_along, inodes_along}
 use Rattle.overlap_law.proofs.ServedBack.{back_served, commands_write}
+use Rattle.sheep_world.specs.RunsWithAsks.{Move}
 
 abbrev pub HasBackServed : (ℕ → Bool) → MomentWithPast → Type 0
 HasBackServed good_id moment = WrittenBackWasServed (log_effects moment.world.log) good_id moment.world.hosts moment.past.attempts
@@ -33,7 +33,7 @@ fewer_back few many moment fewer back = record {
 }
 
 module _ (script : List Statement) (range : RunsAreInRange script) where
-  module _ (events : List Event) (event : Event) (start end before after : MomentWithPast)
+  module _ (events : List Move) (event : Move) (start end before after : MomentWithPast)
       (way : IsOnTheWay script events event start end before after) (good_id : ℕ → Bool) (test : CallsAvailable start after good_id) where
     above : AboveIsGood (log_effects start.world.log) good_id
     above = test_at_start script way.change good_id (test_before script way.change good_id test)
@@ -68,7 +68,7 @@ module _ (script : List Statement) (range : RunsAreInRange script) where
         goes_on events event start end before after way good_id test back;
   }
 
-  pub commands_write-by_tests : (events : List Event) (event : Event) (start end before after : MomentWithPast)
+  pub commands_write-by_tests : (events : List Move) (event : Move) (start end before after : MomentWithPast)
       → IsOnTheWay script events event start end before after → (good_id : ℕ → Bool) → CallsAvailable start after good_id
       → CommandsWriteWhatMayCome good_id before after
   commands_write-by_tests events event start end before after way good_id test =

@@ -1,6 +1,7 @@
 -- A create of an object that a node has served: it stays served over each kind of traffic, and the create that a node answers with
 -- success is served then.
-use Rattle.std.proofs.Common.{◌≡◌, ◌≢◌, ⊎_elim, arith, ℕ, zero, suc, ◌<◌, ◌-◌, true, false, cond, Bool, List, [], ◌∷◌, length, Option, Some, None, option_map, slice_get, refl, sym, ap, subst, ◌∙◌}
+use Rattle.std.proofs.Common.{◌≡◌, ◌≢◌, ⊎_elim, arith, ℕ, zero, suc, ◌<◌, ◌-◌, true, false, cond, Bool, List, [], ◌∷◌, length, Option, Some}
+use Rattle.std.proofs.Common.{None, option_map, slice_get, refl, sym, ap, subst, ◌∙◌}
 use Rattle.std.specs.FinMap as tree
 use Rattle.std.proofs.lemmas.Option.{slice_get_within}
 use Rattle.object_id.specs.declared.node.NodeId.{NodeId}
@@ -20,14 +21,16 @@ use Rattle.message_wire.specs.declared.packet.Packet.TheVariants.{Request, Reply
 use Rattle.sheep_world.specs.NodeSteps.{request_name}
 use Rattle.sheep_world.specs.WireMatch.{PacketsAreReadable}
 use Rattle.sheep_world.proofs.RecoveryMessages.{same_asked}
-use Rattle.overlap_law.specs.Attempts.{AttemptRecord, MessageFate, Flying, Served, Doomed, known_fate, fates_with, attempt_with_fate, attempts_with_fate, fate_of_say}
+use Rattle.overlap_law.specs.Attempts.{AttemptRecord, MessageFate, Flying, Served, Doomed, known_fate, fates_with, attempt_with_fate}
+use Rattle.overlap_law.specs.Attempts.{attempts_with_fate, fate_of_say}
 use Rattle.overlap_law.specs.Words.{is_served_by, has_served}
 use Rattle.overlap_law.specs.Reached.{Hosts}
 use Rattle.overlap_law.specs.Packets.{Wire, IsAsking, is_request_in_flight, message_name_at, message_request_at}
 use Rattle.overlap_law.specs.Fates.{FatesAreOfTheWire}
 use Rattle.overlap_law.specs.Rows.{HasServedACreate}
 use Rattle.overlap_law.specs.StepMoments.{attempts_with_loss}
-use Rattle.overlap_law.specs.Traffic.{Traffic, NothingMoves, MessageIsLost, ReplyIsReceived, RequestIsAnswered, RequestsAreSent, AttemptBegins, RepliesGo}
+use Rattle.overlap_law.specs.Traffic.{Traffic, NothingMoves, MessageIsLost, ReplyIsReceived, RequestIsAnswered, RequestsAreSent}
+use Rattle.overlap_law.specs.Traffic.{AttemptBegins, RepliesGo}
 use Rattle.overlap_law.proofs.AttemptLists.{got_still, map_got, fates_told, marked_shape, told_own, has_own, own_place, other_place}
 use Rattle.overlap_law.proofs.ServedPlaces.{served_at, served_from}
 use Rattle.overlap_law.proofs.WireLemmas.{tied_to}

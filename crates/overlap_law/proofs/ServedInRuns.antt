@@ -14,7 +14,8 @@ use Rattle.peer_service.specs.Serve.{EndsInside, MayServe}
 use Rattle.vdi_directory.specs.Decisions.{log_effects}
 use Rattle.sheep_node.specs.May.{May}
 use Rattle.sheep_world.specs.World.{Host, World, is_host_up}
-use Rattle.sheep_world.specs.NodeCauses.{NodeCause, GuestAsks, RequestComes, ReplyComes, LossIsTold, EntryIsRead, EntryIsPut, RecoveryTicks, WorkIsRetried, input_of_cause, IsCause}
+use Rattle.sheep_world.specs.NodeCauses.{NodeCause, GuestAsks, RequestComes, ReplyComes, LossIsTold, EntryIsRead, EntryIsPut, RecoveryTicks}
+use Rattle.sheep_world.specs.NodeCauses.{WorkIsRetried, ClientAsks, input_of_cause, IsCause}
 use Rattle.sheep_world.specs.Began.{Began}
 use Rattle.sheep_world.proofs.StepsByCause.{steps_on_may}
 use Rattle.sheep_world.proofs.WireAtEvents.{is_ready}
@@ -64,3 +65,4 @@ module _ (script : List Statement) (range : RunsAreInRange script) (world : Worl
   may-in_run (EntryIsPut entry) caused = caused_may script range world began n host there up (EntryIsPut entry) tt caused
   may-in_run RecoveryTicks caused = caused_may script range world began n host there up RecoveryTicks tt caused
   may-in_run WorkIsRetried caused = caused_may script range world began n host there up WorkIsRetried tt caused
+  may-in_run (ClientAsks req ask) caused = caused_may script range world began n host there up (ClientAsks req ask) tt caused

@@ -1,14 +1,14 @@
--- Where an attempt was served, and is so by a test of works, and each behind it on the unit may be there, by another test, or is doomed: the
--- unit may come to be read by one that is so, if what may be there is so; and each change of a moment keeps it, if what begins on the unit
--- may be there.
+-- Where an attempt was served, and is so by a test of works, and each behind it on the unit may be there, by another test, or is doomed:
+-- the unit may come to be read by one that is so, if what may be there is so; and each change of a moment keeps it, if what begins on the
+-- unit may be there.
 use Rattle.std.proofs.Common.{◌≡◌, ◌⊎◌, inl, inr, ⊎_elim, arith, ℕ, ◌<◌, ◌≤◌, ◌==◌, ◌&&◌, Bool, true, false, List, [], ◌∷◌, ◌++◌, length}
 use Rattle.std.proofs.Common.{Some, None, slice_get, get_or, sym, ap, ◌∙◌}
 use Rattle.std.proofs.lemmas.Bool.{and_from, and_parts, both_ways, cases_lt, eq-eqb, eqb-true, false_from_ne_true}
 use Rattle.std.proofs.lemmas.Option.{same_Some, slice_get_cases}
 use Rattle.cluster_script.specs.declared.statement.Statement.{Statement}
 use Rattle.peer_proto.specs.declared.work.ObjWork.{ObjWork}
-use Rattle.sheep_node.specs.declared.event.Event.{Event}
 use Rattle.sheep_world.specs.Began.{Began}
+use Rattle.sheep_world.specs.RunsWithAsks.{Move}
 use Rattle.overlap_law.specs.Attempts.{AttemptRecord, object_of}
 use Rattle.overlap_law.specs.Each.{EachAttempt}
 use Rattle.overlap_law.specs.MomentChanges.{MomentChange, MomentTrail, RunsAreInRange}
@@ -119,7 +119,7 @@ alone_comes so hosts attempts oid unit whole s = record {
 
 -- ---- over each change
 
-module _ (script : List Statement) (range : RunsAreInRange script) (events : List Event) (start before after : MomentWithPast)
+module _ (script : List Statement) (range : RunsAreInRange script) (events : List Move) (start before after : MomentWithPast)
     (run : run_with_past script events ≡ Some start) (trail : MomentTrail script start before)
     (change : MomentChange script start before after) (so may : ObjWork → Bool) (oid unit : ℕ)
     (begins : BeginsSo may before after oid unit) (s : IsServedLast so may before.world.hosts before.past.attempts oid unit) where

@@ -1,6 +1,7 @@
 -- Where an attempt was served over a kind of traffic: at the places at which it was served before, and at that of the message that is
 -- served now.
-use Rattle.std.proofs.Common.{◌≡◌, ◌≢◌, ⊎_elim, ℕ, zero, suc, ◌-◌, ◌==◌, Bool, true, cond, ◌&&◌, List, [], ◌∷◌, Option, Some, None, option_map, slice_get, refl, sym, ap, subst, ◌∙◌}
+use Rattle.std.proofs.Common.{◌≡◌, ◌≢◌, ⊎_elim, ℕ, zero, suc, ◌-◌, ◌==◌, Bool, true, cond, ◌&&◌, List, [], ◌∷◌, Option, Some, None}
+use Rattle.std.proofs.Common.{option_map, slice_get, refl, sym, ap, subst, ◌∙◌}
 use Rattle.std.specs.Option.{option_map_or}
 use Rattle.std.specs.FinMap as tree
 use Rattle.std.proofs.lemmas.Bool.{and_parts, eqb-true, eq-eqb, or_left, or_right, or_cases}
@@ -12,13 +13,15 @@ use Rattle.message_wire.specs.declared.name.MessageName.{MessageName}
 use Rattle.message_wire.specs.declared.packet.Packet.{Packet}
 use Rattle.message_wire.specs.declared.packet.Packet.TheVariants.{Request, Reply}
 use Rattle.sheep_world.proofs.RecoveryMessages.{same_asked}
-use Rattle.overlap_law.specs.Attempts.{AttemptRecord, MessageFate, Flying, Served, Doomed, known_fate, fates_with, attempts_with_fate, fate_of_say}
+use Rattle.overlap_law.specs.Attempts.{AttemptRecord, MessageFate, Flying, Served, Doomed, known_fate, fates_with, attempts_with_fate}
+use Rattle.overlap_law.specs.Attempts.{fate_of_say}
 use Rattle.overlap_law.specs.Words.{is_served, is_served_by}
 use Rattle.overlap_law.specs.Reached.{Hosts}
 use Rattle.overlap_law.specs.Packets.{Wire, IsAsking, message_name_at, message_request_at}
 use Rattle.overlap_law.specs.Fates.{FatesAreOfTheWire}
 use Rattle.overlap_law.specs.StepMoments.{attempts_with_loss}
-use Rattle.overlap_law.specs.Traffic.{IsAnswer, Traffic, NothingMoves, MessageIsLost, ReplyIsReceived, RequestIsAnswered, RequestsAreSent, AttemptBegins, RepliesGo}
+use Rattle.overlap_law.specs.Traffic.{IsAnswer, Traffic, NothingMoves, MessageIsLost, ReplyIsReceived, RequestIsAnswered, RequestsAreSent}
+use Rattle.overlap_law.specs.Traffic.{AttemptBegins, RepliesGo}
 use Rattle.overlap_law.proofs.AttemptLists.{got_more, got_marked, fates_told, told_own, has_own, own_place, other_place}
 use Rattle.overlap_law.proofs.WireLemmas.{tied_to}
 
@@ -97,7 +100,8 @@ module _ (hosts hosts_after : Hosts) (wire : Wire) (attempts : List AttemptRecor
       → slice_get was.targets place ≡ Some target → message_name_at was place ≡ name → slice_get was.fates place ≡ Some Flying
       → P was target
 
-  pub answered : AreSoOnSuccess hosts hosts_after P attempts → (name : MessageName) (to : NodeId) (bytes : List ℕ) (up : Bool) (rsp : PeerRsp)
+  pub answered : AreSoOnSuccess hosts hosts_after P attempts
+      → (name : MessageName) (to : NodeId) (bytes : List ℕ) (up : Bool) (rsp : PeerRsp)
       → tree.get wire name ≡ Some (Request to bytes) → (answer : IsAnswer hosts hosts_after name to bytes up rsp)
       → fate_of_say rsp.say ≡ Served → IsServedNow name
   answered newly name to bytes up rsp there answer served j was at place target among own flying =

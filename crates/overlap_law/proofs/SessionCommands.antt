@@ -1,5 +1,6 @@
 -- What a command comes to is its session's, step by step: its first entry, the tasks behind a grant, and the entry that publishes.
-use Rattle.std.proofs.Common.{◌≡◌, ℕ, true, false, List, [], ◌∷◌, ◌++◌, Option, Some, None, IfSome, option_map, option_and_then, refl, subst}
+use Rattle.std.proofs.Common.{◌≡◌, ℕ, true, false, List, [], ◌∷◌, ◌++◌, Option, Some, None, IfSome, option_map, option_and_then, refl}
+use Rattle.std.proofs.Common.{subst}
 use Rattle.object_id.specs.declared.oid.Vid.{Vid}
 use Rattle.object_id.specs.declared.node.NodeId.{NodeId}
 use Rattle.object_id.specs.declared.entry.Entry.{Entry}
@@ -17,8 +18,10 @@ use Rattle.vdi_directory.specs.Chains.{chain_of}
 use Rattle.vdi_directory.specs.Decisions.{log_effects, decision_after}
 use Rattle.vdi_directory.specs.Effects.{header_of}
 use Rattle.vdi_ops.specs.Entries.{first_entry}
-use Rattle.vdi_ops.specs.Op.{Task, Opening, WritingBack, Tagging, Copying, Making, OpStage, Asked, Working, Publishing, Answered, Op, OpStep}
-use Rattle.vdi_ops.specs.Steps.{first_step, begin_command, tag_step, copy_step, step_after_grant, step_after_decision, decided_at, on_decision, task_done, done_at, op_on_done}
+use Rattle.vdi_ops.specs.Op.{Task, Opening, WritingBack, Tagging, Copying, Making, OpStage, Asked, Working, Publishing, Answered, Op}
+use Rattle.vdi_ops.specs.Op.{OpStep}
+use Rattle.vdi_ops.specs.Steps.{first_step, begin_command, tag_step, copy_step, step_after_grant, step_after_decision, decided_at}
+use Rattle.vdi_ops.specs.Steps.{on_decision, task_done, done_at, op_on_done}
 use Rattle.sheep_node.proofs.ValidSteps.{given}
 use Rattle.overlap_law.specs.AwaitedEntries.{WasReserved, IsSessionsEntry, IsSessionsTask, IsSessionsStage, IsSessionsCommand}
 use Rattle.overlap_law.proofs.ReservedIds.{reserved_now}
@@ -77,14 +80,16 @@ module _ (known : List Effect) (me : NodeId) (session : ℕ) where
   unfolding begin_command
   begins-own ask disk step is = by_entry (first_entry me session disk ask) (first_own disk ask) is
     where
-      by_entry : (entry : Option Entry) → IfSome entry (IsSessionsEntry known me session) → option_map (first_step me session) entry ≡ Some step → IsOwn step.op
+      by_entry : (entry : Option Entry) → IfSome entry (IsSessionsEntry known me session)
+          → option_map (first_step me session) entry ≡ Some step → IsOwn step.op
       by_entry None own is = absurd (cc (is))
       by_entry (Some entry) own is = given IsOwnStep is (record { by = refl; of = refl; stage = own })
 
   module _ (op : Op) (by : op.by ≡ me) (of : op.session ≡ session) where
     -- ---- its work is done
 
-    task-own : (vid : Vid) (bytes : List ℕ) (task : Task) → IsSessionsTask known me session vid task → IsOwnStep (task_done op vid bytes task)
+    task-own : (vid : Vid) (bytes : List ℕ) (task : Task) → IsSessionsTask known me session vid task
+        → IsOwnStep (task_done op vid bytes task)
     task-own vid bytes (Opening true ids header) is = record { by = by; of = of; stage = tt }
     task-own vid bytes (Opening false ids header) is = record { by = by; of = of; stage = tt }
     task-own vid bytes (WritingBack inode) is = record { by = by; of = of; stage = tt }
@@ -95,15 +100,18 @@ module _ (known : List Effect) (me : NodeId) (session : ℕ) where
     -- ---- its entry is decided
 
     module _ (vid : Vid) (chain : List ℕ) (header : Header) where
-      tagged-own : (tag : List ℕ) (disk : Option Content) → WasReserved known me session vid.0 → IfSome (option_map (tag_step op vid tag header) disk) IsOwnStep
+      tagged-own : (tag : List ℕ) (disk : Option Content) → WasReserved known me session vid.0
+          → IfSome (option_map (tag_step op vid tag header) disk) IsOwnStep
       tagged-own tag None is = tt
       tagged-own tag (Some old) is = record { by = by; of = of; stage = is }
 
-      copied-own : (parent : Option Vid) → WasReserved known me session vid.0 → IfSome (option_map (copy_step op vid chain header) parent) IsOwnStep
+      copied-own : (parent : Option Vid) → WasReserved known me session vid.0
+          → IfSome (option_map (copy_step op vid chain header) parent) IsOwnStep
       copied-own None is = tt
       copied-own (Some parent) is = record { by = by; of = of; stage = is }
 
-      reserved-own : (who : NodeId) (asks : ℕ) → who ≡ me → asks ≡ session → WasReserved known who asks vid.0 → WasReserved known me session vid.0
+      reserved-own : (who : NodeId) (asks : ℕ) → who ≡ me → asks ≡ session → WasReserved known who asks vid.0
+          → WasReserved known me session vid.0
       reserved-own who asks own of_it is =
           subst (λ (m : NodeId). WasReserved known m session vid.0) own (subst (λ (s : ℕ). WasReserved known who s vid.0) of_it is)
 
@@ -131,7 +139,8 @@ module _ (known : List Effect) (me : NodeId) (session : ℕ) where
     decision-own disk entry decisions.None own is = record { by = by; of = of; stage = tt }
     decision-own disk entry (decisions.Granted vid) own is = by_header (header_of known vid.0)
       where
-        by_header : (header : Option Header) → IfSome (option_and_then (step_after_grant op vid (chain_of known vid.0) disk entry) header) IsOwnStep
+        by_header : (header : Option Header)
+            → IfSome (option_and_then (step_after_grant op vid (chain_of known vid.0) disk entry) header) IsOwnStep
         by_header None = tt
         by_header (Some header) = granted-own vid (chain_of known vid.0) header disk entry own (is vid refl)
     decision-own disk entry (decisions.Refused cause) own is = record { by = by; of = of; stage = tt }
@@ -149,12 +158,15 @@ module _ (known : List Effect) (me : NodeId) (session : ℕ) where
       by_stage (Publishing entry opened) next own = absurd (cc (next))
       by_stage (Answered change) next own = absurd (cc (next))
 
-  pub decided-own : (disk : Option Content) (decision : Decision) (op : Op) (step : OpStep) → on_decision known disk decision op ≡ Some step → IsOwn op
-      → ((entry : Entry) (vid : Vid) → op.stage ≡ Asked entry → decision ≡ decisions.Granted vid → IsReservedBy known vid entry) → IsOwn step.op
+  pub decided-own : (disk : Option Content) (decision : Decision) (op : Op) (step : OpStep) → on_decision known disk decision op ≡ Some step
+      → IsOwn op
+      → ((entry : Entry) (vid : Vid) → op.stage ≡ Asked entry → decision ≡ decisions.Granted vid → IsReservedBy known vid entry)
+      → IsOwn step.op
   unfolding on_decision
   decided-own disk decision op step next is grants = by_stage op.stage refl next is.stage
     where
-      by_stage : (stage : OpStage) → op.stage ≡ stage → decided_at known disk decision op stage ≡ Some step → IsSessionsStage known me session stage
+      by_stage : (stage : OpStage) → op.stage ≡ stage → decided_at known disk decision op stage ≡ Some step
+          → IsSessionsStage known me session stage
           → IsOwn step.op
       by_stage (Asked entry) at next own =
           if_own (step_after_decision known disk op entry decision) step

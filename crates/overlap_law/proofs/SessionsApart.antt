@@ -1,6 +1,7 @@
--- No two open works of a session are on one object: both are of reads or writes. Of those that are on an inode the session's line lets one be
--- open, and the others are on the objects of their pieces, whose indexes are apart.
-use Rattle.std.proofs.Common.{◌≡◌, ◌≢◌, ◌⊎◌, inl, inr, ⊎_elim, arith, ℕ, ◌≤◌, ◌<◌, ◌==◌, true, false, List, ◌∷◌, slice_get, All, Contains, Option, Some, None, IfSome, unwrap_or, refl, sym, ap, subst, ◌∙◌}
+-- No two open works of a session are on one object: both are of reads or writes. Of those that are on an inode the session's line lets one
+-- be open, and the others are on the objects of their pieces, whose indexes are apart.
+use Rattle.std.proofs.Common.{◌≡◌, ◌≢◌, ◌⊎◌, inl, inr, ⊎_elim, arith, ℕ, ◌≤◌, ◌<◌, ◌==◌, true, false, List, ◌∷◌, slice_get, All, Contains}
+use Rattle.std.proofs.Common.{Option, Some, None, IfSome, unwrap_or, refl, sym, ap, subst, ◌∙◌}
 use Rattle.std.specs.FinMap as tree
 use Rattle.std.proofs.lemmas.Bool.{and_from, cases_lt, eq-eqb}
 use Rattle.std.proofs.lemmas.List.Elements.{All-head}
@@ -52,7 +53,8 @@ turns_apart queue one two once there there_too apart may may_too =
     (λ (before : place < other). runs_apart queue place other one two once before at at_too may_too)
     (λ (behind : other ≤ place).
     let differ : other ≢ place
-    = λ (same : other ≡ place). apart (ap (λ (q : Queued). q.req) (same_Some one two (sym at ∙ ap (slice_get queue) (sym same) ∙ at_too))) in
+    = λ (same : other ≡ place). apart (ap (λ (q : Queued). q.req)
+    (same_Some one two (sym at ∙ ap (slice_get queue) (sym same) ∙ at_too))) in
     let flipped : AreApart two one = runs_apart queue other place two one once (omega (arith, behind, differ)) at_too at may in
     λ index own its. flipped index its own)
     (cases_lt place other)
@@ -83,28 +85,44 @@ module _ (node : Node) (well : HasWellWorks node) (queues : HasGoodQueues node) 
           → IsKnownInode well.known disk.inode
       by_session None none opened = absurd (cc (opened))
       by_session (Some found) there opened =
-          subst (λ (o : Option Disk). IfSome o (λ (d : Disk). IsKnownInode well.known d.inode)) opened (well.on_known.each_session session found there).disk
+          subst (λ (o : Option Disk). IfSome o (λ (d : Disk). IsKnownInode well.known d.inode)) opened
+          (well.on_known.each_session session found there).disk
 
   -- ---- a work beside another of its session
 
   module _ (req other : ℕ) (work : Work) (got : tree.get node.gateway.works req ≡ Some work) (request another : Request)
-      (there : tree.get node.requests req ≡ Some request) (there_too : tree.get node.requests other ≡ Some another) (own : request.session ≡ session)
+      (there : tree.get node.requests req ≡ Some request) (there_too : tree.get node.requests other ≡ Some another)
+      (own : request.session ≡ session)
       (own_too : another.session ≡ session) (apart : req ≢ other) where
     -- its request is none that is alone
     beside : is_disk_course request.course ≡ false → ⊥
-    beside off = apart (sym (well.alone.alone request.session req other another (well.alone.named req request there off) there_too (own_too ∙ sym own)))
+    beside off =
+        apart (sym (well.alone.alone request.session req other another (well.alone.named req request there off) there_too
+        (own_too ∙ sym own)))
 
     at_piece : (driver : Driver) → request.course ≡ Driving driver → (piece : Piece) (rest : List Piece) → pieces_left driver ≡ piece ∷ rest
         → IsOnPiece piece work.work → IsAtPiece req work.work
     at_piece driver at piece rest left on =
-        record { request = request; there = there; own = own; driver = driver; course = at; piece = piece; rest = rest; left = left; on = on }
+        record {
+          request = request;
+          there = there;
+          own = own;
+          driver = driver;
+          course = at;
+          piece = piece;
+          rest = rest;
+          left = left;
+          on = on;
+        }
 
-    by_stage : (disk : Disk) → (session_among session node.sessions).disk ≡ Some disk → (payload : List ℕ) (piece : Piece) (stage : DriverStage)
+    by_stage : (disk : Disk) → (session_among session node.sessions).disk ≡ Some disk
+        → (payload : List ℕ) (piece : Piece) (stage : DriverStage)
         → IsWorkOfWrite disk.inode payload piece work.work stage → IsOnPiece piece work.work
     by_stage disk opened payload piece InPlace is = inl (disk.inode.vid, ap oid_of is)
     by_stage disk opened payload piece Fetching (vid, is) = inl (vid, ap oid_of is)
     by_stage disk opened payload piece Creating (offset, bytes, is) =
-        let created : work.work ≡ works.Create (object_number disk.inode.vid piece.index) disk.inode.spec.policy (object_bytes disk.inode) offset bytes
+        let created : work.work ≡ works.Create (object_number disk.inode.vid piece.index) disk.inode.spec.policy (object_bytes disk.inode)
+        offset bytes
         = cc (is) in
         inl (disk.inode.vid, ap oid_of created)
     by_stage disk opened payload piece Entering is = inr (disk.inode.vid, (known_open disk opened).disk.id, ap oid_of is)
@@ -118,7 +136,8 @@ module _ (node : Node) (well : HasWellWorks node) (queues : HasGoodQueues node) 
     by_disk (Writes payload stage piece rest) at (Some disk) opened wanted =
         at_piece (Writes payload stage piece rest) at piece rest refl (by_stage disk opened payload piece stage wanted)
 
-    by_course : (course : Course) → request.course ≡ course → IsWorkWanted (inode_open (session_among session node.sessions).disk) course work.work
+    by_course : (course : Course) → request.course ≡ course
+        → IsWorkWanted (inode_open (session_among session node.sessions).disk) course work.work
         → IsAtPiece req work.work
     by_course (Waiting ask) at wanted = absurd wanted
     by_course (Driving driver) at wanted = by_disk driver at (session_among session node.sessions).disk refl wanted
@@ -145,7 +164,8 @@ module _ (node : Node) (well : HasWellWorks node) (queues : HasGoodQueues node) 
     queued =
         queues.queues.has session req
         (ap (is_disk_request_of session) p.there
-        ∙ and_from (p.request.session == session) (is_disk_course p.request.course) (eq-eqb p.request.session session p.own) (ap is_disk_course p.course))
+        ∙ and_from (p.request.session == session) (is_disk_course p.request.course) (eq-eqb p.request.session session p.own)
+        (ap is_disk_course p.course))
 
     covered : IsCovered req (size_and_queue (session_among session node.sessions)) (Driving p.driver)
     covered =
@@ -174,7 +194,8 @@ module _ (node : Node) (well : HasWellWorks node) (queues : HasGoodQueues node) 
       (of_one : AreOfOneSession node session req request other another) (same : oid_of work.work ≡ oid_of second.work) where
     one : IsAtPiece req work.work
     one =
-        is_at_piece req other work are.first_one request another of_one.first_one of_one.second_one of_one.first_of of_one.second_of are.apart
+        is_at_piece req other work are.first_one request another of_one.first_one of_one.second_one of_one.first_of of_one.second_of
+        are.apart
 
     two : IsAtPiece other second.work
     two =

@@ -1,6 +1,7 @@
--- Each attempt is shaped: it goes to the targets of its epoch, on an object of a disk that is known. It is so as it is opened, and stays so as
--- the log grows.
-use Rattle.std.proofs.Common.{◌≡◌, ⊎_elim, arith, ℕ, zero, suc, ◌+◌, ◌≤◌, ◌||◌, Bool, true, List, [], ◌∷◌, ◌++◌, length, filter, map, Option, Some, None, slice_get, refl, sym, ap, subst, ◌∙◌, ltb-false}
+-- Each attempt is shaped: it goes to the targets of its epoch, on an object of a disk that is known. It is so as it is opened, and stays so
+-- as the log grows.
+use Rattle.std.proofs.Common.{◌≡◌, ⊎_elim, arith, ℕ, zero, suc, ◌+◌, ◌≤◌, ◌||◌, Bool, true, List, [], ◌∷◌, ◌++◌, length, filter, map}
+use Rattle.std.proofs.Common.{Option, Some, None, slice_get, refl, sym, ap, subst, ◌∙◌, ltb-false}
 use Rattle.std.specs.Prelude.{min}
 use Rattle.std.specs.Option.{option_map}
 use Rattle.std.specs.List.{enumerate_from}
@@ -50,6 +51,7 @@ use Rattle.sheep_world.specs.EventKinds.{outcome_of_step}
 use Rattle.sheep_world.proofs.BegunWorlds.{goes_on}
 use Rattle.sheep_world.proofs.LogFrontLaws.{all_read}
 use Rattle.sheep_world.proofs.NodesByTheLog.{by_the_log}
+use Rattle.sheep_world.proofs.LogAtOpening.{nodes-valid}
 use Rattle.overlap_law.specs.Attempts.{AttemptRecord, MessageFate, object_of}
 use Rattle.overlap_law.specs.Each.{spec_in, policy_in}
 use Rattle.overlap_law.specs.Grants.{reserved_in}
@@ -81,7 +83,8 @@ pub record IsShaped (log : List Entry) (attempt : AttemptRecord) : Type 0 where
   pub before : reserved_in log (vid_of (object_of attempt)) ≤ attempt.epoch
 
 -- whatever its fates are
-refated : (log : List Entry) (attempt : AttemptRecord) (fates : List MessageFate) → IsShaped log attempt → IsShaped log (record attempt { fates = fates })
+refated : (log : List Entry) (attempt : AttemptRecord) (fates : List MessageFate) → IsShaped log attempt
+    → IsShaped log (record attempt { fates = fates })
 refated log attempt fates is = record {
   making = is.making;
   disk = record { spec = is.disk.spec; made = is.disk.made; policy_so = is.disk.policy_so };
@@ -96,7 +99,8 @@ refated log attempt fates is = record {
 none_known_yet : {P : Type 0} (log : List Entry) (vid : ℕ) (spec : VdiSpec) → spec_known (log_effects log) vid ≡ Some spec → log ≡ [] → P
 unfolding header_of
 none_known_yet log vid spec made none =
-    let nothing : spec_known (log_effects log) vid ≡ None = ap (λ (log : List Entry). spec_known (log_effects log) vid) none ∙ ap (λ (known : List Effect). spec_known known vid) log_effects-none in
+    let nothing : spec_known (log_effects log) vid ≡ None = ap (λ (log : List Entry). spec_known (log_effects log) vid) none
+    ∙ ap (λ (known : List Effect). spec_known known vid) log_effects-none in
     absurd (cc (made, nothing))
 
 pub some_entries : (log : List Entry) (vid : ℕ) (spec : VdiSpec) → spec_known (log_effects log) vid ≡ Some spec → 1 ≤ length log
@@ -108,13 +112,15 @@ pub targets_stay : (log more : List Entry) (epoch oid : ℕ) (policy : Policy) �
     → targets_by (log ++ more) epoch oid policy ≡ targets_by log epoch oid policy
 unfolding targets_by
 targets_stay log more epoch oid policy some begun =
-    ap (λ (members : List Member). targets_of members (hash_of_object oid) (wanted_of policy (kind_of oid))) (members_in-append log more epoch some begun)
+    ap (λ (members : List Member). targets_of members (hash_of_object oid) (wanted_of policy (kind_of oid)))
+    (members_in-append log more epoch some begun)
 
 -- so the attempt stays shaped
 grown : (log more : List Entry) (attempt : AttemptRecord) → IsShaped log attempt → IsShaped (log ++ more) attempt
 grown log more attempt is =
     let vid = vid_of (object_of attempt) in
-    let same : reserved_in (log ++ more) vid ≡ reserved_in log vid = reserved_stays log more vid (spec_used log vid is.disk.spec is.disk.made) in
+    let same : reserved_in (log ++ more) vid ≡ reserved_in log vid = reserved_stays log more vid
+    (spec_used log vid is.disk.spec is.disk.made) in
     let least = is.reserved in
     let most = is.before in
     let grows : epoch_of (log ++ more) ≡ epoch_of log + length (filter begins_epoch more) = epoch_of-append log more in
@@ -122,7 +128,8 @@ grown log more attempt is =
     record {
       making = is.making;
       disk = record { spec = is.disk.spec; made = spec_stays log more vid is.disk.spec is.disk.made; policy_so = is.disk.policy_so };
-      targets = is.targets ∙ sym (targets_stay log more attempt.epoch (object_of attempt) (policy_of attempt.work) (some_entries log vid is.disk.spec is.disk.made) is.begun);
+      targets = is.targets ∙ sym (targets_stay log more attempt.epoch (object_of attempt) (policy_of attempt.work)
+          (some_entries log vid is.disk.spec is.disk.made) is.begun);
       wanted = is.wanted;
       begun = omega (arith, begun, grows);
       reserved = omega (arith, same, least);
@@ -146,7 +153,8 @@ entered_newest (first ∷ later) some = entered_last (first ∷ later) (epoch_of
 receivers_are : (work : ObjWork) (first from : ℕ) (targets : List NodeId)
     → map (λ (message : Message). message.node) (map (message_for work) (enumerate_from first (enumerate_from from targets))) ≡ targets
 receivers_are work first from [] = refl
-receivers_are work first from (target ∷ targets) = ap (λ (rest : List NodeId). target ∷ rest) (receivers_are work (first + 1) (from + 1) targets)
+receivers_are work first from (target ∷ targets) =
+    ap (λ (rest : List NodeId). target ∷ rest) (receivers_are work (first + 1) (from + 1) targets)
 
 -- and begins in as many zones as are wanted
 zones_of_making : (work : ObjWork) → is_making work ≡ true → zones_for work ≡ wanted_of (policy_of work) (kind_of (oid_of work))
@@ -155,7 +163,8 @@ zones_of_making (obj_works.Write oid policy offset bytes) making = refl
 zones_of_making (obj_works.Read oid policy offset size) making = absurd (cc (making))
 zones_of_making (obj_works.ReadAll oid policy size) making = absurd (cc (making))
 
-module _ (script : List Statement) (range : RunsAreInRange script) (start : MomentWithPast) (began : Began script start.world) (after : MomentWithPast)
+module _ (script : List Statement) (range : RunsAreInRange script) (start : MomentWithPast) (began : Began script start.world)
+    (after : MomentWithPast)
     (new : AttemptRecord) (o : IsOpened script start after new) where
   abbrev input : Input
   input = input_of_cause o.stepping.cause
@@ -177,23 +186,30 @@ module _ (script : List Statement) (range : RunsAreInRange script) (start : Mome
 
   pub began_after : Began script world_after
   began_after =
-      goes_on script (event_of_cause o.stepping.n o.stepping.cause) start.world (outcome_of_step script o.stepping.n host o.stepping.cause start.world) began o.is.made
+      goes_on script (event_of_cause o.stepping.n o.stepping.cause) start.world
+      (outcome_of_step script o.stepping.n host o.stepping.cause start.world) began o.is.made
 
   -- what the node has read by then are the first entries of the log
   pub front : IsFront last.peer.entries world_after.log
-  front = all_read script world_after began_after o.stepping.n (host_with_node host last) (get-insert_same start.world.hosts o.stepping.n (host_with_node host last))
+  front =
+      all_read script world_after began_after o.stepping.n (host_with_node host last)
+      (get-insert_same start.world.hosts o.stepping.n (host_with_node host last))
 
   pub log_so : after.world.log ≡ entries ++ front.rest
   log_so =
-      ap (λ (m : MomentWithPast). m.world.log) o.moment_so ∙ front.is ∙ ap (λ (read : List Entry). read ++ front.rest) (step_reads input host.node)
+      ap (λ (m : MomentWithPast). m.world.log) o.moment_so ∙ front.is
+      ∙ ap (λ (read : List Entry). read ++ front.rest) (step_reads input host.node)
 
   follows : IsByTheLog last
-  follows = by_the_log script range.is_script range.room world_after began_after o.stepping.n (host_with_node host last) (get-insert_same start.world.hosts o.stepping.n (host_with_node host last))
+  follows =
+      by_the_log script range.is_script range.room world_after began_after o.stepping.n (host_with_node host last)
+      (get-insert_same start.world.hosts o.stepping.n (host_with_node host last))
 
   -- the node where the attempt is opened knows the same
   is_same : untouched_in (with_open_attempt o.req o.asked o.lined) ≡ untouched_in (first_in_step o.stepping)
   is_same =
-      (in_order_so_far (with_open_attempt o.req o.asked o.lined) (changes.Then o.leads (changes.Opens o.session o.req o.asked o.lined o.comes o.enough))).same
+      (in_order_so_far (with_open_attempt o.req o.asked o.lined) (changes.Then o.leads
+      (changes.Opens o.session o.req o.asked o.lined o.comes o.enough))).same
 
   peer_so : o.lined.node.peer ≡ last.peer
   peer_so = ap (λ (u : Untouched). u.peer) is_same ∙ sym (step_peer input host.node)
@@ -203,7 +219,8 @@ module _ (script : List Statement) (range : RunsAreInRange script) (start : Mome
 
   lined_epochs : o.lined.node.epochs ≡ epochs_of entries
   lined_epochs =
-      ap (λ (u : Untouched). u.epochs) is_same ∙ sym (step_epochs input host.node) ∙ follows.epochs_so ∙ ap epochs_of (step_reads input host.node)
+      ap (λ (u : Untouched). u.epochs) is_same ∙ sym (step_epochs input host.node) ∙ follows.epochs_so
+      ∙ ap epochs_of (step_reads input host.node)
 
   pub work_so : work ≡ new.work
   work_so = ap (λ (a : AttemptRecord). a.work) o.opened
@@ -215,7 +232,8 @@ module _ (script : List Statement) (range : RunsAreInRange script) (start : Mome
   disk : IsOnKnownDisk (log_effects entries) (oid_of work) (policy_of work)
   disk =
       (work_known input host.node (read_reservable script range start.world o.stepping.n host o.stepping.cause began_after)
-      (caused_known script range.is_script (effects_after input host.node) start.world o.stepping.n host o.stepping.cause o.is.caused)
+      (caused_known script range.is_script (effects_after input host.node) start.world o.stepping.n host o.stepping.cause
+      (nodes-valid script range.is_script range.room start.world began o.stepping.n host o.is.there) o.is.caused)
       (nodes_know script range start.world began o.stepping.n host o.is.there)
       o.so_far o.leads o.session o.req o.asked o.lined o.comes).making o.making
 
@@ -228,15 +246,16 @@ module _ (script : List Statement) (range : RunsAreInRange script) (start : Mome
   goes_to : new.targets ≡ asked_targets
   goes_to =
       sym (ap (λ (a : AttemptRecord). a.targets) o.opened)
-      ∙ ap (λ (places : List (ℕ × NodeId)). map (λ (message : Message). message.node) (map (message_for work) (enumerate_from o.lined.node.sends places)))
-      (targets-of_making work o.asked.ended asked_targets o.making)
+      ∙ ap (λ (places : List (ℕ × NodeId)). map (λ (message : Message). message.node)
+      (map (message_for work) (enumerate_from o.lined.node.sends places))) (targets-of_making work o.asked.ended asked_targets o.making)
       ∙ receivers_are work o.lined.node.sends 0 asked_targets
 
   targets_are : asked_targets ≡ targets_by (entries ++ front.rest) (epoch_of entries) (oid_of work) (policy_of work)
   unfolding targets_in targets_by
   targets_are =
       ap (λ (members : List Member). targets_of members (hash_of_object (oid_of work)) (wanted_of (policy_of work) (kind_of (oid_of work))))
-      ((λ i. members_at (lined_epochs i) (lined_epoch i)) ∙ members_read entries front.rest (epoch_of entries) (entered_newest entries some))
+      ((λ i. members_at (lined_epochs i) (lined_epoch i)) ∙ members_read entries front.rest (epoch_of entries)
+      (entered_newest entries some))
 
   count : length asked_targets ≡ wanted_of (policy_of work) (kind_of (oid_of work))
   count =
@@ -260,14 +279,16 @@ module _ (script : List Statement) (range : RunsAreInRange script) (start : Mome
       = ap (λ (w : ObjWork). reserved_in (entries ++ front.rest) (vid_of (oid_of w))) (sym work_so) in
       let least = within.0 in
       let most = within.1 in
-      let grows : epoch_of (entries ++ front.rest) ≡ epoch_of entries + length (filter begins_epoch front.rest) = epoch_of-append entries front.rest in
+      let grows : epoch_of (entries ++ front.rest) ≡ epoch_of entries + length (filter begins_epoch front.rest) = epoch_of-append entries
+      front.rest in
       let epoch : new.epoch ≡ epoch_of entries = epoch_so in
       record {
         making = ap is_making (sym work_so) ∙ o.making;
         disk = subst (λ (w : ObjWork). IsOnKnownDisk (log_effects (entries ++ front.rest)) (oid_of w) (policy_of w)) work_so
             (record { spec = disk.spec; made = spec_stays entries front.rest vid disk.spec disk.made; policy_so = disk.policy_so });
         targets = subst (λ (w : ObjWork). Targets w new.epoch) work_so (subst (Targets work) (sym epoch_so) (goes_to ∙ targets_are));
-        wanted = subst (λ (w : ObjWork). length new.targets ≡ wanted_of (policy_of w) (kind_of (oid_of w))) work_so (ap length goes_to ∙ count);
+        wanted = subst (λ (w : ObjWork). length new.targets ≡ wanted_of (policy_of w) (kind_of (oid_of w))) work_so
+            (ap length goes_to ∙ count);
         begun = omega (arith, epoch, grows);
         reserved = omega (arith, vid_so, same, least);
         before = omega (arith, vid_so, same, most, epoch);
@@ -281,7 +302,8 @@ module _ (script : List Statement) (range : RunsAreInRange script) (start : Mome
 policy_made : (known : List Effect) (oid : ℕ) (policy : Policy) → policy_in known oid ≡ Some policy → IsOnKnownDisk known oid policy
 policy_made known oid policy is = by_spec (spec_in known (vid_of oid)) refl is
   where
-    by_spec : (o : Option VdiSpec) → spec_in known (vid_of oid) ≡ o → option_map (λ (spec : VdiSpec). spec.policy) o ≡ Some policy → IsOnKnownDisk known oid policy
+    by_spec : (o : Option VdiSpec) → spec_in known (vid_of oid) ≡ o → option_map (λ (spec : VdiSpec). spec.policy) o ≡ Some policy
+        → IsOnKnownDisk known oid policy
     by_spec None made is = absurd (cc (is))
     by_spec (Some spec) made is = record { spec = spec; made = made; policy_so = sym (same_Some spec.policy policy is) }
 
@@ -322,13 +344,15 @@ pub opening_shaped : (script : List Statement) → AreShaped (first_moment scrip
 opening_shaped script = shaped-all (first_moment script) (λ j attempt got. absurd (cc (got)))
 
 module _ (script : List Statement) (range : RunsAreInRange script) where
-  pub change_shaped : (start before after : MomentWithPast) → Began script start.world → MomentChange script start before after → AreShaped before → AreShaped after
+  pub change_shaped : (start before after : MomentWithPast) → Began script start.world → MomentChange script start before after
+      → AreShaped before → AreShaped after
   change_shaped start before after began change are = shaped-all after (λ j now got. ⊎_elim
       (λ (w : WasAttempt before j now).
       let (more, grows) = logs_grow script change in
       subst (IsShaped after.world.log) w.same
       (refated after.world.log w.was w.fates
-      (subst (λ (log : List Entry). IsShaped log w.was) (sym grows) (grown before.world.log more w.was (shaped-each before are j w.was w.at)))))
+      (subst (λ (log : List Entry). IsShaped log w.was) (sym grows)
+      (grown before.world.log more w.was (shaped-each before are j w.was w.at)))))
       (λ (o : IsOpened script start after now). opened_shaped script range start began after now o)
       (come_from script range start began change j now got))
 

@@ -1,6 +1,7 @@
 -- What a command comes to, with a work that is done and with a decision, has tables whose entries name nothing, the disk itself, or a
 -- snapshot.
-use Rattle.std.proofs.Common.{◌≡◌, ◌⊎◌, inl, inr, ⊎_elim, ℕ, true, false, List, [], ◌∷◌, ◌++◌, Option, Some, None, IfSome, option_map, option_and_then, refl, sym, ap, subst, ◌∙◌}
+use Rattle.std.proofs.Common.{◌≡◌, ◌⊎◌, inl, inr, ⊎_elim, ℕ, true, false, List, [], ◌∷◌, ◌++◌, Option, Some, None, IfSome, option_map}
+use Rattle.std.proofs.Common.{option_and_then, refl, sym, ap, subst, ◌∙◌}
 use Rattle.std.specs.Option.{option_map_or}
 use Rattle.std.proofs.lemmas.List.Elements.{All-cons, All-weaker}
 use Rattle.std.proofs.lemmas.Option.{same_Some}
@@ -16,8 +17,10 @@ use Rattle.vdi_directory.specs.declared.header.Header.{Header}
 use Rattle.vdi_directory.specs.Chains.{chain_of}
 use Rattle.vdi_directory.specs.Decisions.{log_effects, decision_after}
 use Rattle.vdi_directory.specs.Effects.{header_of}
-use Rattle.vdi_ops.specs.Op.{Task, Opening, WritingBack, Tagging, Copying, Making, Stays, Opens, OpStage, Asked, Working, Publishing, Answered, Op, OpStep}
-use Rattle.vdi_ops.specs.Steps.{tag_step, copy_step, change_without_grant, step_after_grant, step_after_decision, decided_at, on_decision, task_done, done_at, op_on_done}
+use Rattle.vdi_ops.specs.Op.{Task, Opening, WritingBack, Tagging, Copying, Making, Stays, Opens, OpStage, Asked, Working, Publishing}
+use Rattle.vdi_ops.specs.Op.{Answered, Op, OpStep}
+use Rattle.vdi_ops.specs.Steps.{tag_step, copy_step, change_without_grant, step_after_grant, step_after_decision, decided_at, on_decision}
+use Rattle.vdi_ops.specs.Steps.{task_done, done_at, op_on_done}
 use Rattle.overlap_law.specs.LastReads.{was_snapped}
 use Rattle.overlap_law.proofs.ClaimCommands.{IsWaitedAt}
 use Rattle.overlap_law.proofs.SharedTables.{IsSharedEntry, AreShared, IsSharedMaking, IsSharedTask, IsSharedChange, IsSharedStage, table_so}

@@ -19,7 +19,8 @@ use Rattle.sheep_node.proofs.StepResults.{step_reads}
 use Rattle.sheep_world.specs.Began.{Began}
 use Rattle.sheep_world.specs.EventKinds.{log_after_return}
 use Rattle.sheep_world.specs.HostChanges.{HostsKeep}
-use Rattle.sheep_world.specs.NodeCauses.{NodeCause, GuestAsks, RequestComes, ReplyComes, LossIsTold, EntryIsRead, EntryIsPut, RecoveryTicks, WorkIsRetried, input_of_cause, IsCause}
+use Rattle.sheep_world.specs.NodeCauses.{NodeCause, GuestAsks, RequestComes, ReplyComes, LossIsTold, EntryIsRead, EntryIsPut, RecoveryTicks}
+use Rattle.sheep_world.specs.NodeCauses.{WorkIsRetried, ClientAsks, input_of_cause, IsCause}
 use Rattle.sheep_world.specs.Opening.{format_entry, initial_world}
 use Rattle.sheep_world.specs.World.{Host, World}
 use Rattle.sheep_world.proofs.BegunWorlds.{each_where}
@@ -46,6 +47,7 @@ module _ (script : List Statement) (range : RunsAreInRange script) where
   caused_taken world began n host there (EntryIsPut next) so entry from = absurd (cc (from))
   caused_taken world began n host there RecoveryTicks so entry from = absurd (cc (from))
   caused_taken world began n host there WorkIsRetried so entry from = absurd (cc (from))
+  caused_taken world began n host there (ClientAsks req ask) so entry from = absurd (cc (from))
 
   abbrev SharingWhereBegun : World → ℕ → Host → Type 0
   SharingWhereBegun world n host = Began script world → IsSharing host.node

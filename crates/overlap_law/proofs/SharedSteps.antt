@@ -14,7 +14,8 @@ use Rattle.vdi_directory.specs.declared.effect.Effect.{Effect}
 use Rattle.vdi_directory.specs.Decisions.{log_effects}
 use Rattle.guest_driver.specs.declared.disk.Disk.{Disk}
 use Rattle.vdi_ops.specs.Steps.{on_decision}
-use Rattle.vdi_ops.specs.Op.{Task, Opening, WritingBack, Tagging, Copying, Making, DiskChange, Stays, Opens, Closes, OpStage, Asked, Working, Publishing, Answered, Op, OpStep}
+use Rattle.vdi_ops.specs.Op.{Task, Opening, WritingBack, Tagging, Copying, Making, DiskChange, Stays, Opens, Closes, OpStage, Asked}
+use Rattle.vdi_ops.specs.Op.{Working, Publishing, Answered, Op, OpStep}
 use Rattle.sheep_node.specs.declared.course.Course.{Course}
 use Rattle.sheep_node.specs.declared.course.Request.{Request}
 use Rattle.sheep_node.specs.declared.course.Course.TheVariants.{Waiting, Driving, Commanding, Checking, DoingWork, AwaitingDecision}
@@ -35,7 +36,8 @@ use Rattle.overlap_law.proofs.AwaitedCommands.{waits_at}
 use Rattle.overlap_law.proofs.ClaimCommands.{IsWaitedAt}
 use Rattle.overlap_law.proofs.CountedEntries.{same_entry}
 use Rattle.overlap_law.proofs.DiskWalk.{HasStage, IsAtStage, AreSo, IsKeptByParts, none_so, received_so, so_in_chain}
-use Rattle.overlap_law.proofs.SharedTables.{IsSharedEntry, AreShared, IsSharedDisk, IsSharedMaking, IsSharedTask, IsSharedChange, IsSharedStage, begins_shared, goes_on_shared}
+use Rattle.overlap_law.proofs.SharedTables.{IsSharedEntry, AreShared, IsSharedDisk, IsSharedMaking, IsSharedTask, IsSharedChange}
+use Rattle.overlap_law.proofs.SharedTables.{IsSharedStage, begins_shared, goes_on_shared}
 use Rattle.overlap_law.proofs.SharedCommands.{done_shared, decided_shared}
 use Rattle.overlap_law.proofs.SnapshotChains.{was_then}
 

@@ -20,7 +20,6 @@ use Rattle.guest_driver.specs.PieceWorks.{object_bytes}
 use Rattle.vdi_ops.specs.InodeWorks.{write_tag}
 use Rattle.object_id.specs.Oid.{object_number}
 use Rattle.sheep_node.specs.declared.course.Request.{Request}
-use Rattle.sheep_node.specs.declared.event.Event.{Event}
 use Rattle.sheep_node.specs.declared.session.Session.{Session}
 use Rattle.sheep_node.specs.Changes.{ToWork, RequestSteps}
 use Rattle.sheep_node.specs.OneWork.{may_work_at, waiting_in}
@@ -31,6 +30,7 @@ use Rattle.sheep_node.proofs.OneWorkParts.{Sessions}
 use Rattle.sheep_world.specs.Began.{Began}
 use Rattle.sheep_world.specs.NodeCauses.{input_of_cause, host_with_node}
 use Rattle.sheep_world.specs.World.{Host}
+use Rattle.sheep_world.specs.RunsWithAsks.{Move}
 use Rattle.overlap_law.specs.MomentChanges.{MomentChange, MomentTrail, RunsAreInRange, KeptByChanges}
 use Rattle.overlap_law.specs.Past.{MomentWithPast, first_moment, run_with_past}
 use Rattle.overlap_law.specs.Reached.{Hosts}
@@ -166,6 +166,6 @@ module _ (script : List Statement) (range : RunsAreInRange script) where
     keeps = λ start before after began change all. keeps_short start before after began change all;
   }
 
-  pub short_in_run : (events : List Event) (start moment : MomentWithPast) → run_with_past script events ≡ Some start
+  pub short_in_run : (events : List Move) (start moment : MomentWithPast) → run_with_past script events ≡ Some start
       → MomentTrail script start moment → TagsAreShort moment.world.hosts
   short_in_run = on_the_way script (λ (moment : MomentWithPast). TagsAreShort moment.world.hosts) kept_short

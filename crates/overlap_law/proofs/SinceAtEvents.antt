@@ -10,12 +10,12 @@ use Rattle.vdi_directory.specs.Decisions.{log_effects}
 use Rattle.sheep_node.specs.declared.event.Event.{Event}
 use Rattle.sheep_node.specs.declared.input.Input.TheVariants as inputs
 use Rattle.sheep_world.specs.World.{Host}
-use Rattle.sheep_world.specs.Step.{EventOutcome, step}
+use Rattle.sheep_world.specs.Step.{EventOutcome}
 use Rattle.sheep_world.specs.MembershipChanges.{lost_host}
 use Rattle.sheep_world.specs.EventKinds as kinds
 use Rattle.sheep_world.specs.EventKinds.{log_after_return, EventKind}
 use Rattle.sheep_world.specs.HostChanges.{host_after_return, joined_host}
-use Rattle.sheep_world.specs.Began.{Began}
+use Rattle.sheep_world.specs.Began.{Began, MakesMove}
 use Rattle.overlap_law.specs.Past.{MomentWithPast, moment_after}
 use Rattle.overlap_law.specs.MomentChanges as moments
 use Rattle.overlap_law.specs.MomentChanges.{MomentChange, RunsAreInRange}
@@ -75,7 +75,7 @@ module _ (script : List Statement) (range : RunsAreInRange script) (start : Mome
 
   -- ---- every event
 
-  module _ (event : Event) (made : EventOutcome) (happened : step script event start.world ≡ Some made) where
+  module _ (event : Event) (made : EventOutcome) (happened : MakesMove script event start.world made) where
     abbrev after : MomentWithPast
     after = moment_after script event start made
 

@@ -1,5 +1,6 @@
 -- The moment at which a node has read an entry: each row of each node has what it owes still.
-use Rattle.std.proofs.Common.{◌≡◌, ◌≢◌, inr, ⊎_elim, arith, ℕ, suc, ◌+◌, ◌≤◌, ◌||◌, ◌∷◌, [], ◌++◌, nat_le, Bool, true, false, List, slice_get, Option, Some, refl, sym, ap, subst, ◌∙◌}
+use Rattle.std.proofs.Common.{◌≡◌, ◌≢◌, inr, ⊎_elim, arith, ℕ, suc, ◌+◌, ◌≤◌, ◌||◌, ◌∷◌, [], ◌++◌, nat_le, Bool, true, false, List}
+use Rattle.std.proofs.Common.{slice_get, Option, Some, refl, sym, ap, subst, ◌∙◌}
 use Rattle.std.specs.List.{AllByRecursion}
 use Rattle.std.specs.Option.{option_map_or}
 use Rattle.std.specs.FinMap as tree

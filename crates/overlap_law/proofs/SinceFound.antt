@@ -29,11 +29,11 @@ use Rattle.recovery.specs.Shown.{live_policy, is_pending_object}
 use Rattle.recovery.specs.State.{Search, Recovery, RecoveryState, is_listed}
 use Rattle.recovery.proofs.FoundLemmas.{live_known}
 use Rattle.recovery.proofs.TakenParts.{Each}
-use Rattle.sheep_node.specs.declared.event.Event.{Event}
 use Rattle.sheep_node.specs.RecoveryView.{shown_node}
 use Rattle.sheep_world.specs.World.{Host}
 use Rattle.sheep_world.specs.Began.{Began}
 use Rattle.sheep_world.proofs.LogFrontLaws.{all_read}
+use Rattle.sheep_world.specs.RunsWithAsks.{Move}
 use Rattle.overlap_law.specs.Attempts.{AttemptRecord, object_of, attempts_on}
 use Rattle.overlap_law.specs.Each.{end_of_row, row_covers, has_row_at, has_reached, policy_in}
 use Rattle.overlap_law.specs.Holders.{targets_by}
@@ -83,7 +83,7 @@ place_of_any test (first ∷ rows) any = ⊎_elim
 
 -- ---- a node at a moment of a run at which the invariant holds
 
-module _ (script : List Statement) (range : RunsAreInRange script) (events : List Event) (start : MomentWithPast)
+module _ (script : List Statement) (range : RunsAreInRange script) (events : List Move) (start : MomentWithPast)
     (is : run_with_past script events ≡ Some start) (good : ℕ → Bool) (needs : FoundNeeds good start) (n : ℕ) (host : Host)
     (there : tree.get start.world.hosts n ≡ Some host) (up : host.is_lost ≡ false) where
   began : Began script start.world

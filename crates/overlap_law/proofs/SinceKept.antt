@@ -9,7 +9,6 @@ use Rattle.peer_proto.specs.declared.ask.PeerReq.{PeerReq}
 use Rattle.vdi_directory.specs.Decisions.{log_effects}
 use Rattle.recovery.specs.Level.{own_index, own_part, rows_found}
 use Rattle.recovery.specs.State.{Search, RecoveryState}
-use Rattle.sheep_node.specs.declared.event.Event.{Event}
 use Rattle.sheep_node.specs.declared.input.Input.TheVariants as inputs
 use Rattle.sheep_node.specs.RecoveryView.{shown_node}
 use Rattle.sheep_node.specs.StepState.{StepState}
@@ -18,8 +17,9 @@ use Rattle.sheep_node.proofs.StepResults.{step_peer}
 use Rattle.sheep_world.specs.World.{Host}
 use Rattle.sheep_world.specs.EventKinds as kinds
 use Rattle.sheep_world.specs.NodeCauses.{NodeCause, GuestAsks, RequestComes, ReplyComes, LossIsTold, EntryIsRead, EntryIsPut}
-use Rattle.sheep_world.specs.NodeCauses.{RecoveryTicks, WorkIsRetried, input_of_cause}
+use Rattle.sheep_world.specs.NodeCauses.{RecoveryTicks, WorkIsRetried, ClientAsks, input_of_cause}
 use Rattle.sheep_world.specs.Began.{Began}
+use Rattle.sheep_world.specs.RunsWithAsks.{Move}
 use Rattle.overlap_law.specs.Each.{policy_in}
 use Rattle.overlap_law.specs.MomentChanges as moments
 use Rattle.overlap_law.specs.MomentChanges.{MomentChange, MomentTrail, RunsAreInRange, Still, Then}
@@ -56,7 +56,7 @@ use Rattle.overlap_law.proofs.StoodNodes.{TheUpHaveStood, kept_stood}
 use Rattle.overlap_law.proofs.WholeInRuns.{whole-on_the_way}
 use Rattle.overlap_law.proofs.WorksOfAttempts.{AreOfWorks, kept_works}
 
-module _ (script : List Statement) (range : RunsAreInRange script) (events : List Event) (start : MomentWithPast)
+module _ (script : List Statement) (range : RunsAreInRange script) (events : List Move) (start : MomentWithPast)
     (is : run_with_past script events ≡ Some start) where
   began : Began script start.world
   began = began-with_past script events start is
@@ -191,6 +191,13 @@ module _ (script : List Statement) (range : RunsAreInRange script) (events : Lis
         holds.tied (attempts-at_first script start s stepped by) in
         without_finds n host WorkIsRetried stepped (first_in_step s) change (step_peer (input_of_cause s.cause) host.node)
         pairs (λ may. may) (λ request same. absurd (cc (same))) (λ entry same. absurd (cc (same)))
+    step_begins n host (ClientAsks req ask) stepped by =
+        let s : SteppingNode = record { n = n; host = host; cause = (ClientAsks req ask) } in
+        let change = moments.StepBegins s stepped by in
+        let pairs = later-same script range start start (moment_in_step script s start (first_in_step s)) began change terms holds.shaped
+        holds.tied (attempts-at_first script start s stepped by) in
+        without_finds n host (ClientAsks req ask) stepped (first_in_step s) change (step_peer (input_of_cause s.cause) host.node)
+        pairs (λ may. may) (λ request same. absurd (cc (same))) (λ entry same. absurd (cc (same)))
 
     step_is_made : (n : ℕ) (host : Host) (cause : NodeCause)
         → (stepped : IsStepping script start.world (record { n = n; host = host; cause = cause })) → StepsAtOnce cause
@@ -221,6 +228,7 @@ module _ (script : List Statement) (range : RunsAreInRange script) (events : Lis
         with_finds n host RecoveryTicks stepped (last_in_step s) change refl pairs
         (λ request same. absurd (cc (same))) (λ entry same. absurd (cc (same)))
     step_is_made n host WorkIsRetried stepped by = absurd by
+    step_is_made n host (ClientAsks req ask) stepped by = absurd by
 
   -- ---- in the middle of a step
 

@@ -11,7 +11,6 @@ use Rattle.epoch_log.specs.Appending.{IsReservable}
 use Rattle.vdi_directory.specs.Decisions.{outcome, log_effects}
 use Rattle.vdi_directory.specs.States.{state_of, is_live_state}
 use Rattle.vdi_directory.proofs.LawfulEntries.{lawful-outcome, sound-log_effects}
-use Rattle.sheep_node.specs.declared.event.Event.{Event}
 use Rattle.overlap_law.specs.Attempts.{AttemptRecord}
 use Rattle.overlap_law.specs.Each.{spec_in}
 use Rattle.overlap_law.specs.LastReads.{snaps}
@@ -34,6 +33,7 @@ use Rattle.overlap_law.specs.Reached.{Hosts}
 use Rattle.overlap_law.specs.LastReads.{was_snapped}
 use Rattle.overlap_law.proofs.ClosedSnapshots.{snapped_no_more, snapped-push}
 use Rattle.overlap_law.proofs.FrozenSnapshots.{snapshot_so, taken_now, spec_before, used_spec, was_come}
+use Rattle.sheep_world.specs.RunsWithAsks.{Move}
 
 -- what became a snapshot is an id that is used
 snapped_used : (log : List Entry) (vid : ℕ) → was_snapped log vid ≡ true → is_used (log_effects log) vid ≡ true
@@ -54,7 +54,7 @@ snapshots_frozen log good_id hosts attempts snapped = record {
       snapshot));
 }
 
-module _ (script : List Statement) (range : RunsAreInRange script) (events : List Event) (start before after : MomentWithPast)
+module _ (script : List Statement) (range : RunsAreInRange script) (events : List Move) (start before after : MomentWithPast)
     (is : run_with_past script events ≡ Some start) (trail : MomentTrail script start before)
     (change : MomentChange script start before after)
     (good_id : ℕ → Bool) where

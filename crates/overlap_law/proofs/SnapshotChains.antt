@@ -1,6 +1,7 @@
--- Of whatever log, an id above one that is published and not deleted is that of a disk which became a snapshot: what a clone is made of is one, and
--- the id that takes a snapshot's place is published as the disk becomes one.
-use Rattle.std.proofs.Common.{◌≡◌, ◌⊎◌, inl, inr, ⊎_elim, arith, ℕ, ◌≤◌, ◌==◌, ◌||◌, Bool, true, false, cond, List, [], ◌∷◌, ◌++◌, Some, None, refl, sym, ap, subst, ◌∙◌}
+-- Of whatever log, an id above one that is published and not deleted is that of a disk which became a snapshot: what a clone is made of is
+-- one, and the id that takes a snapshot's place is published as the disk becomes one.
+use Rattle.std.proofs.Common.{◌≡◌, ◌⊎◌, inl, inr, ⊎_elim, arith, ℕ, ◌≤◌, ◌==◌, ◌||◌, Bool, true, false, cond, List, [], ◌∷◌, ◌++◌, Some}
+use Rattle.std.proofs.Common.{None, refl, sym, ap, subst, ◌∙◌}
 use Rattle.std.specs.Option.{option_or}
 use Rattle.std.proofs.lemmas.Bool.{eq-eqb, eqb-true, or_cases, or_right}
 use Rattle.std.proofs.lemmas.List.Folds.{find-append}
@@ -56,7 +57,8 @@ snapshot-from vid state (effects.Snapped snap) is = by_test (snap.old.0 == vid) 
     by_new true (tag, same) = absurd (cc (same))
     by_new false is = inr is
 
-    by_test : (b : Bool) → (snap.old.0 == vid) ≡ b → IsLiveSnapshot (cond b (states.Snapshot snap.tag) (cond (snap.vid.0 == vid) states.Working state))
+    by_test : (b : Bool) → (snap.old.0 == vid) ≡ b
+        → IsLiveSnapshot (cond b (states.Snapshot snap.tag) (cond (snap.vid.0 == vid) states.Working state))
         → ((snap.old.0 == vid) ≡ true) ⊎ IsLiveSnapshot state
     by_test true here is = inl here
     by_test false apart is = by_new (snap.vid.0 == vid) is
@@ -104,7 +106,8 @@ module _ (log : List Entry) (entry : Entry) (vid : ℕ) where
       snapped-push log entry vid
       ∙ or_right (was_snapped log vid) (snaps vid (outcome (log_effects log) entry).effect || false) (ap (λ (b : Bool). b || false) is)
 
-  pub state_then : state_of (log_effects (log ++ entry ∷ [])) vid ≡ state_after vid (state_of (log_effects log) vid) (outcome (log_effects log) entry).effect
+  pub state_then : state_of (log_effects (log ++ entry ∷ [])) vid
+      ≡ state_after vid (state_of (log_effects log) vid) (outcome (log_effects log) entry).effect
   state_then =
       ap (λ (all : List Effect). state_of all vid) (log_effects-push log entry)
       ∙ state_of-push (log_effects log) (outcome (log_effects log) entry).effect vid
@@ -122,7 +125,8 @@ snapshot_was vid = by_entries (λ (log : List Entry). IsLiveSnapshot (state_of (
     one_more log entry before is = ⊎_elim
         (λ (now : snaps vid (outcome (log_effects log) entry).effect ≡ true). is_now log entry vid now)
         (λ (live : IsLiveSnapshot (state_of (log_effects log) vid)). was_then log entry vid (before live))
-        (snapshot-from vid (state_of (log_effects log) vid) (outcome (log_effects log) entry).effect (subst IsLiveSnapshot (state_then log entry vid) is))
+        (snapshot-from vid (state_of (log_effects log) vid) (outcome (log_effects log) entry).effect
+        (subst IsLiveSnapshot (state_then log entry vid) is))
 
 -- ---- what is above an id
 
@@ -158,10 +162,12 @@ if_some true tag given is = refl
 if_some false tag given is = absurd (cc (is))
 
 -- and takes one place
-one_place : (old : Vid) (elder : ℕ) (source : Source) (tag : List ℕ) → tag_for old source ≡ Some tag → IsInPlaceOf elder source → (old.0 == elder) ≡ true
+one_place : (old : Vid) (elder : ℕ) (source : Source) (tag : List ℕ) → tag_for old source ≡ Some tag → IsInPlaceOf elder source
+    → (old.0 == elder) ≡ true
 one_place old elder sources.Fresh tag is place = absurd (cc (is))
 one_place old elder (sources.Snapshot of given) tag is place =
-    eq-eqb old.0 elder (sym (eqb-true of.0 old.0 (if_some (of.0 == old.0) given tag is)) ∙ eqb-true of.0 elder (if_some (of.0 == elder) given place.0 place.1))
+    eq-eqb old.0 elder (sym (eqb-true of.0 old.0 (if_some (of.0 == old.0) given tag is))
+    ∙ eqb-true of.0 elder (if_some (of.0 == elder) given place.0 place.1))
 one_place old elder sources.Clone tag is place = absurd (cc (is))
 
 module _ (before : List Effect) (sound : IsSound before) (elder vid : ℕ) (r : Reservation)
@@ -188,8 +194,8 @@ module _ (before : List Effect) (sound : IsSound before) (elder vid : ℕ) (r : 
       let works : state_of before vid ≡ states.Working = ap (state_of before) (sym (eqb-true snap.old.0 vid old)) ∙ lawful.0.state in
       absurd (cc (sym reserved ∙ works)))
       (λ (new : (snap.vid.0 == vid) ≡ true).
-      inl (one_place snap.old elder r.source snap.tag (ap (λ (r : Reservation). tag_for snap.old r.source) (sym (the_same snap.vid so.0 new so.1)) ∙ so.2) place))
-      (or_cases (snap.old.0 == vid) (snap.vid.0 == vid) takes)
+      inl (one_place snap.old elder r.source snap.tag (ap (λ (r : Reservation). tag_for snap.old r.source)
+      (sym (the_same snap.vid so.0 new so.1)) ∙ so.2) place)) (or_cases (snap.old.0 == vid) (snap.vid.0 == vid) takes)
   taken (effects.Deleted of name) lawful so takes = absurd (cc (takes))
   taken (effects.Held of holder) lawful so takes = absurd (cc (takes))
   taken (effects.Freed of) lawful so takes = inr (inl found)
@@ -220,7 +226,8 @@ module _ (log : List Entry) (entry : Entry) where
   so = outcome_so (log_effects log) (sound-log_effects log) entry
 
   found_then : (vid : ℕ) → reservation_on (record { 0 = vid }) (reservations_of (log_effects (log ++ entry ∷ [])))
-      ≡ reservation_on (record { 0 = vid }) (reservations_after (reservations_of (log_effects log)) (outcome (log_effects log) entry).effect)
+      ≡ reservation_on (record { 0 = vid }) (reservations_after (reservations_of (log_effects log))
+      (outcome (log_effects log) entry).effect)
   found_then vid =
       ap (λ (all : List Effect). reservation_on (record { 0 = vid }) (reservations_of all)) (log_effects-push log entry)
       ∙ ap (reservation_on (record { 0 = vid })) (reservations_of-push before does)
@@ -233,10 +240,14 @@ module _ (log : List Entry) (entry : Entry) where
         by_take false keeps = inr (inl (r, found_then vid ∙ reservation_stays before sound vid r does found keeps, place))
         by_take true takes = ⊎_elim
             (λ (now : snaps elder (outcome (log_effects log) entry).effect ≡ true). inl (is_now log entry elder now))
-            (λ (other : (reservation_on (record { 0 = vid }) (reservations_after (reservations_of (log_effects log)) (outcome (log_effects log) entry).effect) ≡ Some r)
+            (λ (other : (reservation_on (record {
+              0 = vid;
+            }) (reservations_after (reservations_of (log_effects log)) (outcome (log_effects log) entry).effect) ≡ Some r)
             ⊎ (rank (state_after vid (state_of (log_effects log) vid) (outcome (log_effects log) entry).effect) ≡ 4)).
             ⊎_elim
-            (λ (still : reservation_on (record { 0 = vid }) (reservations_after (reservations_of (log_effects log)) (outcome (log_effects log) entry).effect) ≡ Some r).
+            (λ (still : reservation_on (record {
+              0 = vid;
+            }) (reservations_after (reservations_of (log_effects log)) (outcome (log_effects log) entry).effect) ≡ Some r).
             inr (inl (r, found_then vid ∙ still, place)))
             (λ (four : rank (state_after vid (state_of (log_effects log) vid) (outcome (log_effects log) entry).effect) ≡ 4).
             inr (inr (ap rank (state_then log entry vid) ∙ four)))
@@ -303,11 +314,13 @@ module _ (log : List Entry) (entry : Entry) where
       → is_above (log_effects (log ++ entry ∷ [])) elder vid ≡ true → HasElder (log ++ entry ∷ []) elder vid
   elders_then all elder vid above = ⊎_elim
       (λ (old : is_above (log_effects log) elder vid ≡ true). old_then elder vid (all elder vid old))
-      (λ (new : (grant : Grant) × (does ≡ effects.Reserved grant) × ((grant.reservation.vid.0 == vid) ≡ true) × (is_parent_or_above (is_above before) elder grant.header.parent ≡ true)).
+      (λ (new : (grant : Grant) × (does ≡ effects.Reserved grant) × ((grant.reservation.vid.0 == vid) ≡ true)
+      × (is_parent_or_above (is_above before) elder grant.header.parent ≡ true)).
       let parent = parent-cases before elder new.0.header.parent new.3 in
       new_then elder vid all new.0 new.1 new.2 parent.0 parent.1 parent.2)
       (above-cases before does elder vid
-      (sym (ap (λ (effects : List Effect). is_above effects elder vid) (log_effects-push log entry) ∙ is_above-push before elder vid does) ∙ above))
+      (sym (ap (λ (effects : List Effect). is_above effects elder vid) (log_effects-push log entry) ∙ is_above-push before elder vid does)
+      ∙ above))
 
 none_above : (elder vid : ℕ) → is_above [] elder vid ≡ true → ⊥
 unfolding is_above chain_of
@@ -318,7 +331,8 @@ elders = by_entries (λ (log : List Entry). (elder vid : ℕ) → is_above (log_
     (λ elder vid above. absurd (none_above elder vid (subst (λ (all : List Effect). is_above all elder vid ≡ true) log_effects-none above)))
     (λ log entry all. elders_then log entry all)
 
-pub chain_snapped : (log : List Entry) (elder vid : ℕ) → is_above (log_effects log) elder vid ≡ true → is_live_state (state_of (log_effects log) vid) ≡ true
+pub chain_snapped : (log : List Entry) (elder vid : ℕ) → is_above (log_effects log) elder vid ≡ true
+    → is_live_state (state_of (log_effects log) vid) ≡ true
     → was_snapped log elder ≡ true
 chain_snapped log elder vid above live = by_elder (elders log elder vid above)
   where

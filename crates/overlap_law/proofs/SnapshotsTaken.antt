@@ -28,7 +28,6 @@ use Rattle.sheep_node.specs.OwnEntries.{IsEntryOf}
 use Rattle.sheep_node.specs.declared.course.Course.{Course}
 use Rattle.sheep_node.specs.declared.course.Course.TheVariants.{Commanding}
 use Rattle.sheep_node.specs.declared.course.Request.{Request}
-use Rattle.sheep_node.specs.declared.event.Event.{Event}
 use Rattle.sheep_node.specs.declared.session.Session.{Session}
 use Rattle.sheep_node.specs.State.{new_session}
 use Rattle.sheep_node.specs.May.{is_disk_course}
@@ -36,6 +35,7 @@ use Rattle.sheep_node.specs.SessionQueues.{CommandsAreAlone, command_in}
 use Rattle.sheep_world.specs.Began.{Began}
 use Rattle.sheep_world.specs.World.{Host}
 use Rattle.sheep_world.proofs.NodesByTheLog.{knows_its_number}
+use Rattle.sheep_world.specs.RunsWithAsks.{Move}
 use Rattle.overlap_law.specs.CommandDisks.{opened_as, opened_in, IsOpenAtCourse, IsOpenAtStage}
 use Rattle.overlap_law.specs.Courses.{IsOfStage, WaitsFor}
 use Rattle.overlap_law.specs.MomentChanges.{RunsAreInRange}
@@ -114,7 +114,7 @@ writes-object vid index (Write oid policy offset bytes) is =
 writes-object vid index (Read oid policy offset size) is = absurd (cc (is))
 writes-object vid index (ReadAll oid policy size) is = absurd (cc (is))
 
-module _ (script : List Statement) (range : RunsAreInRange script) (events : List Event) (start : MomentWithPast)
+module _ (script : List Statement) (range : RunsAreInRange script) (events : List Move) (start : MomentWithPast)
     (is : run_with_past script events ≡ Some start) (n : ℕ) (host : Host) (there : tree.get start.world.hosts n ≡ Some host)
     (up : host.is_lost ≡ false) where
   began : Began script start.world

@@ -1,6 +1,7 @@
 -- Of strips that aren't torn, one acknowledged item stands; so attempts by which a block may come to be read are alike there, unless the
 -- block is being written.
-use Rattle.std.proofs.Common.{◌≡◌, ◌≢◌, ◌⊎◌, inl, inr, ⊎_elim, ℕ, zero, suc, ◌+◌, ◌*◌, ◌<◌, ◌==◌, ◌&&◌, ◌||◌, not, Bool, true, false, cond, List, [], ◌∷◌, ◌++◌, length, filter, Option, Some, None, slice_get, refl, sym, ap, subst, ◌∙◌}
+use Rattle.std.proofs.Common.{◌≡◌, ◌≢◌, ◌⊎◌, inl, inr, ⊎_elim, ℕ, zero, suc, ◌+◌, ◌*◌, ◌<◌, ◌==◌, ◌&&◌, ◌||◌, not, Bool, true, false, cond}
+use Rattle.std.proofs.Common.{List, [], ◌∷◌, ◌++◌, length, filter, Option, Some, None, slice_get, refl, sym, ap, subst, ◌∙◌}
 use Rattle.std.specs.List.{list_any}
 use Rattle.std.specs.Str.{bytes_eq}
 use Rattle.std.proofs.lemmas.Bool.{and_from, both_ways, or_left, or_right}
@@ -20,7 +21,8 @@ use Rattle.overlap_law.specs.SoundUnwritten.{IsBeingWritten, StripsComeAlike, St
 use Rattle.overlap_law.specs.StayingBlocks.{IsBlockOfAnyDisk, IsHomeToCome, MayStay, BlocksStayWritten, Stays, WasServed}
 use Rattle.overlap_law.specs.ToCome.{IsToCome}
 use Rattle.overlap_law.specs.Words.{Hosts, is_doomed, is_mute, bytes_by, covering, own_base_of, later_on}
-use Rattle.overlap_law.specs.WrittenBlocks.{IsBlockOfDisk, IsHome, blocks_per_object, is_torn_here, items_at, may_come_out, outcomes, outcomes_by}
+use Rattle.overlap_law.specs.WrittenBlocks.{IsBlockOfDisk, IsHome, blocks_per_object, is_torn_here, items_at, may_come_out, outcomes}
+use Rattle.overlap_law.specs.WrittenBlocks.{outcomes_by}
 use Rattle.overlap_law.proofs.AttemptLists.{got_more}
 use Rattle.overlap_law.proofs.BlocksOfAnyDisk.{any_block}
 use Rattle.overlap_law.proofs.Candidates.{candidate_comes}

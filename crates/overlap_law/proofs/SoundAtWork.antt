@@ -1,6 +1,7 @@
 -- A request that writes on a disk stays at its gateway over whatever event that doesn't end its writes: who has a reply has ended them, and
 -- who is lost with its gateway.
-use Rattle.std.proofs.Common.{◌≡◌, ◌≢◌, inl, inr, ⊎_elim, ℕ, Bool, true, false, not, List, [], ◌∷◌, ◌++◌, fold, Contains, Option, Some, None, is_some, refl, sym, ap, subst, ◌∙◌}
+use Rattle.std.proofs.Common.{◌≡◌, ◌≢◌, inl, inr, ⊎_elim, ℕ, Bool, true, false, not, List, [], ◌∷◌, ◌++◌, fold, Contains, Option, Some}
+use Rattle.std.proofs.Common.{None, is_some, refl, sym, ap, subst, ◌∙◌}
 use Rattle.std.specs.Prelude.{flat_map}
 use Rattle.std.specs.List.{list_any}
 use Rattle.std.specs.Option.{option_map_or}
@@ -25,11 +26,15 @@ use Rattle.sheep_node.proofs.StepReplies.{back-silent, put-silent}
 use Rattle.sheep_world.specs.World.{Host, World, is_host_up}
 use Rattle.sheep_world.specs.Began.{Began}
 use Rattle.sheep_world.specs.Effects.{request_started}
-use Rattle.sheep_world.specs.EventKinds.{log_after_return, outcome_of_step, EventKind, NodeStep, UntoldLoss, UnreadDelivery, NodeLoss, NodeLeave, NodeReweight, NodeJoin, NodeReturn, PhaseEnd}
-use Rattle.sheep_world.specs.HistoryAdditions.{check_write_by, check_write_grown, disk_of, has_begun_check_write, replies_grown, reply_grown, request_grown, writers_lost}
+use Rattle.sheep_world.specs.EventKinds.{log_after_return, EventKind, NodeStep, UntoldLoss, UnreadDelivery, NodeLoss, NodeLeave}
+use Rattle.sheep_world.specs.EventKinds.{NodeReweight, NodeJoin, NodeReturn, PhaseEnd}
+use Rattle.sheep_world.specs.HistoryAdditions.{check_write_by, check_write_grown, has_begun_check_write, replies_grown, reply_grown}
+use Rattle.sheep_world.specs.HistoryAdditions.{request_grown, writers_lost}
 use Rattle.sheep_world.specs.HostChanges.{joined_host, host_after_return}
 use Rattle.sheep_world.specs.MembershipChanges.{lost_host}
-use Rattle.sheep_world.specs.NodeCauses.{NodeCause, GuestAsks, RequestComes, ReplyComes, LossIsTold, EntryIsRead, EntryIsPut, RecoveryTicks, WorkIsRetried, input_of_cause, IsCause, history_of_cause, host_with_node, progress_at_cause, world_after_cause}
+use Rattle.sheep_world.specs.NodeCauses.{NodeCause, GuestAsks, RequestComes, ReplyComes, LossIsTold, EntryIsRead, EntryIsPut, RecoveryTicks}
+use Rattle.sheep_world.specs.NodeCauses.{WorkIsRetried, ClientAsks, input_of_cause, IsCause, history_of_cause, host_with_node}
+use Rattle.sheep_world.specs.NodeCauses.{progress_at_cause, world_after_cause}
 use Rattle.sheep_world.specs.NodeSteps.{progress_after_reply}
 use Rattle.sheep_world.specs.Step.{EventOutcome}
 use Rattle.sheep_world.proofs.BegunRequestLaws.{new-begun, were_begun}
@@ -46,12 +51,13 @@ use Rattle.overlap_law.proofs.ItemsOfWriters.{Writing, IsWritingIn, stays_writin
 use Rattle.overlap_law.proofs.KnownSteps.{together}
 use Rattle.overlap_law.proofs.RefusedInRuns.{AreAnswered}
 use Rattle.overlap_law.proofs.RepliesApart.{step_apart}
-use Rattle.overlap_law.proofs.SessionsOfRequests.{IsAskedIn, asked_so_far, brought, are_asked}
+use Rattle.overlap_law.proofs.SessionsOfRequests.{are_asked_by_line, of_asking}
 use Rattle.overlap_law.proofs.SoundEnds.{replied_ends, lost_ends}
-use Rattle.overlap_law.proofs.SoundReplies.{ThereSoFar, there_or_replied}
+use Rattle.overlap_law.proofs.SoundReplies.{there_or_replied}
 use Rattle.overlap_law.proofs.StartedOnce.{UnansweredAreOnce, caused_once, disk_of_began}
-use Rattle.overlap_law.proofs.UnansweredRequests.{Guests, others_unreplied}
-use Rattle.sheep_node.proofs.StepChain.{step_chain}
+use Rattle.overlap_law.proofs.UnansweredRequests.{Guests}
+use Rattle.sheep_world.proofs.AsksNumbers.{next_is_new}
+use Rattle.overlap_law.proofs.RepliesElsewhere.{unreplied_elsewhere}
 
 -- a request is at a gateway that isn't lost, and began on a disk
 pub record IsAtWork (script : List Statement) (hosts : Hosts) (guests : Guests) (req vid : ℕ) : Type 0 where
@@ -121,6 +127,13 @@ module _ (script : List Statement) (range : RunsAreInRange script) (world : Worl
           by_cause (EntryIsPut entry) caused number ask from = cc (from)
           by_cause RecoveryTicks caused number ask from = cc (from)
           by_cause WorkIsRetried caused number ask from = cc (from)
+          by_cause (ClientAsks begins what) caused number ask from =
+              let same : begins ≡ req = cc (from) in
+              let free : tree.get host.node.requests begins ≡ None
+              = subst (λ (k : ℕ). tree.get host.node.requests k ≡ None) caused.number
+              (next_is_new script range.is_script world began n host there) in
+              let both : None ≡ Some request = sym free ∙ ap (tree.get host.node.requests) same ∙ got in
+              cc (both)
 
       -- where it isn't replied to it stays at work
       unreplied : (later : Host) (m : ℕ) → tree.get (after cause).hosts m ≡ Some later → later.is_lost ≡ false → (now : Request)
@@ -155,7 +168,8 @@ module _ (script : List Statement) (range : RunsAreInRange script) (world : Worl
               let found = request_started session (Some other) world in
               behind (request_grown script world session (Some other))
               (replies_grown script found None (after (GuestAsks session other ask)))
-              (told_ends found None (GuestAsks session other ask) vid rsp among single at ((writes found there None).does (req, rsp) among refl))
+              (told_ends found None (GuestAsks session other ask) vid rsp among single at
+              ((writes found there None).does (req, rsp) among refl))
           by_cause (RequestComes name to asked) caused at single writes among =
               let write = check_write_by name world (after (RequestComes name to asked)) in
               behind (option_map_or (check_write_grown script) write [])
@@ -179,6 +193,8 @@ module _ (script : List Statement) (range : RunsAreInRange script) (world : Worl
               told_ends world None RecoveryTicks vid rsp among single at ((writes world there None).does (req, rsp) among refl)
           by_cause WorkIsRetried caused at single writes among =
               told_ends world None WorkIsRetried vid rsp among single at ((writes world there None).does (req, rsp) among refl)
+          by_cause (ClientAsks number asks) caused at single writes among =
+              told_ends world None (ClientAsks number asks) vid rsp among single at ((writes world there None).does (req, rsp) among refl)
 
       -- at the node that steps
       pub own_stays : ((rsp : GuestRsp) → Contains (replies cause) (req, rsp) → Ends (history_of_cause script cause world (after cause)))
@@ -199,13 +215,9 @@ module _ (script : List Statement) (range : RunsAreInRange script) (world : Worl
         → IsAtWork script (after cause).hosts (after cause).guests req vid
     other_stays cause caused vid work apart =
         unreplied_other
-        (λ reply among same.
-        let (session, disk, here) = (asked_so_far script n host.incarnation (input_of_cause cause) host.node
-        (brought script world n host cause caused) (are_asked script world began n host there)
-        (step_chain (input_of_cause cause) host.node)).replied reply among in
-        others_unreplied script n work.n host.incarnation work.host.incarnation req session work.request.session apart
-        (subst (λ (k : ℕ). IsAskedIn script n host.incarnation k session) same here)
-        (are_asked script world began work.n work.host work.there req work.request work.got))
+        (λ reply among.
+        unreplied_elsewhere script range.is_script world began n work.n host work.host there work.there apart req work.request work.got
+        cause caused reply among)
       where
         unreplied_other : ((reply : ℕ × GuestRsp) → Contains (replies cause) reply → reply.0 ≢ req)
             → IsAtWork script (after cause).hosts (after cause).guests req vid
@@ -273,7 +285,8 @@ module _ (script : List Statement) (range : RunsAreInRange script) (world : Worl
         = ap (λ (host : Host). tree.get host.node.requests req) (sym found) ∙ work.got in
         absurd (both_ways (list_any (ends_write_of req) (writers_lost script world h.n (Some h.host))) unended
         (lost_ends script range world h.n h.host h.there req work.request got
-        (are_asked script world began h.n h.host h.there req work.request got) writes
+        (are_asked_by_line script world began h.n h.host h.there req work.request got
+        (of_asking script req work.on.session work.on.asking)) writes
         (ap is_some (disk_of_began script world once req (Some vid) work.on)))))
         (λ (apart : work.n ≢ h.n). moved h.n (lost_host h.host) world.guests apart work.on)
         (cases_eq work.n h.n))

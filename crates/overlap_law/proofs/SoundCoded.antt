@@ -15,14 +15,16 @@ use Rattle.cluster_script.specs.declared.statement.Statement.TheVariants as line
 use Rattle.cluster_script.specs.NumberedRequests.{payload_of, request_at}
 use Rattle.cluster_script.specs.Statements.{is_check}
 use Rattle.disk_history.specs.declared.event.HistEvent.{HistEvent}
-use Rattle.disk_history.specs.declared.event.HistEvent.TheVariants.{Create, Copy, Delete, WriteStart, WriteDone, WriteRefused, WriterLost, Read}
+use Rattle.disk_history.specs.declared.event.HistEvent.TheVariants.{Create, Copy, Delete, WriteStart, WriteDone, WriteRefused, WriterLost}
+use Rattle.disk_history.specs.declared.event.HistEvent.TheVariants.{Read}
 use Rattle.disk_history.specs.Changes.{items_in}
 use Rattle.disk_history.specs.Ledger.{Mark, Acknowledged, Lost, Item, Ledger, has_block, is_item_of, item_with_mark, ledger_after}
 use Rattle.disk_history.specs.Legal.{is_acknowledged}
 use Rattle.disk_history.specs.Ledger as histories
 use Rattle.guest_driver.specs.declared.disk.Disk.{Disk}
 use Rattle.sheep_node.specs.declared.check_write.CheckWrite.{CheckWrite}
-use Rattle.sheep_world.specs.HistoryAdditions.{begins_on, block_checked, block_in, block_written, check_write_adds, check_write_grown, is_on_disk}
+use Rattle.sheep_world.specs.HistoryAdditions.{begins_on, block_checked, block_in, block_written, check_write_adds, check_write_grown}
+use Rattle.sheep_world.specs.HistoryAdditions.{is_on_disk}
 use Rattle.overlap_law.specs.DiskEvents.{begins_by_others}
 use Rattle.overlap_law.proofs.BlockItems.{apart_back, new_item, items_then, makes_disk, blocks_along, has_alike, kept_along}
 use Rattle.overlap_law.proofs.DiskEventsOfHolders.{flat_none, map_none}

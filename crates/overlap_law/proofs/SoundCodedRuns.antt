@@ -36,16 +36,17 @@ use Rattle.sheep_node.specs.declared.check_write.CheckWrite.{CheckWrite}
 use Rattle.sheep_node.specs.declared.event.Event.{Event}
 use Rattle.sheep_node.specs.declared.input.Input.TheVariants as inputs
 use Rattle.sheep_node.specs.CheckWrites.{check_write_on, write_of_value}
-use Rattle.sheep_world.specs.Began.{Began}
+use Rattle.sheep_world.specs.Began.{Began, MakesMove}
 use Rattle.sheep_world.specs.Effects.{open_disk_at, request_started}
 use Rattle.sheep_world.specs.EventKinds.{EventKind, NodeStep, UntoldLoss, UnreadDelivery, NodeLoss, NodeLeave, NodeReweight, NodeJoin, NodeReturn, PhaseEnd}
 use Rattle.sheep_world.specs.Granted.{granted_header, disk_cloned, disk_made, granted_adds, decided_adds, entry_adds}
 use Rattle.sheep_world.specs.HistoryAdditions.{check_write_by, check_write_grown, is_lost_write, replies_grown, request_grown, writers_lost}
 use Rattle.sheep_world.specs.MembershipChanges.{join_of, last_weight}
-use Rattle.sheep_world.specs.NodeCauses.{NodeCause, GuestAsks, RequestComes, ReplyComes, LossIsTold, EntryIsRead, EntryIsPut, RecoveryTicks, WorkIsRetried, IsCause, history_of_cause, world_after_cause}
-use Rattle.sheep_world.specs.Step.{EventOutcome, step}
+use Rattle.sheep_world.specs.NodeCauses.{NodeCause, GuestAsks, RequestComes, ReplyComes, LossIsTold, EntryIsRead, EntryIsPut, RecoveryTicks, WorkIsRetried, ClientAsks, IsCause, history_of_cause, world_after_cause}
+use Rattle.sheep_world.specs.Step.{EventOutcome}
 use Rattle.sheep_world.specs.World.{Host, World, is_host_up, node_at}
-use Rattle.sheep_world.proofs.EventInversion.{happens}
+use Rattle.sheep_world.proofs.ClientReads.{goes_by_kind}
+use Rattle.sheep_world.specs.RunsWithAsks.{Move}
 use Rattle.overlap_law.specs.DiskBlocks.{HasItsBlocks}
 use Rattle.overlap_law.specs.DiskEvents.{begins_by_others}
 use Rattle.overlap_law.specs.Each.{spec_in}
@@ -185,7 +186,7 @@ module _ (log : List Entry) (reservable : All IsReservable log) (ledger : Ledger
 -- ---- every event
 
 module _ (script : List Statement) (range : RunsAreInRange script) where
-  module _ (events : List Event) (before : MomentWithPast) (run : run_with_past script events ≡ Some before)
+  module _ (events : List Move) (before : MomentWithPast) (run : run_with_past script events ≡ Some before)
       (all : AllCoded before.world.log (ledger_of before.past.history)) where
     abbrev world : World
     world = before.world
@@ -334,6 +335,7 @@ module _ (script : List Statement) (range : RunsAreInRange script) where
           (entry_coded before.world.log (in_world script range before.world began) (ledger_of before.past.history) all entry)
       step_coded RecoveryTicks caused = told before.world (world_after_cause script n host RecoveryTicks before.world) None
       step_coded WorkIsRetried caused = told before.world (world_after_cause script n host WorkIsRetried before.world) None
+      step_coded (ClientAsks req ask) caused = told before.world (world_after_cause script n host (ClientAsks req ask) before.world) None
 
     -- ---- the event
 
@@ -362,17 +364,17 @@ module _ (script : List Statement) (range : RunsAreInRange script) where
     abbrev CodedAt : MomentWithPast → Type 0
     CodedAt moment = AllCoded moment.world.log (ledger_of moment.past.history)
 
-    event_coded : (event : Event) (made : EventOutcome) → step script event before.world ≡ Some made
+    event_coded : (event : Event) (made : EventOutcome) → MakesMove script event before.world made
         → CodedAt (moment_after script event before made)
     unfolding past_after_event
     event_coded event made happened =
         subst (AllCoded made.world.log) (sym (split made.grown))
-        (kind_coded event made (happens script event before.world made happened))
+        (kind_coded event made (goes_by_kind script event before.world made happened))
 
   -- ---- every run
 
   abbrev HoldsInRun : MomentWithPast → Type 0
-  HoldsInRun moment = (events : List Event) × (run_with_past script events ≡ Some moment)
+  HoldsInRun moment = (events : List Move) × (run_with_past script events ≡ Some moment)
       × AllCoded moment.world.log (ledger_of moment.past.history)
 
   opens : HoldsInRun (first_moment script)
@@ -380,18 +382,18 @@ module _ (script : List Statement) (range : RunsAreInRange script) where
   opens = ([], refl, λ vid spec made block has. absurd (cc (has)))
 
   keeps : (event : Event) (before : MomentWithPast) (made : EventOutcome) → Began script before.world
-      → step script event before.world ≡ Some made → HoldsInRun before → HoldsInRun (moment_after script event before made)
+      → MakesMove script event before.world made → HoldsInRun before → HoldsInRun (moment_after script event before made)
   keeps event before made begun is holds = (
-    holds.0 ++ event ∷ [],
+    holds.0 ++ is.move ∷ [],
     run_with_one_more script event made holds.0 before is holds.1,
     event_coded holds.0 before holds.1 holds.2 event made is,
   )
 
-  pub all_coded-in_run : (events : List Event) (moment : MomentWithPast) → run_with_past script events ≡ Some moment
+  pub all_coded-in_run : (events : List Move) (moment : MomentWithPast) → run_with_past script events ≡ Some moment
       → AllCoded moment.world.log (ledger_of moment.past.history)
   all_coded-in_run events moment run = (run-kept_by_events script HoldsInRun opens keeps events moment run).2
 
-  pub coded-in_run : (events : List Event) (moment : MomentWithPast) → run_with_past script events ≡ Some moment
+  pub coded-in_run : (events : List Move) (moment : MomentWithPast) → run_with_past script events ≡ Some moment
       → StripItemsAreCoded (ledger_of moment.past.history) (log_effects moment.world.log)
   coded-in_run events moment run =
       are_coded moment.world.log (ledger_of moment.past.history) (all_coded-in_run events moment run)

@@ -1,5 +1,6 @@
 -- A reply ends the writes of its request, and so does the loss of its node, where the request writes on a disk.
-use Rattle.std.proofs.Common.{◌≡◌, inl, inr, ⊎_elim, arith, ℕ, ◌+◌, zero, suc, ◌==◌, ◌&&◌, ◌||◌, Bool, true, false, List, [], ◌∷◌, ◌++◌, map, filter, Contains, Option, Some, None, is_some, slice_get, refl, sym, ap, subst, ◌∙◌}
+use Rattle.std.proofs.Common.{◌≡◌, inl, inr, ⊎_elim, arith, ℕ, ◌+◌, zero, suc, ◌==◌, ◌&&◌, ◌||◌, Bool, true, false, List, [], ◌∷◌, ◌++◌}
+use Rattle.std.proofs.Common.{map, filter, Contains, Option, Some, None, is_some, slice_get, refl, sym, ap, subst, ◌∙◌}
 use Rattle.std.specs.Prelude.{flat_map}
 use Rattle.std.specs.List.{list_any, enumerate_from}
 use Rattle.std.specs.Option.{option_map_or, option_and_then}
@@ -7,7 +8,8 @@ use Rattle.std.specs.FinMap as tree
 use Rattle.std.proofs.lemmas.Bool.{and_from, eq-eqb, or_left, or_right}
 use Rattle.std.proofs.lemmas.List.Folds.{list_any-append}
 use Rattle.std.proofs.lemmas.Option.{same_Some}
-use Rattle.proof_tools.proofs.Lists.{Contains-head, Contains-cons, Contains-cons_cases, Contains-nil, Contains-filter, Contains-map, list_any-none}
+use Rattle.proof_tools.proofs.Lists.{Contains-head, Contains-cons, Contains-cons_cases, Contains-nil, Contains-filter, Contains-map}
+use Rattle.proof_tools.proofs.Lists.{list_any-none}
 use Rattle.cluster_script.specs.declared.statement.Statement.{Statement}
 use Rattle.cluster_script.specs.Sessions.{ScriptSession, session_numbered}
 use Rattle.cluster_script.specs.Statements.{is_check, requests_of}
@@ -19,7 +21,8 @@ use Rattle.sheep_node.specs.declared.check_write.CheckWrite.{CheckWrite}
 use Rattle.sheep_node.specs.declared.course.Request.{Request}
 use Rattle.sheep_node.specs.CheckWrites.{has_check_written, has_course_written}
 use Rattle.sheep_world.specs.World.{Host, World}
-use Rattle.sheep_world.specs.HistoryAdditions.{added_by, disk_of, has_begun_check_write, is_lost_write, is_of_incarnation, is_write, is_writing_request, reply_grown, write_ended, writers_lost}
+use Rattle.sheep_world.specs.HistoryAdditions.{added_by, disk_of, has_begun_check_write, is_lost_write, is_of_incarnation, is_write}
+use Rattle.sheep_world.specs.HistoryAdditions.{is_writing_request, reply_grown, write_ended, writers_lost}
 use Rattle.overlap_law.specs.DiskEvents.{ends_write_of}
 use Rattle.overlap_law.specs.MomentChanges.{RunsAreInRange}
 use Rattle.overlap_law.proofs.FollowingEvents.{own_end}

@@ -1,5 +1,6 @@
 -- In every run in range each item of a request that hasn't ended is on the disk on which the request is under way.
-use Rattle.std.proofs.Common.{◌≡◌, ⊎_elim, ℕ, zero, suc, ◌<◌, ◌==◌, Bool, true, false, List, [], ◌∷◌, ◌++◌, fold, Option, Some, None, option_map, slice_get, refl, sym, ap, subst, ◌∙◌}
+use Rattle.std.proofs.Common.{◌≡◌, ⊎_elim, ℕ, zero, suc, ◌<◌, ◌==◌, Bool, true, false, List, [], ◌∷◌, ◌++◌, fold, Option, Some, None}
+use Rattle.std.proofs.Common.{option_map, slice_get, refl, sym, ap, subst, ◌∙◌}
 use Rattle.std.specs.List.{list_any}
 use Rattle.std.specs.FinMap as tree
 use Rattle.std.proofs.lemmas.Bool.{both_ways, eq-eqb, or_left, or_right, or_parts, lt-ltb}
@@ -19,11 +20,12 @@ use Rattle.vdi_directory.specs.References.{parent_of}
 use Rattle.vdi_directory.proofs.ChainLemmas.{is_parent_or_above}
 use Rattle.vdi_directory.proofs.LineLemmas.{above-line, line-log_effects}
 use Rattle.sheep_node.specs.declared.event.Event.{Event}
-use Rattle.sheep_world.specs.Began.{Began}
+use Rattle.sheep_world.specs.Began.{Began, MakesMove}
 use Rattle.sheep_world.specs.EventKinds.{EventKind}
-use Rattle.sheep_world.specs.Step.{EventOutcome, step}
+use Rattle.sheep_world.specs.Step.{EventOutcome}
 use Rattle.sheep_world.specs.World.{World}
-use Rattle.sheep_world.proofs.EventInversion.{happens}
+use Rattle.sheep_world.proofs.ClientReads.{goes_by_kind}
+use Rattle.sheep_world.specs.RunsWithAsks.{Move}
 use Rattle.overlap_law.specs.DiskEvents.{ends_write_of}
 use Rattle.overlap_law.specs.Headline.{ledger_of}
 use Rattle.overlap_law.specs.LastReads.{was_snapped}
@@ -65,7 +67,7 @@ has_disk (Some disk) block has = (disk, refl)
 module _ (script : List Statement) (range : RunsAreInRange script) where
   -- ---- at the end of an event
 
-  module _ (events : List Event) (moment : MomentWithPast) (run : run_with_past script events ≡ Some moment) (req : ℕ) where
+  module _ (events : List Move) (moment : MomentWithPast) (run : run_with_past script events ≡ Some moment) (req : ℕ) where
     began : Began script moment.world
     began = began-with_past script events moment run
 
@@ -142,13 +144,13 @@ module _ (script : List Statement) (range : RunsAreInRange script) where
   OpenAt moment = (req vid : ℕ) → list_any (ends_write_of req) moment.past.history ≡ false
       → HasItemOf req (ledger_of moment.past.history) vid → IsAtWork script moment.world.hosts moment.world.guests req vid
 
-  module _ (events : List Event) (event : Event) (before : MomentWithPast) (made : EventOutcome)
-      (run : run_with_past script events ≡ Some before) (happened : step script event before.world ≡ Some made) (all : OpenAt before)
+  module _ (events : List Move) (event : Event) (before : MomentWithPast) (made : EventOutcome)
+      (run : run_with_past script events ≡ Some before) (happened : MakesMove script event before.world made) (all : OpenAt before)
       (req vid : ℕ) where
     abbrev after : MomentWithPast
     after = moment_after script event before made
 
-    run_after : run_with_past script (events ++ event ∷ []) ≡ Some (moment_after script event before made)
+    run_after : run_with_past script (events ++ happened.move ∷ []) ≡ Some (moment_after script event before made)
     run_after = run_with_one_more script event made events before happened run
 
     began_before : Began script before.world
@@ -173,9 +175,9 @@ module _ (script : List Statement) (range : RunsAreInRange script) where
         ∙ or_left (copy.base.0 == old) (is_above (log_effects made.world.log) old copy.base.0) (eq-eqb copy.base.0 old copy.same) in
         let (disk, there) = has_disk ((ledger_of (moment_after script event before made).past.history).disks vid) item.block item.has in
         let published = (disks_out (moment_after script event before made)
-        (on_the_way script AreOut (kept_out script range) (events ++ event ∷ []) (moment_after script event before made)
+        (on_the_way script AreOut (kept_out script range) (events ++ happened.move ∷ []) (moment_after script event before made)
         (moment_after script event before made) run_after Still)).each vid disk there in
-        no_child (events ++ event ∷ []) (moment_after script event before made) run_after req old work writer vid published above
+        no_child (events ++ happened.move ∷ []) (moment_after script event before made) run_after req old work writer vid published above
 
     stays_open : list_any (ends_write_of req) (moment_after script event before made).past.history ≡ false
         → HasItemOf req (ledger_of (moment_after script event before made).past.history) vid
@@ -191,7 +193,7 @@ module _ (script : List Statement) (range : RunsAreInRange script) where
         once = once-in_run script events before run
 
         kind : EventKind script event before.world made
-        kind = happens script event before.world made happened
+        kind = goes_by_kind script event before.world made happened
 
         parts : (list_any (ends_write_of req) before.past.history ≡ false) × (list_any (ends_write_of req) made.grown ≡ false)
         parts = or_parts (list_any (ends_write_of req) before.past.history) (list_any (ends_write_of req) made.grown)
@@ -219,21 +221,21 @@ module _ (script : List Statement) (range : RunsAreInRange script) where
   -- ---- every run
 
   abbrev HoldsInRun : MomentWithPast → Type 0
-  HoldsInRun moment = (events : List Event) × (run_with_past script events ≡ Some moment) × OpenAt moment
+  HoldsInRun moment = (events : List Move) × (run_with_past script events ≡ Some moment) × OpenAt moment
 
   opens : HoldsInRun (first_moment script)
   unfolding run_with_past run_on
   opens = ([], refl, λ req vid unended item. let has = item.has in absurd (cc (has)))
 
   keeps : (event : Event) (before : MomentWithPast) (made : EventOutcome) → Began script before.world
-      → step script event before.world ≡ Some made → HoldsInRun before → HoldsInRun (moment_after script event before made)
+      → MakesMove script event before.world made → HoldsInRun before → HoldsInRun (moment_after script event before made)
   keeps event before made begun is holds = (
-    holds.0 ++ event ∷ [],
+    holds.0 ++ is.move ∷ [],
     run_with_one_more script event made holds.0 before is holds.1,
     λ req vid. stays_open holds.0 event before made holds.1 is holds.2 req vid,
   )
 
-  open-in_run : (events : List Event) (moment : MomentWithPast) → run_with_past script events ≡ Some moment → OpenAt moment
+  open-in_run : (events : List Move) (moment : MomentWithPast) → run_with_past script events ≡ Some moment → OpenAt moment
   open-in_run events moment run = (run-kept_by_events script HoldsInRun opens keeps events moment run).2
 
   -- an item among a block's
@@ -245,7 +247,7 @@ module _ (script : List Statement) (range : RunsAreInRange script) where
   item_among req (first ∷ later) (suc place) item got of =
       or_right (is_item_of req first) (list_any (is_item_of req) later) (item_among req later place item got of)
 
-  pub has_item : (events : List Event) (moment : MomentWithPast) → run_with_past script events ≡ Some moment → (req vid block place : ℕ)
+  pub has_item : (events : List Move) (moment : MomentWithPast) → run_with_past script events ≡ Some moment → (req vid block place : ℕ)
       (disk : Disk) (item : Item) → (ledger_of moment.past.history).disks vid ≡ Some disk → block < disk.blocks
       → slice_get (disk.items block) place ≡ Some item → is_item_of req item ≡ true → HasItemOf req (ledger_of moment.past.history) vid
   has_item events moment run req vid block place disk item there below got of = record {
@@ -256,14 +258,14 @@ module _ (script : List Statement) (range : RunsAreInRange script) where
   }
 
   -- who has one is a write or a check
-  pub item_writer : (events : List Event) (moment : MomentWithPast) → run_with_past script events ≡ Some moment → (req vid block place : ℕ)
+  pub item_writer : (events : List Move) (moment : MomentWithPast) → run_with_past script events ≡ Some moment → (req vid block place : ℕ)
       (disk : Disk) (item : Item) → (ledger_of moment.past.history).disks vid ≡ Some disk → block < disk.blocks
       → slice_get (disk.items block) place ≡ Some item → is_item_of req item ≡ true → IsWriterAt script req
   item_writer events moment run req vid block place disk item there below got of =
       writer_in_run script range req events moment run
       (has_begun events moment run req vid (has_item events moment run req vid block place disk item there below got of))
 
-  pub open_under_way-in_run : (events : List Event) (moment : MomentWithPast) → run_with_past script events ≡ Some moment
+  pub open_under_way-in_run : (events : List Move) (moment : MomentWithPast) → run_with_past script events ≡ Some moment
       → OpenItemsAreUnderWay (ledger_of moment.past.history) moment.world.hosts
   open_under_way-in_run events moment run = record {
     unended = λ req vid block place disk item there got of mark_so.

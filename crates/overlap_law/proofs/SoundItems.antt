@@ -1,6 +1,7 @@
 -- Where the items of a request come from, event by event of a history: a block of a disk had one before, or a write of the request begins
 -- on the disk, or the disk is copied from one that had. And an item is open only as long as its request hasn't ended.
-use Rattle.std.proofs.Common.{◌≡◌, ◌⊎◌, inl, inr, ⊎_elim, ℕ, zero, suc, ◌==◌, ◌&&◌, ◌||◌, not, Bool, true, false, cond, List, [], ◌∷◌, ◌++◌, map, filter, fold, Option, Some, None, option_map, slice_get, refl, sym, ap, subst, ◌∙◌}
+use Rattle.std.proofs.Common.{◌≡◌, ◌⊎◌, inl, inr, ⊎_elim, ℕ, zero, suc, ◌==◌, ◌&&◌, ◌||◌, not, Bool, true, false, cond, List, [], ◌∷◌, ◌++◌}
+use Rattle.std.proofs.Common.{map, filter, fold, Option, Some, None, option_map, slice_get, refl, sym, ap, subst, ◌∙◌}
 use Rattle.std.specs.List.{list_any}
 use Rattle.std.specs.Option.{option_map_or}
 use Rattle.std.proofs.lemmas.Bool.{eqb-true, or_parts, both_ways, and_parts}
@@ -11,7 +12,8 @@ use Rattle.object_id.specs.declared.entry.Entry.TheVariants as entries
 use Rattle.object_id.specs.declared.limits.TheConstants.{BLOCK_BYTES}
 use Rattle.object_id.specs.declared.oid.Vid.{Vid}
 use Rattle.disk_history.specs.declared.event.HistEvent.{HistEvent}
-use Rattle.disk_history.specs.declared.event.HistEvent.TheVariants.{Create, Copy, Delete, WriteStart, WriteDone, WriteRefused, WriterLost, Read}
+use Rattle.disk_history.specs.declared.event.HistEvent.TheVariants.{Create, Copy, Delete, WriteStart, WriteDone, WriteRefused, WriterLost}
+use Rattle.disk_history.specs.declared.event.HistEvent.TheVariants.{Read}
 use Rattle.disk_history.specs.Changes.{items_in}
 use Rattle.disk_history.specs.Ledger.{Acknowledged, Lost, Item, Disk, Ledger, zeros_item, is_item_of, has_block, ledger_after}
 use Rattle.vdi_directory.specs.declared.decision.Decision.{Decision}
@@ -116,7 +118,9 @@ module _ (req vid : ℕ) where
       none = fewer_make (λ (q : ℕ). true) vid is.block grown makes
 
       had : has_block (ledger.disks vid) is.block ≡ true
-      had = has_alike vid is.block ((fold ledger_after ledger grown).disks vid) (ledger.disks vid) (blocks_along vid is.block grown ledger none)
+      had =
+          has_alike vid is.block ((fold ledger_after ledger grown).disks vid) (ledger.disks vid)
+          (blocks_along vid is.block grown ledger none)
           ∙ is.has
 
       by_value : (b : Bool) → list_any (is_item_of req) (items_in (ledger.disks vid) is.block) ≡ b

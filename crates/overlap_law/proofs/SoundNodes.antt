@@ -32,7 +32,7 @@ use Rattle.sheep_world.specs.World.{Host, World}
 use Rattle.sheep_world.specs.Opening.{format_entry, initial_world}
 use Rattle.sheep_world.specs.MembershipChanges.{join_of, last_weight}
 use Rattle.sheep_world.specs.NodeCauses.{NodeCause, GuestAsks, RequestComes, ReplyComes, LossIsTold, EntryIsRead, EntryIsPut, RecoveryTicks}
-use Rattle.sheep_world.specs.NodeCauses.{WorkIsRetried, input_of_cause, IsCause}
+use Rattle.sheep_world.specs.NodeCauses.{WorkIsRetried, ClientAsks, input_of_cause, IsCause}
 use Rattle.sheep_world.specs.EventKinds.{log_after_return, world_after_return}
 use Rattle.sheep_world.specs.HostChanges.{HostsKeep, host_after_return}
 use Rattle.sheep_world.specs.Began.{Began}
@@ -53,6 +53,7 @@ use Rattle.overlap_law.proofs.RecoveredEntries.{only_received, puts_so_far, open
 use Rattle.overlap_law.proofs.RecoveryMembers.{some_read, nodes_of_members, RecoversByTheLog, opening_recovers, recovers_so_far}
 use Rattle.overlap_law.proofs.RecoveryMembers.{quiet_recovers, newest_then, read_recovers, back_members, back_recovers}
 use Rattle.overlap_law.proofs.ClosedWorlds.{hosts_after}
+use Rattle.sheep_world.specs.ClientAsks.{is_read_ask}
 
 -- what holds of a node
 pub record IsSoundNode (node : Node) : Type 0 where
@@ -95,6 +96,13 @@ no_entry_asked (asks.Entry entry) session req s is = by_statement s is
     by_statement (lines.Check session) is = absurd (cc (is))
     by_statement _ is = absurd (cc (is))
 
+-- nor does a client's read
+no_entry_read : (ask : Ask) (session req : ℕ) → is_read_ask ask ≡ true → AsksForNoRecovered (inputs.Guest req session ask)
+no_entry_read (asks.Disk ask) session req reads = tt
+no_entry_read (asks.Vdi ask) session req reads = tt
+no_entry_read (asks.Object work) session req reads = tt
+no_entry_read (asks.Entry entry) session req reads = absurd (cc (reads))
+
 pub asks_no_recovered : (script : List Statement) (world : World) (n : ℕ) (host : Host) (cause : NodeCause)
     → IsCause script world n host cause
     → AsksForNoRecovered (input_of_cause cause)
@@ -106,6 +114,7 @@ asks_no_recovered script world n host (EntryIsRead entry) next = tt
 asks_no_recovered script world n host (EntryIsPut entry) first = tt
 asks_no_recovered script world n host RecoveryTicks may = tt
 asks_no_recovered script world n host WorkIsRetried may = tt
+asks_no_recovered script world n host (ClientAsks req ask) may = no_entry_read ask 0 req may.reads
 
 -- ---- an entry is read
 
@@ -178,6 +187,12 @@ module _ (script : List Statement) (range : RunsAreInRange script) where
       only = only_received inputs.RetryTick host.node sound.only;
       lists = quiet_lists inputs.RetryTick host.node refl tt sound.lists;
       ends = ends_received inputs.RetryTick host.node sound.ends;
+    }
+    quiet_sound (ClientAsks req ask) so sound = record {
+      recovers = quiet_recovers (inputs.Guest req 0 ask) host.node refl sound.recovers;
+      only = only_received (inputs.Guest req 0 ask) host.node sound.only;
+      lists = quiet_lists (inputs.Guest req 0 ask) host.node refl tt sound.lists;
+      ends = ends_received (inputs.Guest req 0 ask) host.node sound.ends;
     }
 
     -- at each point of its step

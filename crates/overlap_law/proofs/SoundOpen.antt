@@ -1,6 +1,7 @@
 -- In every run in range the items of a request that hasn't ended are on the disk on which it is at work: they begin there, with the request
 -- at its gateway, and a disk is copied only where nobody is at work on it any more.
-use Rattle.std.proofs.Common.{◌≡◌, ◌≢◌, ◌⊎◌, inl, inr, ⊎_elim, ℕ, ◌==◌, ◌||◌, Bool, true, false, List, [], ◌∷◌, ◌++◌, map, filter, fold, Contains, Option, Some, None, option_map, is_some, refl, sym, ap, subst, ◌∙◌}
+use Rattle.std.proofs.Common.{◌≡◌, ◌≢◌, ◌⊎◌, inl, inr, ⊎_elim, ℕ, ◌==◌, ◌||◌, Bool, true, false, List, [], ◌∷◌, ◌++◌, map, filter, fold}
+use Rattle.std.proofs.Common.{Contains, Option, Some, None, option_map, is_some, refl, sym, ap, subst, ◌∙◌}
 use Rattle.std.specs.Prelude.{flat_map, unwrap_or}
 use Rattle.std.specs.List.{list_any}
 use Rattle.std.specs.Option.{option_map_or, option_and_then}
@@ -44,10 +45,14 @@ use Rattle.sheep_world.specs.declared.progress.StartedRequest.{StartedRequest}
 use Rattle.sheep_world.specs.Asking.{ask_of_statement, session_asking}
 use Rattle.sheep_world.specs.Began.{Began}
 use Rattle.sheep_world.specs.Effects.{disk_open, open_disk_at, progress_with_started, request_started}
-use Rattle.sheep_world.specs.EventKinds.{outcome_of_step, EventKind, NodeStep, UntoldLoss, UnreadDelivery, NodeLoss, NodeLeave, NodeReweight, NodeJoin, NodeReturn, PhaseEnd}
+use Rattle.sheep_world.specs.EventKinds.{outcome_of_step, EventKind, NodeStep, UntoldLoss, UnreadDelivery, NodeLoss, NodeLeave}
+use Rattle.sheep_world.specs.EventKinds.{NodeReweight, NodeJoin, NodeReturn, PhaseEnd}
 use Rattle.sheep_world.specs.Granted.{entry_adds}
-use Rattle.sheep_world.specs.HistoryAdditions.{check_write_by, check_write_grown, gateway_of, has_begun_check_write, is_lost_write, is_write, is_write_of, replies_grown, reply_grown, request_grown, writers_lost}
-use Rattle.sheep_world.specs.NodeCauses.{NodeCause, GuestAsks, RequestComes, ReplyComes, LossIsTold, EntryIsRead, EntryIsPut, RecoveryTicks, WorkIsRetried, input_of_cause, IsCause, history_of_cause, host_with_node, progress_at_cause, world_after_cause}
+use Rattle.sheep_world.specs.HistoryAdditions.{check_write_by, check_write_grown, gateway_of, has_begun_check_write, is_lost_write}
+use Rattle.sheep_world.specs.HistoryAdditions.{is_write, is_write_of, replies_grown, reply_grown, request_grown, writers_lost}
+use Rattle.sheep_world.specs.NodeCauses.{NodeCause, GuestAsks, RequestComes, ReplyComes, LossIsTold, EntryIsRead, EntryIsPut, RecoveryTicks}
+use Rattle.sheep_world.specs.NodeCauses.{WorkIsRetried, ClientAsks, input_of_cause, IsCause, history_of_cause, host_with_node}
+use Rattle.sheep_world.specs.NodeCauses.{progress_at_cause, world_after_cause}
 use Rattle.sheep_world.specs.Step.{EventOutcome}
 use Rattle.sheep_world.specs.World.{Host, World, is_host_up, no_progress, node_at, progress_at}
 use Rattle.overlap_law.specs.DiskEvents.{begins_by_others, ends_write_of}
@@ -380,6 +385,8 @@ module _ (script : List Statement) (range : RunsAreInRange script) (world : Worl
         Had (told_origin RecoveryTicks world (world_after_cause script n host RecoveryTicks world) None item)
     step_origin WorkIsRetried caused unended item =
         Had (told_origin WorkIsRetried world (world_after_cause script n host WorkIsRetried world) None item)
+    step_origin (ClientAsks req ask) caused unended item =
+        Had (told_origin (ClientAsks req ask) world (world_after_cause script n host (ClientAsks req ask) world) None item)
 
   -- ---- every event
 

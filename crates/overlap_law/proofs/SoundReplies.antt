@@ -1,5 +1,6 @@
 -- A request that a node had is there behind a step, or the step replied to it.
-use Rattle.std.proofs.Common.{◌≡◌, ◌≢◌, ◌⊎◌, inl, inr, ⊎_elim, arith, ℕ, Bool, true, false, cond, List, [], ◌∷◌, Contains, Option, Some, None, refl, sym, ap, subst, ◌∙◌}
+use Rattle.std.proofs.Common.{◌≡◌, ◌≢◌, ◌⊎◌, inl, inr, ⊎_elim, arith, ℕ, Bool, true, false, cond, List, [], ◌∷◌, Contains, Option, Some}
+use Rattle.std.proofs.Common.{None, refl, sym, ap, subst, ◌∙◌}
 use Rattle.std.specs.Prelude.{nat_lt}
 use Rattle.std.specs.FinMap as tree
 use Rattle.std.proofs.lemmas.Bool.{cases_eq}
@@ -28,16 +29,20 @@ use Rattle.sheep_node.specs.State.{Node}
 use Rattle.sheep_node.specs.RecoveryView.{recovery_state_of}
 use Rattle.sheep_node.specs.LogReading.{entry_read}
 use Rattle.sheep_node.specs.StepState.{StepState, at_first, session_in, with_course, replies_in_order, request_ended}
-use Rattle.sheep_node.specs.Step.{node_step, on_input, on_request, on_put, on_recover_tick, recovery_stepped, is_due, with_recovered, recovered_put}
+use Rattle.sheep_node.specs.Step.{node_step, on_input, on_request, on_put, on_recover_tick, recovery_stepped, is_due, with_recovered}
+use Rattle.sheep_node.specs.Step.{recovered_put}
 use Rattle.sheep_node.specs.Guests.{request_refusal, with_queued_request, request_taken_unless, on_guest}
 use Rattle.sheep_node.specs.Waiting.{course_begun}
 use Rattle.sheep_node.specs.Changes as changes
-use Rattle.sheep_node.specs.Changes.{Outcome, ToWork, ToEntry, ToReply, RequestSteps, DiskBegins, DiskGoesOn, CommandBegins, CommandGoesOn, CommandDecided, CheckBegins, CheckGoesOn, ObjectBegins, ObjectIsDone, EntryBegins, EntryDecided, Still, WorkIsNext, AtOnce, InTurn, Again, AgainAlone, input_received, Change}
+use Rattle.sheep_node.specs.Changes.{Outcome, ToWork, ToEntry, ToReply, RequestSteps, DiskBegins, DiskGoesOn, CommandBegins, CommandGoesOn}
+use Rattle.sheep_node.specs.Changes.{CommandDecided, CheckBegins, CheckGoesOn, ObjectBegins, ObjectIsDone, EntryBegins, EntryDecided, Still}
+use Rattle.sheep_node.specs.Changes.{WorkIsNext, AtOnce, InTurn, Again, AgainAlone, input_received, Change}
 use Rattle.sheep_node.proofs.OneWorkParts.{Requests}
 use Rattle.sheep_node.proofs.RefusedCourses.{course_refused-keeps, request_refused-keeps}
 use Rattle.sheep_node.proofs.ReachedSteps.{reached_by, course_begun_walk}
 use Rattle.sheep_node.proofs.StepChain.{begins, kept_by_chain, step_chain, untaken}
-use Rattle.sheep_world.specs.NodeCauses.{NodeCause, GuestAsks, RequestComes, ReplyComes, LossIsTold, EntryIsRead, EntryIsPut, RecoveryTicks, WorkIsRetried, input_of_cause}
+use Rattle.sheep_world.specs.NodeCauses.{NodeCause, GuestAsks, RequestComes, ReplyComes, LossIsTold, EntryIsRead, EntryIsPut, RecoveryTicks}
+use Rattle.sheep_world.specs.NodeCauses.{WorkIsRetried, ClientAsks, input_of_cause}
 
 -- a reply that is put among others is among them, and so are those
 put_there : (reply : ℕ × GuestRsp) (replies : List (ℕ × GuestRsp)) → Contains (replies_in_order reply replies) reply
@@ -169,7 +174,8 @@ module _ (q : ℕ) where
       (at_first node) (recovery_stepped (recovery_steps.recovery_on_reply rsp (recovery_state_of node)) (at_first node)) got got
   received_there (LossIsTold name packet) node request got =
       cond_either (λ (so_far : StepState). tree.get so_far.node.requests q ≡ Some request)
-      (gateways.gateway_awaits name.number node.gateway) (at_first node) (recovery_stepped (recovery_steps.recovery_on_loss name.number (recovery_state_of node)) (at_first node)) got got
+      (gateways.gateway_awaits name.number node.gateway) (at_first node)
+      (recovery_stepped (recovery_steps.recovery_on_loss name.number (recovery_state_of node)) (at_first node)) got got
   received_there (EntryIsRead entry) node request got = got
   received_there (EntryIsPut entry) node request got = by_outbox node.outbox
     where
@@ -178,6 +184,7 @@ module _ (q : ℕ) where
       by_outbox (first ∷ later) = got
   received_there RecoveryTicks node request got = got
   received_there WorkIsRetried node request got = got
+  received_there (ClientAsks req ask) node request got = got
 
   -- behind the step it is there, or has a reply
   pub there_or_replied : (cause : NodeCause) (node : Node) (request : Request) → tree.get node.requests q ≡ Some request
@@ -217,7 +224,8 @@ module _ (node : Node) (number req : ℕ) (ask : DiskAsk) where
       arrived = with_queued_request number req ask (Some disk) (with_course number req (Waiting ask) (at_first node))
 
       there : tree.get (with_queued_request number req ask (Some disk)
-          (with_course number req (Waiting ask) (at_first node))).node.requests req ≡ Some (record { session = number; course = Waiting ask })
+          (with_course number req (Waiting ask) (at_first node))).node.requests req
+          ≡ Some (record { session = number; course = Waiting ask })
       there = get-insert_same node.requests req (record { session = number; course = Waiting ask })
 
   -- it is there behind the step, or is replied to

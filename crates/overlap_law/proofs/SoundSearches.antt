@@ -19,12 +19,12 @@ use Rattle.vdi_directory.specs.Decisions.{log_effects}
 use Rattle.recovery.specs.declared.search.RowAnswer.{RowAnswer}
 use Rattle.recovery.specs.State.{Message, Search, search_at, search_on, has_number, message_of}
 use Rattle.recovery.specs.Steps.{search_after_answer}
-use Rattle.sheep_node.specs.declared.event.Event.{Event}
 use Rattle.sheep_node.specs.RecoveryView.{recovery_state_of}
 use Rattle.sheep_world.specs.World.{Host}
 use Rattle.sheep_world.specs.NodeCauses.{NodeCause, GuestAsks, RequestComes, ReplyComes, LossIsTold, EntryIsRead, EntryIsPut}
-use Rattle.sheep_world.specs.NodeCauses.{RecoveryTicks, WorkIsRetried, input_of_cause, IsCause}
+use Rattle.sheep_world.specs.NodeCauses.{RecoveryTicks, WorkIsRetried, ClientAsks, input_of_cause, IsCause}
 use Rattle.sheep_world.specs.Began.{Began}
+use Rattle.sheep_world.specs.RunsWithAsks.{Move}
 use Rattle.overlap_law.specs.Attempts.{AttemptRecord, object_of}
 use Rattle.overlap_law.specs.Each.{policy_in}
 use Rattle.overlap_law.specs.Holders.{targets_by}
@@ -97,7 +97,7 @@ pub record FoundNeeds (good : ℕ → Bool) (moment : MomentWithPast) : Type 0 w
   pub since : RowsAreSince (log_effects moment.world.log) good moment.world.hosts moment.past.attempts
   pub told : ToldRowsAreSince (log_effects moment.world.log) good moment.world.hosts moment.world.wire moment.past.attempts
 
-module _ (script : List Statement) (range : RunsAreInRange script) (events : List Event) (start : MomentWithPast)
+module _ (script : List Statement) (range : RunsAreInRange script) (events : List Move) (start : MomentWithPast)
     (is : run_with_past script events ≡ Some start) (good : ℕ → Bool) (needs : FoundNeeds good start) (n : ℕ) (host : Host)
     (there : tree.get start.world.hosts n ≡ Some host) (up : host.is_lost ≡ false) where
   began : Began script start.world
@@ -268,3 +268,4 @@ module _ (script : List Statement) (range : RunsAreInRange script) (events : Lis
     sound_answered (EntryIsPut entry) so said tells = absurd tells
     sound_answered RecoveryTicks so said tells = absurd tells
     sound_answered WorkIsRetried so said tells = absurd tells
+    sound_answered (ClientAsks req ask) so said tells = absurd tells

@@ -16,7 +16,6 @@ use Rattle.sheep_node.specs.declared.ask.Ask.TheVariants as asks
 use Rattle.sheep_node.specs.declared.course.Course.{Course}
 use Rattle.sheep_node.specs.declared.course.Course.TheVariants.{Waiting}
 use Rattle.sheep_node.specs.declared.course.Request.{Request}
-use Rattle.sheep_node.specs.declared.event.Event.{Event}
 use Rattle.sheep_node.specs.declared.input.Input.{Input}
 use Rattle.sheep_node.specs.declared.input.Input.TheVariants as inputs
 use Rattle.sheep_node.specs.Changes.{attempt_in, input_received}
@@ -25,8 +24,10 @@ use Rattle.sheep_node.specs.SessionQueues.{session_among}
 use Rattle.sheep_node.specs.StepState.{StepState, at_first}
 use Rattle.sheep_node.specs.WantedWorks.{IsWantedAt, IsWorkWanted}
 use Rattle.sheep_node.proofs.OneWorkParts.{Requests}
-use Rattle.sheep_world.specs.NodeCauses.{NodeCause, GuestAsks, RequestComes, ReplyComes, LossIsTold, EntryIsRead, EntryIsPut, RecoveryTicks, WorkIsRetried, IsCause, input_of_cause, host_with_node}
+use Rattle.sheep_world.specs.NodeCauses.{NodeCause, GuestAsks, RequestComes, ReplyComes, LossIsTold, EntryIsRead, EntryIsPut, RecoveryTicks}
+use Rattle.sheep_world.specs.NodeCauses.{WorkIsRetried, ClientAsks, IsCause, input_of_cause, host_with_node}
 use Rattle.sheep_world.specs.World.{Host}
+use Rattle.sheep_world.specs.RunsWithAsks.{Move}
 use Rattle.overlap_law.specs.Attempts.{AttemptRecord}
 use Rattle.overlap_law.specs.MomentChanges.{MomentChange, MomentTrail, Then, RunsAreInRange}
 use Rattle.overlap_law.specs.Past.{MomentWithPast, run_with_past}
@@ -43,11 +44,12 @@ use Rattle.overlap_law.proofs.SoundWaiters.{ComesNow, IsWaiting, waited_or_comes
 use Rattle.overlap_law.proofs.StartedAttempts.{IsStarted, next_is_new, started-in_run}
 use Rattle.overlap_law.proofs.GrantsOfCommands.{sound_along}
 use Rattle.overlap_law.proofs.WorksInMoments.{well_after}
+use Rattle.overlap_law.proofs.AsksInCauses.{not_begun}
 
 abbrev MadeNone : MomentWithPast → Type 0
 MadeNone moment = WaitersMadeNone moment.world.hosts moment.past.attempts
 
-module _ (script : List Statement) (range : RunsAreInRange script) (events : List Event) (start before after : MomentWithPast)
+module _ (script : List Statement) (range : RunsAreInRange script) (events : List Move) (start before after : MomentWithPast)
     (ran : run_with_past script events ≡ Some start) (trail : MomentTrail script start before)
     (change : MomentChange script start before after) (all : WaitersMadeNone before.world.hosts before.past.attempts) where
   module _ (n : ℕ) (host : Host) (at_host : tree.get after.world.hosts n ≡ Some host) (up : host.is_lost ≡ false) (req : ℕ)
@@ -125,6 +127,8 @@ module _ (script : List Statement) (range : RunsAreInRange script) (events : Lis
       by_cause (EntryIsPut entry) caused session asked from = absurd (cc (from))
       by_cause RecoveryTicks caused session asked from = absurd (cc (from))
       by_cause WorkIsRetried caused session asked from = absurd (cc (from))
+      by_cause (ClientAsks begins what) caused session asked from =
+          let same : begins ≡ req = cc (from) in (refl, λ started. not_begun caused started.0 req same started.1)
 
       new_none : ComesNow req (input_of_cause on.cause) on.host.node so_far → NoneBefore
       new_none comes j was at gateway own =
@@ -137,7 +141,7 @@ module _ (script : List Statement) (range : RunsAreInRange script) (events : Lis
           ∙ ap (λ (s : StepState). (moment_in_step script on start s).past.attempts) first
           ∙ attempts-at_first script start on is by ∙ same in
           fresh (subst (IsStarted script start.world.guests) own
-          (started-in_run script events start ran j was
+          (started-in_run script range events start ran j was
           (ap (λ (list : List AttemptRecord). slice_get list j) (sym attempts_so) ∙ at)))
 
     going : IsGoingOn script start before after → NoneBefore
@@ -183,7 +187,7 @@ module _ (script : List Statement) (range : RunsAreInRange script) (events : Lis
   }
 
 module _ (script : List Statement) (range : RunsAreInRange script) where
-  pub made_none-in_run : (events : List Event) (start moment : MomentWithPast) → run_with_past script events ≡ Some start
+  pub made_none-in_run : (events : List Move) (start moment : MomentWithPast) → run_with_past script events ≡ Some start
       → MomentTrail script start moment → WaitersMadeNone moment.world.hosts moment.past.attempts
   made_none-in_run =
       kept_on_the_way script MadeNone

@@ -22,10 +22,10 @@ use Rattle.overlap_law.specs.CommandDisks.{opened_as}
 use Rattle.overlap_law.specs.MomentChanges.{RunsAreInRange}
 use Rattle.overlap_law.specs.RequestsOfScript.{IsCourseOfAsk, IsDriverOf}
 use Rattle.overlap_law.proofs.AllowedCourses.{HasWorking, IsAllowed, opened_by}
-use Rattle.overlap_law.proofs.CoursesOfAsks.{IsPlacedIn}
-use Rattle.overlap_law.proofs.CoursesOfScript.{asked_by, BeganOn, requests_placed}
-use Rattle.overlap_law.proofs.DisksOfWriters.{AsksToWrite, IsWriterAt, asks_to_write, on_open_disk}
+use Rattle.overlap_law.proofs.CoursesOfScript.{asked_by}
+use Rattle.overlap_law.proofs.DisksOfWriters.{AsksToWrite, IsWriterAt, asks_to_write, on_open_disk, of_writer}
 use Rattle.overlap_law.proofs.WorksInMoments.{well_in_world}
+use Rattle.overlap_law.proofs.PlacedOfScript.{placed_of_script}
 
 -- what is open as a working disk is one
 working_so : (opened : Option Disk) (disk : Disk) → opened ≡ Some disk → HasWorking (opened_as opened) → disk.snapshot ≡ false
@@ -65,8 +65,7 @@ module _ (script : List Statement) (range : RunsAreInRange script) (world : Worl
   pub on_working_disk : (on_open_disk script range world began n host there req request got writer).disk.snapshot ≡ false
   on_working_disk =
       let open_disk = on_open_disk script range world began n host there req request got writer in
-      let (start, at, course) = subst (IsPlacedIn (asked_by script) (BeganOn script world.guests) req host.node.sessions) got
-      (requests_placed script range world began n host there req) in
+      let (start, at, course) = placed_of_script script range world began n host there req request got (of_writer script req writer) in
       let allowed : IsAllowed (opened_by (session_among request.session host.node.sessions)) request.course
       = subst (IsSeen opened_by IsAllowed host.node.sessions) got ((well_in_world script range world began n host there).allowed req) in
       working_course (session_among request.session host.node.sessions).disk open_disk.disk (asked_by script req) start request.course

@@ -1,5 +1,6 @@
 -- In each world of a run nodes are sound, and what they send can be spelled, if what is replied fits in each world of which this is known.
-use Rattle.std.proofs.Common.{◌≡◌, ◌≢◌, ⊎_elim, arith, ℕ, ◌+◌, ◌≤◌, ◌^◌, true, false, not, nat_le, List, [], length, All, Some, refl, sym, ap, subst}
+use Rattle.std.proofs.Common.{Option, is_some, ◌≡◌, ◌≢◌, ⊎_elim, arith, ℕ, ◌+◌, ◌≤◌, ◌^◌, true, false, not, nat_le, List, [], length, All}
+use Rattle.std.proofs.Common.{Some, refl, sym, ap, subst}
 use Rattle.std.specs.FinMap as tree
 use Rattle.std.proofs.lemmas.Bool.{and_parts, le-leb, leb-true, not-true}
 use Rattle.std.proofs.lemmas.List.Elements.{All-nil}
@@ -37,17 +38,19 @@ use Rattle.sheep_world.specs.Asking.{ask_of_statement}
 use Rattle.sheep_world.specs.Conditions.{fits_beside}
 use Rattle.sheep_world.specs.Opening.{format_entry, initial_world, initial_host, initial_member_node}
 use Rattle.sheep_world.specs.MembershipChanges.{lost_host}
-use Rattle.sheep_world.specs.Step.{EventOutcome, step}
-use Rattle.sheep_world.specs.NodeCauses.{NodeCause, GuestAsks, RequestComes, ReplyComes, LossIsTold, EntryIsRead, EntryIsPut, RecoveryTicks, WorkIsRetried, input_of_cause, IsCause}
-use Rattle.sheep_world.specs.EventKinds.{log_after_return, world_after_return, IsNodeReturn, EventKind, NodeStep, UntoldLoss, UnreadDelivery, NodeLoss, NodeLeave, NodeReweight, NodeJoin, NodeReturn, PhaseEnd}
+use Rattle.sheep_world.specs.Step.{EventOutcome}
+use Rattle.sheep_world.specs.NodeCauses.{NodeCause, GuestAsks, RequestComes, ReplyComes, LossIsTold, EntryIsRead, EntryIsPut, RecoveryTicks}
+use Rattle.sheep_world.specs.NodeCauses.{WorkIsRetried, ClientAsks, input_of_cause, IsCause}
+use Rattle.sheep_world.specs.EventKinds.{log_after_return, world_after_return, IsNodeReturn, EventKind, NodeStep, UntoldLoss}
+use Rattle.sheep_world.specs.EventKinds.{UnreadDelivery, NodeLoss, NodeLeave, NodeReweight, NodeJoin, NodeReturn, PhaseEnd}
 use Rattle.sheep_world.specs.HostChanges.{host_after_step, host_after_return, joined_host}
-use Rattle.sheep_world.specs.Began.{Began, IsInvariant}
+use Rattle.sheep_world.specs.Began.{Began, IsInvariant, MakesMove}
 use Rattle.sheep_world.specs.LogHolds.{MayGrow}
 use Rattle.sheep_world.specs.OneWork.{IsSentInRange}
 use Rattle.sheep_world.specs.HoldsTogether.{RepliesFit, HoldsTogether}
 use Rattle.sheep_world.proofs.BegunRequestLaws.{were_begun}
 use Rattle.sheep_world.proofs.BegunWorlds.{goes_on, by_induction}
-use Rattle.sheep_world.proofs.EventInversion.{happens}
+use Rattle.sheep_world.proofs.ClientReads.{goes_by_kind}
 use Rattle.sheep_world.proofs.LogAtOpening.{opens_log, log-holds}
 use Rattle.sheep_world.proofs.NextEntries.{reads-may}
 use Rattle.sheep_world.proofs.NodesByTheLog.{returns_on_may}
@@ -61,9 +64,13 @@ use Rattle.sheep_world.proofs.WireAtEvents.{is_ready}
 use Rattle.sheep_world.proofs.WireAtOpening.{opening_found}
 use Rattle.overlap_law.proofs.GuestsOfScript.{guest_asks, asked_inside}
 use Rattle.overlap_law.proofs.QueueOnce.{AreOnceIn, none_once, once_so_far}
-use Rattle.overlap_law.proofs.RoomOfSessions.{HasSoundGuests, room}
+use Rattle.overlap_law.proofs.RoomOfSessions.{HasSoundGuests, room, tied_of}
 use Rattle.overlap_law.proofs.ServedNodes.{sound_epoch, served_stays_sound}
 use Rattle.overlap_law.proofs.UnansweredRequests.{AllTied, opens_tied, kind_tied, brings_tied}
+use Rattle.sheep_world.proofs.AsksOfClients.{clients_ask}
+use Rattle.sheep_world.proofs.AsksTaken.{meets_read}
+use Rattle.overlap_law.proofs.AsksInCauses.{names_read}
+use Rattle.sheep_world.proofs.AsksNumbers.{next_is_new}
 
 -- ---- a sound node
 
@@ -102,6 +109,7 @@ names_objects script world n host (EntryIsRead entry) caused = tt
 names_objects script world n host (EntryIsPut entry) caused = tt
 names_objects script world n host RecoveryTicks caused = tt
 names_objects script world n host WorkIsRetried caused = tt
+names_objects script world n host (ClientAsks req ask) caused = names_read ask caused.reads
 
 -- a host that is up isn't lost
 not_lost : (host : Host) → is_host_up host ≡ true → host.is_lost ≡ false
@@ -176,6 +184,7 @@ module _ (script : List Statement) (is_script : IsScript script) (grows : (world
       wired = is.together.0;
       driven = is.together.1;
       begun = were_begun script world began;
+      asked = λ n host there. next_is_new script is_script world began n host there;
       fit = controls-fit script world is_script began;
       recoveries = recoveries_in_range script is_script grows world began;
       messages = record { sent = λ other. is.sent; replies = replies };
@@ -201,9 +210,11 @@ module _ (script : List Statement) (is_script : IsScript script) (grows : (world
       asks_on_may (GuestAsks session req ask) asked other =
           let fits = (and_parts (nat_le (phase_of_request script req) world.phase)
           (fits_beside script req (progress_at session.number world).unanswered) asked.may).1 in
-          let kind = (brings_tied script world n host (GuestAsks session req ask) asked req session.number ask refl).kind in
+          let kind = (brings_tied script world n host (GuestAsks session req ask) asked req session.number ask refl
+          (ap (λ (o : Option Statement). is_some o) asked.stands)).kind in
           steps_on_may script world n host (GuestAsks session req ask) asked ready (
-            room script world.guests host.node (guests_of host here) (is.tied n host there) session.number req ask kind fits,
+            room script world.guests host.node (guests_of host here) session.number
+                (tied_of script is_script world began n host there session asked.declared (is.tied n host there)) req ask kind fits,
             guest_asks host.node script is_script req asked.line ask asked.stands asked.asks,
           )
       asks_on_may (RequestComes name to request) so other = absurd (other request refl)
@@ -215,6 +226,9 @@ module _ (script : List Statement) (is_script : IsScript script) (grows : (world
       asks_on_may (EntryIsPut entry) first other = steps_on_may script world n host (EntryIsPut entry) first ready tt
       asks_on_may RecoveryTicks may other = steps_on_may script world n host RecoveryTicks may ready tt
       asks_on_may WorkIsRetried may other = steps_on_may script world n host WorkIsRetried may ready tt
+      asks_on_may (ClientAsks req ask) may other =
+          steps_on_may script world n host (ClientAsks req ask) may ready
+          (meets_read script world (clients_ask script is_script world began) n host there up req ask may (guests_of host here).alone)
 
       -- what the step leaves and sends
       record IsSoundAfter (input : Input) : Type 0 where
@@ -253,6 +267,9 @@ module _ (script : List Statement) (is_script : IsScript script) (grows : (world
       by_cause (EntryIsPut entry) so = on_may inputs.Put (asks_on_may (EntryIsPut entry) so (λ request same. absurd (cc (same)))) tt
       by_cause RecoveryTicks so = on_may inputs.RecoverTick (asks_on_may RecoveryTicks so (λ request same. absurd (cc (same)))) tt
       by_cause WorkIsRetried so = on_may inputs.RetryTick (asks_on_may WorkIsRetried so (λ request same. absurd (cc (same)))) tt
+      by_cause (ClientAsks req ask) so =
+          on_may (inputs.Guest req 0 ask) (asks_on_may (ClientAsks req ask) so (λ request same. absurd (cc (same))))
+          (names_read ask so.reads)
 
       stepped_sound : (cause : NodeCause) → IsCause script world n host cause → IsSoundHost (host_after_step cause host)
       stepped_sound cause caused = record {
@@ -264,7 +281,7 @@ module _ (script : List Statement) (is_script : IsScript script) (grows : (world
       }
 
     -- a node comes back
-    returned_sound : (event : Event) (made : EventOutcome) → step script event world ≡ Some made
+    returned_sound : (event : Event) (made : EventOutcome) → MakesMove script event world made
         → (h : IsNodeReturn script event world made)
         → IsSoundHost (host_after_return (log_after_return script h.n world) h.host)
     returned_sound event made happened h =
@@ -300,7 +317,7 @@ module _ (script : List Statement) (is_script : IsScript script) (grows : (world
         let here = is.hosts n host there in
         record { node = here.node; once = here.once; numbers = λ lost. numbers_left host up; count = here.count }
 
-    module _ (event : Event) (made : EventOutcome) (happened : step script event world ≡ Some made) where
+    module _ (event : Event) (made : EventOutcome) (happened : MakesMove script event world made) where
       abbrev EachSound : World → Type 0
       EachSound after = (n : ℕ) (host : Host) → tree.get after.hosts n ≡ Some host → IsSoundHost host
 
@@ -341,7 +358,7 @@ module _ (script : List Statement) (is_script : IsScript script) (grows : (world
 
       pub sound_after : IsSoundWorld script made.world
       sound_after =
-          let kind = happens script event world made happened in
+          let kind = goes_by_kind script event world made happened in
           let sent = sent_after kind in
           record {
             together = together_kept script event world made happened holds sent;

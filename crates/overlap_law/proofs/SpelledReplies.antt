@@ -1,5 +1,7 @@
 -- What a node says to a request can be spelled, where its rows can be told; and it fits what the request asked.
-use Rattle.std.proofs.Common.{◌≡◌, inl, inr, arith, ℕ, suc, ◌+◌, ◌-◌, ◌*◌, ◌^◌, ◌<◌, ◌≤◌, nat_lt, nat_le, Bool, true, false, cond, List, [], ◌∷◌, ◌++◌, length, drop, All, Contains, Option, Some, None, IfSome, Result, Ok, Err, refl, sym, ap, subst, ◌∙◌}
+use Rattle.std.proofs.Common.{◌≡◌, inl, inr, arith, ℕ, suc, ◌+◌, ◌-◌, ◌*◌, ◌^◌, ◌<◌, ◌≤◌, nat_lt, nat_le, Bool, true, false, cond, List, []}
+use Rattle.std.proofs.Common.{◌∷◌, ◌++◌, length, drop, All, Contains, Option, Some, None, IfSome, Result, Ok, Err, refl, sym, ap, subst}
+use Rattle.std.proofs.Common.{◌∙◌}
 use Rattle.std.specs.Prelude.{slice_get}
 use Rattle.std.specs.Option.{option_map}
 use Rattle.std.specs.FinMap as tree
@@ -32,7 +34,8 @@ use Rattle.peer_proto.proofs.RowLemmas.{ends-trimmed_bytes, length-trimmed_bytes
 use Rattle.peer_service.specs.State.{Peer, is_waiting}
 use Rattle.peer_service.specs.Fence.{epoch_refusal}
 use Rattle.peer_service.specs.Serve as serve
-use Rattle.peer_service.specs.Serve.{piece_or_refusal, peer_say_step, peer_write_step, row_or_none, step_if_recovered, step_behind_fence, peer_step}
+use Rattle.peer_service.specs.Serve.{piece_or_refusal, peer_say_step, peer_write_step, row_or_none, step_if_recovered, step_behind_fence}
+use Rattle.peer_service.specs.Serve.{peer_step}
 use Rattle.gateway.specs.Work.{is_making, is_piece, ask_for}
 use Rattle.gateway.specs.State.{fits_work}
 use Rattle.peer_proto.specs.declared.work.ObjWork.{ObjWork}

@@ -1,5 +1,6 @@
 -- That the invariant makes attempts stand: one that isn't doomed is in each row that reaches beyond its epoch.
-use Rattle.std.proofs.Common.{◌≡◌, ◌⊎◌, inl, inr, ⊎_elim, ℕ, zero, suc, ◌+◌, ◌<◌, ◌≤◌, ◌==◌, ◌&&◌, Bool, true, false, List, [], ◌∷◌, drop, Some, refl, ap, subst, ◌∙◌, slice_get, arith}
+use Rattle.std.proofs.Common.{◌≡◌, ◌⊎◌, inl, inr, ⊎_elim, ℕ, zero, suc, ◌+◌, ◌<◌, ◌≤◌, ◌==◌, ◌&&◌, Bool, true, false, List, [], ◌∷◌, drop}
+use Rattle.std.proofs.Common.{Some, refl, ap, subst, ◌∙◌, slice_get, arith}
 use Rattle.std.specs.List.{list_any}
 use Rattle.std.proofs.lemmas.Bool.{eqb-true, or_left, or_right, cases_eq, lt-ltb}
 use Rattle.object_id.specs.declared.entry.Entry.{Entry}
@@ -20,10 +21,12 @@ use Rattle.overlap_law.specs.Overlap.{Overlap}
 use Rattle.overlap_law.proofs.OverlapLemmas.{filter-passed}
 
 -- an attempt that covers a unit is found among those that do
-any-covers_unit : (unit : ℕ) (attempts : List AttemptRecord) (k : ℕ) (found : AttemptRecord) → slice_get attempts k ≡ Some found → covers_unit unit found ≡ true
+any-covers_unit : (unit : ℕ) (attempts : List AttemptRecord) (k : ℕ) (found : AttemptRecord) → slice_get attempts k ≡ Some found
+    → covers_unit unit found ≡ true
     → list_any (covers_unit unit) attempts ≡ true
 any-covers_unit unit [] k found e covering = absurd (cc)
-any-covers_unit unit (attempt ∷ attempts) zero found e covering = or_left (covers_unit unit attempt) (list_any (covers_unit unit) attempts) (cc (e, covering))
+any-covers_unit unit (attempt ∷ attempts) zero found e covering =
+    or_left (covers_unit unit attempt) (list_any (covers_unit unit) attempts) (cc (e, covering))
 any-covers_unit unit (attempt ∷ attempts) (suc k) found e covering =
     or_right (covers_unit unit attempt) (list_any (covers_unit unit) attempts) (any-covers_unit unit attempts k found e covering)
 
@@ -36,11 +39,13 @@ any-behind unit (attempt ∷ attempts) zero (suc k) found below e covering = any
 any-behind unit (attempt ∷ attempts) (suc j) (suc k) found below e covering = any-behind unit attempts j k found (omega arith) e covering
 
 -- so none is there where it is said that none covers it
-none-behind : (unit : ℕ) (attempts : List AttemptRecord) (j k : ℕ) (found : AttemptRecord) → is_covered_behind j unit attempts ≡ false → j < k
+none-behind : (unit : ℕ) (attempts : List AttemptRecord) (j k : ℕ) (found : AttemptRecord) → is_covered_behind j unit attempts ≡ false
+    → j < k
     → slice_get attempts k ≡ Some found → covers_unit unit found ≡ true → ⊥
 none-behind unit attempts j k found none below e covering =
     let next : suc j ≡ j + 1 = omega arith in
-    let some = subst (λ (n : ℕ). list_any (covers_unit unit) (drop n attempts) ≡ true) next (any-behind unit attempts j k found below e covering) in
+    let some = subst (λ (n : ℕ). list_any (covers_unit unit) (drop n attempts) ≡ true) next
+    (any-behind unit attempts j k found below e covering) in
     cc (some, none)
 
 -- what may be read as of the last attempt on a unit is its part
@@ -48,14 +53,16 @@ read-last : (strips : Bool) (attempts : List AttemptRecord) (unit j index : ℕ)
     → reading_by strips attempts unit j index bytes → slice_get attempts j ≡ Some attempt → is_covered_behind j unit attempts ≡ false
     → bytes ≡ unit_part_by index unit attempt.work
 read-last true attempts unit j index bytes attempt read there none =
-    read.own attempt there (record { each = λ k later at below covering. absurd (none-behind unit attempts j k later none below at covering) })
+    read.own attempt there (record {
+      each = λ k later at below covering. absurd (none-behind unit attempts j k later none below at covering);
+    })
 read-last false attempts unit j index bytes attempt read there none = ⊎_elim
     (λ (same : read.place ≡ j).
     let there' = subst (λ (k : ℕ). slice_get attempts k ≡ Some read.attempt) same read.there in
     let one : read.attempt ≡ attempt = cc (there', there) in
     read.same ∙ ap (λ (a : AttemptRecord). unit_part_by index unit a.work) one)
-    (λ (other : ¬ (read.place ≡ j)). absurd (none-behind unit attempts j read.place read.attempt none (above other read.no_earlier) read.there read.covering))
-    (cases_eq read.place j)
+    (λ (other : ¬ (read.place ≡ j)). absurd (none-behind unit attempts j read.place read.attempt none (above other read.no_earlier)
+    read.there read.covering)) (cases_eq read.place j)
   where
     above : {k : ℕ} → ¬ (k ≡ j) → j ≤ k → j < k
     above other later = omega arith

@@ -1,5 +1,6 @@
 -- In each run in range what a write without reply has to write stands by the history.
-use Rattle.std.proofs.Common.{◌≡◌, ◌≢◌, ⊎_elim, ℕ, ◌+◌, ◌/◌, ◌<◌, Bool, true, false, List, [], ◌∷◌, ◌++◌, length, fold, filter, Contains, Option, Some, None, refl, sym, ap, subst, ◌∙◌}
+use Rattle.std.proofs.Common.{◌≡◌, ◌≢◌, ⊎_elim, ℕ, ◌+◌, ◌/◌, ◌<◌, Bool, true, false, List, [], ◌∷◌, ◌++◌, length, fold, filter, Contains}
+use Rattle.std.proofs.Common.{Option, Some, None, refl, sym, ap, subst, ◌∙◌}
 use Rattle.std.specs.Prelude.{flat_map}
 use Rattle.std.specs.Option.{option_map_or}
 use Rattle.std.specs.Ordering.{nat_cmp}
@@ -20,18 +21,22 @@ use Rattle.sheep_node.specs.declared.input.Input.TheVariants as inputs
 use Rattle.sheep_node.specs.State.{Node}
 use Rattle.sheep_node.specs.Step.{node_step}
 use Rattle.sheep_node.proofs.StepChain.{kept_by_chain, step_chain}
-use Rattle.sheep_world.specs.Began.{Began}
-use Rattle.sheep_world.specs.EventKinds.{log_after_return, outcome_of_step, EventKind, NodeStep, UntoldLoss, UnreadDelivery, NodeLoss, NodeLeave, NodeReweight, NodeJoin, NodeReturn, PhaseEnd}
+use Rattle.sheep_world.specs.Began.{Began, MakesMove}
+use Rattle.sheep_world.specs.EventKinds.{log_after_return, outcome_of_step, EventKind, NodeStep, UntoldLoss, UnreadDelivery, NodeLoss}
+use Rattle.sheep_world.specs.EventKinds.{NodeLeave, NodeReweight, NodeJoin, NodeReturn, PhaseEnd}
 use Rattle.sheep_world.specs.HistoryAdditions.{block_in, check_write_by, check_write_grown, is_lost_write, replies_grown}
 use Rattle.sheep_world.specs.HostChanges.{host_after_return, joined_host}
 use Rattle.sheep_world.specs.MembershipChanges.{lost_host}
-use Rattle.sheep_world.specs.NodeCauses.{NodeCause, GuestAsks, RequestComes, ReplyComes, LossIsTold, EntryIsRead, EntryIsPut, RecoveryTicks, WorkIsRetried, input_of_cause, event_of_cause, IsCause, history_of_cause, host_with_node, progress_at_cause, world_after_cause}
+use Rattle.sheep_world.specs.NodeCauses.{NodeCause, GuestAsks, RequestComes, ReplyComes, LossIsTold, EntryIsRead, EntryIsPut, RecoveryTicks}
+use Rattle.sheep_world.specs.NodeCauses.{WorkIsRetried, ClientAsks, input_of_cause, event_of_cause, IsCause, history_of_cause}
+use Rattle.sheep_world.specs.NodeCauses.{host_with_node, progress_at_cause, world_after_cause}
 use Rattle.sheep_world.specs.NodeSteps.{progress_after_reply}
 use Rattle.sheep_world.specs.Opening.{initial_world}
-use Rattle.sheep_world.specs.Step.{EventOutcome, step}
+use Rattle.sheep_world.specs.Step.{EventOutcome}
 use Rattle.sheep_world.specs.World.{Host, World, is_host_up}
-use Rattle.sheep_world.proofs.EventInversion.{happens}
+use Rattle.sheep_world.proofs.ClientReads.{goes_by_kind}
 use Rattle.sheep_world.proofs.WireAtOpening.{opening_found}
+use Rattle.sheep_world.specs.RunsWithAsks.{Move}
 use Rattle.overlap_law.specs.HistoryGrowth.{added_at_cause, added_by_reply}
 use Rattle.overlap_law.specs.MomentChanges.{RunsAreInRange}
 use Rattle.overlap_law.specs.Past.{MomentWithPast, first_moment, past_after_event, run_on, run_with_past}
@@ -45,12 +50,13 @@ use Rattle.overlap_law.proofs.RefusedInRuns.{left_by}
 use Rattle.overlap_law.proofs.RequestsInSteps.{KnownIn, change_known, received_none, received_replies}
 use Rattle.overlap_law.proofs.RunsByEvents.{KeptByEvents, run-kept_by_events}
 use Rattle.overlap_law.proofs.RunsWithOneMore.{run_with_one_more}
-use Rattle.overlap_law.proofs.SessionsOfRequests.{are_asked, asked_so_far, brought}
+use Rattle.overlap_law.proofs.SessionsOfRequests.{brought, asked_so_far, are_asked, by_line, are_asked_by_line, of_ask}
 use Rattle.overlap_law.proofs.StandingLists.{AreCalm, check_calm, entry_calm, lost_calm, replies_calm, strays, waiting}
 use Rattle.overlap_law.proofs.StandingMoments.{stands_then}
 use Rattle.overlap_law.proofs.StandingOnDisks.{StandsIn}
 use Rattle.overlap_law.proofs.StandingUnderWay.{StandAt, StandIn, began, began_same, goes_on, later_none, on_it, once}
 use Rattle.overlap_law.proofs.UnansweredRequests.{Guests, back_empty, first_empty}
+use Rattle.overlap_law.proofs.GoingOn.{goes_as}
 
 -- what has no reply behind some had none before
 pub began_left : (script : List Statement) (guests : Guests) (replies : List (ℕ × GuestRsp)) (req : ℕ) (disk : Option ℕ)
@@ -94,18 +100,19 @@ was_before cause at_once node req request got =
     no_guest (EntryIsPut entry) at_once other number own from = cc (from)
     no_guest RecoveryTicks at_once other number own from = cc (from)
     no_guest WorkIsRetried at_once other number own from = at_once
+    no_guest (ClientAsks req ask) at_once other number own from = at_once
 
-module _ (script : List Statement) (range : RunsAreInRange script) (events : List Event) (start : MomentWithPast)
+module _ (script : List Statement) (range : RunsAreInRange script) (events : List Move) (start : MomentWithPast)
     (ran : run_with_past script events ≡ Some start) (all : StandAt script start) (event : Event) where
   begun : Began script start.world
   begun = began script range events start ran
 
   -- what an event leaves
   abbrev Leaves : EventOutcome → Type 0
-  Leaves m = step script event start.world ≡ Some m → StandIn script m.world.hosts m.world.guests (start.past.history ++ m.grown)
+  Leaves m = MakesMove script event start.world m → StandIn script m.world.hosts m.world.guests (start.past.history ++ m.grown)
 
   -- of a write that a node had before, where nothing strays in what the event adds
-  had_stands : (m : EventOutcome) → step script event start.world ≡ Some m → (n : ℕ) (host : Host)
+  had_stands : (m : EventOutcome) → MakesMove script event start.world m → (n : ℕ) (host : Host)
       → tree.get start.world.hosts n ≡ Some host → host.is_lost ≡ false → (req : ℕ) (was : Request)
       → tree.get host.node.requests req ≡ Some was → (session : ℕ) → was.session ≡ session → (vid : ℕ)
       → BeganOn script start.world.guests req (Some vid) → (offset : ℕ) (payload : List ℕ)
@@ -151,9 +158,10 @@ module _ (script : List Statement) (range : RunsAreInRange script) (events : Lis
     grown_so (EntryIsPut entry) by = absurd by
     grown_so RecoveryTicks by = absurd by
     grown_so WorkIsRetried by = refl
+    grown_so (ClientAsks req ask) by = refl
 
     many_so : (cause : NodeCause) → IsCause script start.world n host cause → StepsByChanges cause
-        → step script (event_of_cause n cause) start.world ≡ Some (outcome cause)
+        → MakesMove script (event_of_cause n cause) start.world (outcome cause)
         → StandIn script (after cause).hosts (after cause).guests (start.past.history ++ (outcome cause).grown)
     many_so cause caused by made q now at_end up_now req request got vid at offset payload is place inside =
         subst (λ (grown : List HistEvent).
@@ -185,6 +193,7 @@ module _ (script : List Statement) (range : RunsAreInRange script) (events : Lis
         replies_calm script req session block start.world None (after RecoveryTicks).outputs.replies
         (none_calm script req session block (after RecoveryTicks).outputs.replies (tick_silent host.node))
     calm_so req session block WorkIsRetried at_once = absurd at_once
+    calm_so req session block (ClientAsks number asks) at_once = absurd at_once
 
     found_same : (cause : NodeCause) → StepsAtOnce cause → progress_at_cause cause start.world ≡ start.world.guests
     found_same (GuestAsks of other ask) at_once = absurd at_once
@@ -195,9 +204,10 @@ module _ (script : List Statement) (range : RunsAreInRange script) (events : Lis
     found_same (EntryIsPut entry) at_once = refl
     found_same RecoveryTicks at_once = refl
     found_same WorkIsRetried at_once = absurd at_once
+    found_same (ClientAsks req ask) at_once = absurd at_once
 
     one_so : (cause : NodeCause) → IsCause script start.world n host cause → StepsAtOnce cause
-        → step script event start.world ≡ Some (outcome cause)
+        → MakesMove script event start.world (outcome cause)
         → StandIn script (after cause).hosts (after cause).guests (start.past.history ++ (outcome cause).grown)
     one_so cause caused at_once happened q now at_end up_now req request got vid at offset payload is place inside = ⊎_elim
         (λ (own : (q ≡ n) × (host_with_node host (node_step (input_of_cause cause) host.node).node ≡ now)).
@@ -221,15 +231,17 @@ module _ (script : List Statement) (range : RunsAreInRange script) (events : Lis
         same_session : (was : Request) → tree.get host.node.requests req ≡ Some was
             → tree.get (node_step (input_of_cause cause) host.node).node.requests req ≡ Some request → was.session ≡ request.session
         same_session was had here =
-            let before = are_asked script start.world begun n host there req was had in
-            let then = (asked_so_far script n host.incarnation (input_of_cause cause) host.node
+            let of_script = of_ask script req (asks.Disk (disk_asks.Write offset payload)) is in
+            let before = are_asked_by_line script start.world begun n host there req was had of_script in
+            let then = by_line script n host.incarnation req request.session
+            ((asked_so_far script n host.incarnation (input_of_cause cause) host.node
             (brought script start.world n host cause caused) (are_asked script start.world begun n host there)
-            (step_chain (input_of_cause cause) host.node)).asked req request here in
+            (step_chain (input_of_cause cause) host.node)).asked req request here) of_script in
             same_Some was.session request.session (sym before.asking ∙ then.asking)
 
     step_so : (cause : NodeCause) → IsCause script start.world n host cause → event_of_cause n cause ≡ event → Leaves (outcome cause)
     step_so cause caused named happened = either cause
-        (λ by. many_so cause caused by (ap (λ (e : Event). step script e start.world) named ∙ happened))
+        (λ by. many_so cause caused by (goes_as script start.world named refl happened))
         (λ at_once. one_so cause caused at_once happened)
       where
         either : (other : NodeCause)
@@ -244,6 +256,7 @@ module _ (script : List Statement) (range : RunsAreInRange script) (events : Lis
         either (EntryIsPut entry) many one = one tt
         either RecoveryTicks many one = one tt
         either WorkIsRetried many one = many tt
+        either (ClientAsks req ask) many one = many tt
 
   -- ---- every event
 
@@ -267,7 +280,8 @@ module _ (script : List Statement) (range : RunsAreInRange script) (events : Lis
       (lost_calm script req request.session (offset / 512 + place)
       (filter (is_lost_write script start.world h.n h.host) (numbered_requests script))
       (loss_ends_none req script start.world h.n h.host n now.incarnation request.session other.0
-      (are_asked script start.world begun n now other.1 req request there))))
+      (are_asked_by_line script start.world begun n now other.1 req request there
+      (of_ask script req (asks.Disk (disk_asks.Write offset payload)) is)))))
       (get-insert_cases start.world.hosts h.n (lost_host h.host) n now got))
   event_so made (NodeLeave h) = subst Leaves h.made_so
       (λ happened n now got up req request there vid at offset payload is place inside.
@@ -302,7 +316,7 @@ module _ (script : List Statement) (range : RunsAreInRange script) (events : Lis
 module _ (script : List Statement) (range : RunsAreInRange script) where
   -- the moment of a run, in which they stand
   abbrev StandsInRun : MomentWithPast → Type 0
-  StandsInRun moment = ((events : List Event) × (run_with_past script events ≡ Some moment)) × StandAt script moment
+  StandsInRun moment = ((events : List Move) × (run_with_past script events ≡ Some moment)) × StandAt script moment
 
   opens_so : StandsInRun (first_moment script)
   unfolding run_with_past run_on initial_world
@@ -317,9 +331,9 @@ module _ (script : List Statement) (range : RunsAreInRange script) where
   events_so : KeptByEvents script StandsInRun
   unfolding past_after_event
   events_so event before made is happened ((events, ran), all) = (
-    (events ++ event ∷ [], run_with_one_more script event made events before happened ran),
-    event_so script range events before ran all event made (happens script event before.world made happened) happened,
+    (events ++ happened.move ∷ [], run_with_one_more script event made events before happened ran),
+    event_so script range events before ran all event made (goes_by_kind script event before.world made happened) happened,
   )
 
-  pub stand-in_run : (events : List Event) (moment : MomentWithPast) → run_with_past script events ≡ Some moment → StandAt script moment
+  pub stand-in_run : (events : List Move) (moment : MomentWithPast) → run_with_past script events ≡ Some moment → StandAt script moment
   stand-in_run events moment is = (run-kept_by_events script StandsInRun opens_so events_so events moment is).1

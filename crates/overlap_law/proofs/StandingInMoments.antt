@@ -5,8 +5,8 @@ use Rattle.std.proofs.lemmas.List.Sums.{fold-append}
 use Rattle.cluster_script.specs.declared.statement.Statement.{Statement}
 use Rattle.disk_history.specs.declared.event.HistEvent.{HistEvent}
 use Rattle.disk_history.specs.Ledger.{Ledger, empty_ledger, ledger_after}
-use Rattle.sheep_node.specs.declared.event.Event.{Event}
 use Rattle.sheep_world.specs.Began.{Began}
+use Rattle.sheep_world.specs.RunsWithAsks.{Move}
 use Rattle.vdi_directory.specs.Decisions.{log_effects}
 use Rattle.overlap_law.specs.Headline.{ledger_of}
 use Rattle.overlap_law.specs.MomentChanges.{MomentTrail, MomentChange, RunsAreInRange}
@@ -43,7 +43,7 @@ kept_last {script} {start} {before} {after} kept v =
     ap (λ (events : List HistEvent). (ledger_of events).disks v) kept.now
     ∙ added_last before.past.history kept.front kept.added kept.back kept.were kept.apart v
 
-module _ (script : List Statement) (range : RunsAreInRange script) (events : List Event) (start before after : MomentWithPast)
+module _ (script : List Statement) (range : RunsAreInRange script) (events : List Move) (start before after : MomentWithPast)
     (run : run_with_past script events ≡ Some start) (trail : MomentTrail script start before)
     (change : MomentChange script start before after) (good_id : ℕ → Bool) where
   began : Began script start.world

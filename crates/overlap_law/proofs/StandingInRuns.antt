@@ -1,5 +1,6 @@
 -- In each run in range what a check under way began to write stands: its session holds the disk, and begins no write on it but the check's.
-use Rattle.std.proofs.Common.{◌≡◌, inr, ⊎_elim, ℕ, ◌==◌, Bool, true, false, not, ◌&&◌, ◌||◌, List, [], ◌∷◌, Contains, Option, Some, None, is_none, refl, sym, ap, ◌∙◌}
+use Rattle.std.proofs.Common.{◌≡◌, inr, ⊎_elim, ℕ, ◌==◌, Bool, true, false, not, ◌&&◌, ◌||◌, List, [], ◌∷◌, Contains, Option, Some, None}
+use Rattle.std.proofs.Common.{is_none, refl, sym, ap, ◌∙◌}
 use Rattle.std.specs.List.{list_any}
 use Rattle.std.specs.Option.{option_map_or}
 use Rattle.std.specs.FinMap as tree
@@ -8,7 +9,8 @@ use Rattle.std.proofs.lemmas.List.Elements.{Contains-append_cases}
 use Rattle.std.proofs.lemmas.Option.{same_Some}
 use Rattle.object_id.specs.declared.entry.Entry.{Entry}
 use Rattle.disk_history.specs.declared.event.HistEvent.{HistEvent}
-use Rattle.disk_history.specs.declared.event.HistEvent.TheVariants.{Create, Copy, Delete, WriteStart, WriteDone, WriteRefused, WriterLost, Read}
+use Rattle.disk_history.specs.declared.event.HistEvent.TheVariants.{Create, Copy, Delete, WriteStart, WriteDone, WriteRefused, WriterLost}
+use Rattle.disk_history.specs.declared.event.HistEvent.TheVariants.{Read}
 use Rattle.disk_history.specs.Changes.{items_in}
 use Rattle.disk_history.specs.Ledger.{has_block}
 use Rattle.cluster_script.specs.declared.statement.Statement.{Statement}
@@ -22,12 +24,13 @@ use Rattle.sheep_node.specs.declared.course.Request.{Request}
 use Rattle.sheep_node.specs.declared.event.Event.{Event}
 use Rattle.sheep_node.specs.SessionQueues.{command_in, session_among}
 use Rattle.sheep_world.specs.World.{Host, World}
-use Rattle.sheep_world.specs.Began.{Began}
+use Rattle.sheep_world.specs.Began.{Began, MakesMove}
 use Rattle.sheep_world.specs.Effects.{open_disk_at, request_started}
 use Rattle.sheep_world.specs.EventKinds.{outcome_of_step}
 use Rattle.sheep_world.specs.HistoryAdditions.{is_write, replies_grown, request_grown}
 use Rattle.sheep_world.specs.NodeCauses.{GuestAsks, world_after_cause}
-use Rattle.sheep_world.specs.Step.{EventOutcome, step}
+use Rattle.sheep_world.specs.Step.{EventOutcome}
+use Rattle.sheep_world.specs.RunsWithAsks.{Move}
 use Rattle.overlap_law.specs.DiskEvents.{begins_by_others, ends_write_of, is_asked_in, WritesOfChecksStand}
 use Rattle.overlap_law.specs.Headline.{ledger_of}
 use Rattle.overlap_law.specs.MomentChanges.{RunsAreInRange}
@@ -40,7 +43,7 @@ use Rattle.overlap_law.proofs.HoldersInWorlds.{begins_free, working_held}
 use Rattle.overlap_law.proofs.ItemsAtBegin.{request_begins}
 use Rattle.overlap_law.proofs.ItemsOfReplies.{is_check_at, is_write_at, replies_none}
 use Rattle.overlap_law.proofs.OpenItemsInRuns.{fewer_make, kept_then}
-use Rattle.overlap_law.proofs.SessionsOfRequests.{IsAskedIn, are_asked}
+use Rattle.overlap_law.proofs.SessionsOfRequests.{IsAskedIn, are_asked_by_line, of_test, are_scripts}
 use Rattle.overlap_law.proofs.StandingBefore.{Stands, disturbs, stands_begins, stands_item, stands_stays}
 use Rattle.overlap_law.proofs.UnansweredRequests.{requests_tied}
 use Rattle.overlap_law.proofs.UnderWay.{IsKeptOnHeld}
@@ -102,12 +105,12 @@ module _ (script : List Statement) (range : RunsAreInRange script) (req : ℕ) (
   module _ (world : World) (began : Began script world) (n : ℕ) (host : Host) (there : tree.get world.hosts n ≡ Some host)
       (request : Request) (got : tree.get host.node.requests req ≡ Some request) where
     asked : IsAskedIn script n host.incarnation req request.session
-    asked = are_asked script world began n host there req request got
+    asked = are_asked_by_line script world began n host there req request got (of_test script is_check req checks)
 
     -- the check is the command of its session
     is_command : command_in request.session host.node.sessions ≡ Some req
     is_command =
-        let kind = (requests_tied script range world began n host there req request got).kind in
+        let kind = (requests_tied script range world began n host there req request got (of_test script is_check req checks)).kind in
         ((sound_world script range world began).hosts n host there).node.sole_commands.named req request got
         (kind ∙ check_off_disk (request_at script req) checks)
 
@@ -121,7 +124,7 @@ module _ (script : List Statement) (range : RunsAreInRange script) (req : ℕ) (
 
     -- so only the check begins writes on the disk that its session has open
     pub only_own : host.is_lost ≡ false → (disk : Disk) → (session_among request.session host.node.sessions).disk ≡ Some disk
-        → disk.snapshot ≡ false → (event : Event) (made : EventOutcome) → step script event world ≡ Some made
+        → disk.snapshot ≡ false → (event : Event) (made : EventOutcome) → MakesMove script event world made
         → list_any (begins_by_others disk.inode.vid (λ (other : ℕ). other == req)) made.grown ≡ false
     only_own up disk opened working =
         others_none script range world began disk.inode.vid (session_holder n request.session)
@@ -138,8 +141,8 @@ module _ (script : List Statement) (range : RunsAreInRange script) (req : ℕ) (
         let free = begins_free script range world began m second found up_there session other ask caused in
         absurd (cc (none, free)))
         (λ m second found write comes same.
-        let here = are_asked script world began m second found write.req
-        (record { session = comes.session; course = Checking comes.check }) comes.there in
+        let here = are_scripts script range.is_script world began m second found write.req
+        (record { session = comes.session; course = Checking comes.check }) comes.there refl in
         let is : host ≡ second = same_host m second found here.of (ap (session_numbered script) (sym same) ∙ here.declared) here.of_node in
         let sole = ((sound_world script range world began).hosts m second found).node.sole_commands in
         let named : command_in comes.session second.node.sessions ≡ Some write.req
@@ -193,7 +196,7 @@ module _ (script : List Statement) (range : RunsAreInRange script) (req : ℕ) (
       (Contains-append_cases history (outcome_of_step script n host (GuestAsks session other ask) world).grown
       (WriteStart req disk.inode.vid block coded bytes) there_is))
 
-pub checks_stand-in_run : (script : List Statement) → RunsAreInRange script → (events : List Event) (moment : MomentWithPast)
+pub checks_stand-in_run : (script : List Statement) → RunsAreInRange script → (events : List Move) (moment : MomentWithPast)
     → run_with_past script events ≡ Some moment → WritesOfChecksStand script moment.past.history moment.world.hosts
 checks_stand-in_run script range events moment is = record {
   each = λ n host there up req block opened coded bytes way checks there_is has.

@@ -1,5 +1,6 @@
 -- In the middle of a step what its node, and each other one, has to write stands by the history so far.
-use Rattle.std.proofs.Common.{◌≡◌, ◌≢◌, ◌⊎◌, inl, inr, ⊎_elim, ℕ, ◌+◌, ◌/◌, ◌<◌, ◌==◌, Bool, true, false, cond, List, [], ◌++◌, length, Contains, Option, Some, None, refl, sym, ap, subst, ◌∙◌, arith}
+use Rattle.std.proofs.Common.{◌≡◌, ◌≢◌, ◌⊎◌, inl, inr, ⊎_elim, ℕ, ◌+◌, ◌/◌, ◌<◌, ◌==◌, Bool, true, false, cond, List, [], ◌++◌, length}
+use Rattle.std.proofs.Common.{Contains, Option, Some, None, refl, sym, ap, subst, ◌∙◌, arith}
 use Rattle.std.specs.Prelude.{flat_map, nat_le}
 use Rattle.std.specs.List.{list_any}
 use Rattle.std.specs.Option.{option_map_or}
@@ -25,7 +26,6 @@ use Rattle.sheep_node.specs.declared.ask.Ask.{Ask}
 use Rattle.sheep_node.specs.declared.ask.Ask.TheVariants as asks
 use Rattle.sheep_node.specs.declared.input.Input.TheVariants as inputs
 use Rattle.sheep_node.specs.declared.course.Request.{Request}
-use Rattle.sheep_node.specs.declared.event.Event.{Event}
 use Rattle.sheep_node.specs.Guests.{is_open_disk_deleted, request_refusal}
 use Rattle.sheep_node.specs.SessionQueues.{session_among}
 use Rattle.sheep_node.specs.StepState.{StepState}
@@ -34,9 +34,12 @@ use Rattle.sheep_world.specs.Asking.{session_asking}
 use Rattle.sheep_world.specs.Effects.{open_disk_at, request_started}
 use Rattle.sheep_world.specs.EventKinds.{outcome_of_step}
 use Rattle.sheep_world.specs.HistoryAdditions.{block_in, check_write_by, check_write_grown, replies_grown, request_grown}
-use Rattle.sheep_world.specs.NodeCauses.{NodeCause, GuestAsks, RequestComes, ReplyComes, LossIsTold, EntryIsRead, EntryIsPut, RecoveryTicks, WorkIsRetried, input_of_cause, event_of_cause, IsCause, history_of_cause, host_with_node, progress_at_cause, world_after_cause}
+use Rattle.sheep_world.specs.NodeCauses.{NodeCause, GuestAsks, RequestComes, ReplyComes, LossIsTold, EntryIsRead, EntryIsPut, RecoveryTicks}
+use Rattle.sheep_world.specs.NodeCauses.{WorkIsRetried, ClientAsks, input_of_cause, event_of_cause, IsCause, history_of_cause}
+use Rattle.sheep_world.specs.NodeCauses.{host_with_node, progress_at_cause, world_after_cause}
 use Rattle.sheep_world.specs.Began.{Began}
 use Rattle.sheep_world.specs.World.{Host, World, is_host_up}
+use Rattle.sheep_world.specs.RunsWithAsks.{Move}
 use Rattle.overlap_law.specs.DiskEvents.{begins_by_others, is_asked_in}
 use Rattle.vdi_directory.specs.Decisions.{log_effects}
 use Rattle.overlap_law.specs.Each.{spec_in}
@@ -55,7 +58,7 @@ use Rattle.overlap_law.proofs.HoldersInWorlds.{open_here}
 use Rattle.overlap_law.proofs.InsideDisks.{open_spec, write_fits}
 use Rattle.overlap_law.proofs.OpenItemsInRuns.{fewer_make}
 use Rattle.overlap_law.proofs.RequestsInSteps.{KnownIn, change_known, received_none, received_replies}
-use Rattle.overlap_law.proofs.SessionsOfRequests.{are_asked}
+use Rattle.overlap_law.proofs.SessionsOfRequests.{are_asked, by_line, are_asked_by_line, of_ask, asked_session}
 use Rattle.overlap_law.proofs.StandingLists.{AreCalm, all_calm, asks_calm, check_calm, is_later, replies_calm, strays, waiting}
 use Rattle.overlap_law.proofs.StandingOnDisks.{StandsIn, begun_stands}
 use Rattle.overlap_law.proofs.StandingSteps.{asked, brought_calm, elsewhere_calm, had_calm, not_refused}
@@ -63,6 +66,8 @@ use Rattle.overlap_law.proofs.StandingUnderWay.{StandAt, began, began_same, foun
 use Rattle.overlap_law.proofs.StartedOnce.{UnansweredAreOnce}
 use Rattle.overlap_law.proofs.StartedWrites.{block_of}
 use Rattle.overlap_law.proofs.UnansweredRequests.{Guests}
+use Rattle.overlap_law.proofs.AsksInCauses.{no_ask}
+use Rattle.overlap_law.proofs.PlacedAnew.{brought_as}
 
 -- ---- what the beginning of a step adds
 
@@ -87,6 +92,7 @@ module _ (script : List Statement) (world : World) where
   first_none p n host (EntryIsPut entry) by none = refl
   first_none p n host RecoveryTicks by none = refl
   first_none p n host WorkIsRetried by none = refl
+  first_none p n host (ClientAsks req ask) by none = refl
 
   -- nothing in it strays
   pub first_calm : (req session block : ℕ) (cause : NodeCause)
@@ -100,6 +106,7 @@ module _ (script : List Statement) (world : World) where
   first_calm req session block (EntryIsPut entry) = refl
   first_calm req session block RecoveryTicks = refl
   first_calm req session block WorkIsRetried = refl
+  first_calm req session block (ClientAsks number asks) = refl
 
   -- a request that comes begins writes of its own
   own_begins : (vid : ℕ) (owns : ℕ → Bool) (req number : ℕ) (ask : Ask) (cause : NodeCause)
@@ -116,6 +123,7 @@ module _ (script : List Statement) (world : World) where
   own_begins vid owns req number ask (EntryIsPut entry) from does = refl
   own_begins vid owns req number ask RecoveryTicks from does = refl
   own_begins vid owns req number ask WorkIsRetried from does = refl
+  own_begins vid owns req number ask (ClientAsks begins asked) from does = refl
 
 -- a write that comes begins each of its blocks
 module _ (script : List Statement) (range : RunsAreInRange script) (world : World) (begun : Began script world) (n : ℕ) (host : Host)
@@ -144,6 +152,8 @@ module _ (script : List Statement) (range : RunsAreInRange script) (world : Worl
   write_begins (EntryIsPut entry) caused from = absurd (cc (from))
   write_begins RecoveryTicks caused from = absurd (cc (from))
   write_begins WorkIsRetried caused from = absurd (cc (from))
+  write_begins (ClientAsks begins what) caused from =
+      let same : begins ≡ req = cc (from) in absurd (no_ask caused req (asks.Disk (disk_asks.Write offset payload)) same is)
 
 -- ---- the disk on which it begins
 
@@ -168,7 +178,7 @@ not_snapshot disk deleted offset payload none = by_kind disk.snapshot refl
         = λ i. cond (snapshot i) (Some Readonly) (past_end disk.inode (disk_asks.Write offset payload)) in
         absurd (cc (refused, none))
 
-module _ (script : List Statement) (range : RunsAreInRange script) (events : List Event) (start : MomentWithPast)
+module _ (script : List Statement) (range : RunsAreInRange script) (events : List Move) (start : MomentWithPast)
     (ran : run_with_past script events ≡ Some start) (all : StandAt script start) (on : SteppingNode)
     (is : IsStepping script start.world on) (by : StepsByChanges on.cause) (so_far : StepState)
     (leads : LeadsInStep on (first_in_step on) so_far) where
@@ -247,7 +257,10 @@ module _ (script : List Statement) (range : RunsAreInRange script) (events : Lis
       where
         brings_it : IsOfSession ask × (asked_by script req ≡ Some ask)
             × BeganOn script found req (id_of_disk (session_among number on.host.node.sessions).disk)
-        brings_it = brings script start.world on.n on.host on.cause is.there is.caused req number ask from
+        brings_it =
+            brought_as (asked_by script) (BeganOn script found) req (session_among number on.host.node.sessions).disk ask
+            (asks.Disk (disk_asks.Write offset payload)) is_write
+            (brings script start.world on.n on.host on.cause is.there is.caused req number ask from)
 
         opened : IsOpenedAs (session_among number on.host.node.sessions).disk vid
         opened =
@@ -327,13 +340,14 @@ module _ (script : List Statement) (range : RunsAreInRange script) (events : Lis
     own_stands : (request : Request) → tree.get so_far.node.requests req ≡ Some request → (vid : ℕ) → BeganOn script found req (Some vid)
         → StandsSo request.session vid
     own_stands request got vid at =
-        let own = ((asked script range start.world begun on.n on.host is.there is.up on.cause (by_changes on.cause by) is.caused so_far
-        leads).asked req request got).asking in
+        let own = (by_line script on.n on.host.incarnation req request.session
+        ((asked script range start.world begun on.n on.host is.there is.up on.cause (by_changes on.cause by) is.caused so_far
+        leads).asked req request got) (of_ask script req (asks.Disk (disk_asks.Write offset payload)) is_write)).asking in
         ⊎_elim
         (λ (old : (was : Request) × (tree.get on.host.node.requests req ≡ Some was)).
-        let mine = are_asked script start.world begun on.n on.host is.there req old.0 old.1 in
         had_stands on.n on.host is.there (not_lost on.host is.up) old.0 old.1 request.session
-        (same_Some old.0.session request.session (sym mine.asking ∙ own)) vid at
+        (asked_session script on.n on.host.incarnation req old.0.session request.session
+        (are_asked script start.world begun on.n on.host is.there req old.0 old.1) own) vid at
         (had_calm script range start.world begun on.n on.host is.there is.up on.cause (by_changes on.cause by) is.caused req offset payload
         is_write place inside request.session own old.0 old.1 so_far leads request got))
         (λ (new : (number : ℕ) × (ask : Ask) × (input_of_cause on.cause ≡ inputs.Guest req number ask)).
@@ -348,7 +362,8 @@ module _ (script : List Statement) (range : RunsAreInRange script) (events : Lis
         (λ (own : (q ≡ on.n) × (host_with_node on.host so_far.node ≡ now)).
         own_stands request (ap (λ (h : Host). tree.get h.node.requests req) own.1 ∙ got) vid at)
         (λ (other : (q ≢ on.n) × (tree.get start.world.hosts q ≡ Some now)).
-        let its = are_asked script start.world begun q now other.1 req request got in
+        let its = are_asked_by_line script start.world begun q now other.1 req request got
+        (of_ask script req (asks.Disk (disk_asks.Write offset payload)) is_write) in
         had_stands q now other.1 up request got request.session refl vid at
         (elsewhere_calm script range start.world begun on.n on.host is.there is.up on.cause (by_changes on.cause by) is.caused req offset
         payload is_write place inside request.session its.asking q now.incarnation other.0 its so_far leads))

@@ -1,9 +1,11 @@
 -- A session begins its requests by ascending number: each that it has begun has a lower one than its next.
-use Rattle.std.proofs.Common.{◌≡◌, ℕ, zero, suc, ◌+◌, ◌<◌, ◌≤◌, Bool, true, false, cond, List, [], ◌∷◌, map, slice_get, Some, sym, ap, subst, ◌∙◌, arith}
+use Rattle.std.proofs.Common.{◌≡◌, ℕ, zero, suc, ◌+◌, ◌<◌, ◌≤◌, Bool, true, false, cond, List, [], ◌∷◌, map, slice_get, Some, sym, ap}
+use Rattle.std.proofs.Common.{subst, ◌∙◌, arith}
 use Rattle.std.specs.Option.{option_and_then}
 use Rattle.std.specs.FinMap as tree
 use Rattle.std.proofs.lemmas.Option.{same_Some}
 use Rattle.cluster_script.specs.declared.statement.Statement.{Statement}
+use Rattle.cluster_script.specs.Language.{IsScript}
 use Rattle.cluster_script.specs.NumberedRequests.{is_of_session, session_of}
 use Rattle.cluster_script.specs.Sessions.{ScriptSession}
 use Rattle.cluster_script.specs.Statements.{requests_of}
@@ -13,12 +15,16 @@ use Rattle.sheep_world.specs.Asking.{session_asking}
 use Rattle.sheep_world.specs.Began.{Began}
 use Rattle.sheep_world.specs.BegunRequests.{WasBegun}
 use Rattle.sheep_node.specs.declared.input.Input.TheVariants as inputs
-use Rattle.sheep_world.specs.NodeCauses.{NodeCause, GuestAsks, RequestComes, ReplyComes, LossIsTold, EntryIsRead, EntryIsPut, RecoveryTicks, WorkIsRetried, input_of_cause, IsCause}
+use Rattle.sheep_world.specs.NodeCauses.{NodeCause, GuestAsks, RequestComes, ReplyComes, LossIsTold, EntryIsRead, EntryIsPut, RecoveryTicks}
+use Rattle.sheep_world.specs.NodeCauses.{WorkIsRetried, ClientAsks, input_of_cause, IsCause}
 use Rattle.sheep_world.specs.World.{Host, World}
 use Rattle.sheep_world.proofs.AskedStatements.{next_asks}
 use Rattle.sheep_world.proofs.BegunRequestLaws.{were_begun}
 use Rattle.sheep_world.proofs.SessionNumbers.{those_of, numbers_from}
-use Rattle.overlap_law.proofs.SessionsOfRequests.{are_asked}
+use Rattle.overlap_law.proofs.SessionsOfRequests.{asked_in_session, of_asking}
+use Rattle.sheep_world.proofs.AsksInSteps.{session_above}
+use Rattle.sheep_world.proofs.AsksNumbers.{below_next}
+use Rattle.sheep_world.specs.ClientAsks.{next_ask_number}
 
 abbrev numbers : List (ℕ × Statement) → List ℕ
 numbers requests = map (λ (request : ℕ × Statement). request.0) requests
@@ -66,17 +72,18 @@ ascend first (s ∷ rest) session place behind req next less is too =
     by_test false i j less above later is too = later i j req next less is too
 
 -- what a session has begun has a lower number than its next request
-module _ (script : List Statement) (world : World) (began : Began script world) (n : ℕ) (host : Host)
+module _ (script : List Statement) (is_script : IsScript script) (world : World) (began : Began script world) (n : ℕ) (host : Host)
     (there : tree.get world.hosts n ≡ Some host) where
   pub before_next : (session : ScriptSession) (next : ℕ) (ask : Ask) (m : ℕ) (other : Host)
       → IsCause script world m other (GuestAsks session next ask) → (req : ℕ) (request : Request)
       → tree.get host.node.requests req ≡ Some request → request.session ≡ session.number → req < next
   before_next session next ask m other caused req request got of =
-      let begun = were_begun script world began n host there req request got in
+      let here = asked_in_session script world began n host there req request got
+      (λ zero. let above = session_above script is_script session.number session caused.declared in omega (arith, above, zero, of)) in
+      let begun = were_begun script world began n host there req request got (of_asking script req request.session here.asking) in
       let asks = next_asks script begun.session.number begun.begun.place req begun.begun.there in
       let asking : session_asking script req ≡ Some begun.session.number
       = ap (option_and_then session_of) asks.stands ∙ asks.own in
-      let here = are_asked script world began n host there req request got in
       let same : begun.session.number ≡ session.number
       = same_Some begun.session.number session.number (sym asking ∙ here.asking ∙ ap (λ (k : ℕ). Some k) of) in
       let was : WasBegun script world.guests session.number req
@@ -98,3 +105,8 @@ module _ (script : List Statement) (world : World) (began : Began script world) 
   before_asked (EntryIsPut entry) caused next session ask from req request got belongs = absurd (cc (from))
   before_asked RecoveryTicks caused next session ask from req request got belongs = absurd (cc (from))
   before_asked WorkIsRetried caused next session ask from req request got belongs = absurd (cc (from))
+  before_asked (ClientAsks begins what) caused next session ask from req request got belongs =
+      let same : begins ≡ next = cc (from) in
+      let number : next_ask_number world ≡ begins = caused.number in
+      let below : req < next_ask_number world = below_next script is_script world began n host there req request got in
+      omega (arith, same, number, below)

@@ -9,11 +9,12 @@ use Rattle.guest_driver.specs.declared.disk.Disk.{Disk}
 use Rattle.sheep_node.specs.Changes as changes
 use Rattle.sheep_node.specs.declared.event.Event.{Event}
 use Rattle.sheep_node.specs.StepState.{StepState}
-use Rattle.sheep_world.specs.Began.{Began}
+use Rattle.sheep_world.specs.Began.{Began, MakesMove}
 use Rattle.sheep_world.specs.EventKinds.{outcome_of_step}
 use Rattle.sheep_world.specs.NodeCauses.{event_of_cause, host_with_node, progress_at_cause}
-use Rattle.sheep_world.specs.Step.{EventOutcome, step}
+use Rattle.sheep_world.specs.Step.{EventOutcome}
 use Rattle.sheep_world.specs.World.{Host}
+use Rattle.sheep_world.specs.RunsWithAsks.{Move}
 use Rattle.overlap_law.specs.Headline.{ledger_of}
 use Rattle.overlap_law.specs.HistoryGrowth.{added_at_cause, added_by_reply}
 use Rattle.overlap_law.specs.MomentChanges as moments
@@ -21,21 +22,24 @@ use Rattle.overlap_law.specs.MomentChanges.{MomentChange, RunsAreInRange}
 use Rattle.overlap_law.specs.Past.{MomentWithPast, moment_after, run_with_past}
 use Rattle.overlap_law.specs.Pieces.{WritesHaveItems}
 use Rattle.overlap_law.specs.RequestsOfScript.{IsCourseOfAsk}
-use Rattle.overlap_law.specs.StepMoments.{SteppingNode, IsStepping, LeadsInStep, StepsByChanges, first_in_step, hosts_in_step, moment_in_step}
+use Rattle.overlap_law.specs.StepMoments.{SteppingNode, IsStepping, LeadsInStep, StepsByChanges, first_in_step, hosts_in_step}
+use Rattle.overlap_law.specs.StepMoments.{moment_in_step}
 use Rattle.overlap_law.proofs.CausedWorks.{by_changes}
-use Rattle.overlap_law.proofs.CoursesOfAsks.{IsPlacedIn}
+use Rattle.overlap_law.proofs.CoursesOfAsks.{IsPlacedIn, placed_as}
 use Rattle.overlap_law.proofs.CoursesOfScript.{asked_by, BeganOn, placed_found, requests_placed}
 use Rattle.overlap_law.proofs.EntryWorks.{known_disk}
 use Rattle.overlap_law.proofs.HistoryInMoments.{history_so}
 use Rattle.overlap_law.proofs.NoRecoveredDue.{began-with_past}
+use Rattle.overlap_law.proofs.PiecesUnderWay.{left_of_scripts}
 use Rattle.overlap_law.proofs.RunsWithOneMore.{run_with_one_more}
 use Rattle.overlap_law.proofs.StandingEvents.{stand-in_run}
 use Rattle.overlap_law.proofs.StandingMoments.{stands_then}
 use Rattle.overlap_law.proofs.StandingPieces.{piece_has_item, written-in_run}
 use Rattle.overlap_law.proofs.StandingSteps.{placed}
 use Rattle.overlap_law.proofs.WorksInMoments.{HaveWellWorks, well_after}
+use Rattle.sheep_node.specs.SessionQueues.{session_among}
 
-module _ (script : List Statement) (range : RunsAreInRange script) (events : List Event) (start : MomentWithPast)
+module _ (script : List Statement) (range : RunsAreInRange script) (events : List Move) (start : MomentWithPast)
     (ran : run_with_past script events ≡ Some start) where
   begun : Began script start.world
   begun = began-with_past script events start ran
@@ -68,8 +72,11 @@ module _ (script : List Statement) (range : RunsAreInRange script) (events : Lis
     step_written : WritesHaveItems (ledger_of so) (hosts_in_step on start.world so_far)
     step_written = record {
       each = λ q now at up req i unit request opened disk piece at_disk got inside.
-          let (began, known_so, course) = subst (IsPlacedIn (asked_by script) (BeganOn script (progress_at_cause on.cause start.world)) req
-          now.node.sessions) at_disk.there (placed_there q now at req) in
+          let (began, known_so, course) = placed_as (asked_by script) (BeganOn script (progress_at_cause on.cause start.world)) req
+          (session_among request.session now.node.sessions).disk request.course
+          (left_of_scripts opened.inode.spec.shift request.course i piece got)
+          (subst (IsPlacedIn (asked_by script) (BeganOn script (progress_at_cause on.cause start.world)) req now.node.sessions)
+          at_disk.there (placed_there q now at req)) in
           let known = known_disk now.node (well q now at) request.session opened at_disk.on in
           let shift = known.disk.spec_valid.shift.0 in
           piece_has_item script range now req request opened began
@@ -91,10 +98,10 @@ module _ (script : List Statement) (range : RunsAreInRange script) (events : Lis
 
   -- ---- each change
 
-  at_end : (event : Event) (made : EventOutcome) → step script event start.world ≡ Some made
+  at_end : (event : Event) (made : EventOutcome) → MakesMove script event start.world made
       → WritesHaveItems (ledger_of (moment_after script event start made).past.history) (moment_after script event start made).world.hosts
   at_end event made happened =
-      written-in_run script range (events ++ event ∷ []) (moment_after script event start made)
+      written-in_run script range (events ++ happened.move ∷ []) (moment_after script event start made)
       (run_with_one_more script event made events start happened ran)
 
   pub written_after : {before after : MomentWithPast} → MomentChange script start before after

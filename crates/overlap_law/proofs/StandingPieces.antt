@@ -10,9 +10,10 @@ use Rattle.guest_driver.specs.Pieces.{Piece}
 use Rattle.peer_proto.specs.declared.guest.DiskAsk.TheVariants as disk_asks
 use Rattle.sheep_node.specs.declared.ask.Ask.TheVariants as asks
 use Rattle.sheep_node.specs.declared.course.Request.{Request}
-use Rattle.sheep_node.specs.declared.event.Event.{Event}
+use Rattle.sheep_node.specs.SessionQueues.{session_among}
 use Rattle.sheep_world.specs.HistoryAdditions.{block_in}
 use Rattle.sheep_world.specs.World.{Host}
+use Rattle.sheep_world.specs.RunsWithAsks.{Move}
 use Rattle.overlap_law.specs.Headline.{ledger_of}
 use Rattle.overlap_law.specs.MomentChanges.{RunsAreInRange}
 use Rattle.overlap_law.specs.Past.{MomentWithPast, run_with_past}
@@ -20,11 +21,11 @@ use Rattle.overlap_law.specs.Pieces.{HasItem, IsInPiece, WritesHaveItems, bytes_
 use Rattle.overlap_law.specs.RequestsOfScript.{IsCourseOfAsk}
 use Rattle.overlap_law.specs.WrittenBlocks.{items_at}
 use Rattle.overlap_law.proofs.BlocksOfPieces.{block_of_piece}
-use Rattle.overlap_law.proofs.CoursesOfAsks.{IsPlacedIn}
+use Rattle.overlap_law.proofs.CoursesOfAsks.{IsPlacedIn, placed_as}
 use Rattle.overlap_law.proofs.CoursesOfScript.{asked_by, BeganOn, requests_placed}
 use Rattle.overlap_law.proofs.InsideDisks.{known_here}
 use Rattle.overlap_law.proofs.NoRecoveredDue.{began-with_past}
-use Rattle.overlap_law.proofs.PiecesUnderWay.{by_course, whole_blocks}
+use Rattle.overlap_law.proofs.PiecesUnderWay.{by_course, whole_blocks, left_of_scripts}
 use Rattle.overlap_law.proofs.StandingBefore.{stands_item}
 use Rattle.overlap_law.proofs.StandingEvents.{stand-in_run}
 use Rattle.overlap_law.proofs.StandingLists.{waiting}
@@ -58,13 +59,16 @@ module _ (script : List Statement) (range : RunsAreInRange script) (host : Host)
       subst (λ (bytes : List ℕ). HasItem (items_at disk opened.inode.spec piece.index unit) req bytes) (sym found.bytes)
       (subst (λ (k : ℕ). HasItem (disk.items k) req (block_in (payload_at request.course) found.place)) (sym found.block) item)
 
-pub written-in_run : (script : List Statement) → RunsAreInRange script → (events : List Event) (moment : MomentWithPast)
+pub written-in_run : (script : List Statement) → RunsAreInRange script → (events : List Move) (moment : MomentWithPast)
     → run_with_past script events ≡ Some moment → WritesHaveItems (ledger_of moment.past.history) moment.world.hosts
 written-in_run script range events moment is = record {
   each = λ n host there up req i unit request opened disk piece on got inside.
       let began = began-with_past script events moment is in
-      let (start, at, course) = subst (IsPlacedIn (asked_by script) (BeganOn script moment.world.guests) req host.node.sessions) on.there
-      (requests_placed script range moment.world began n host there req) in
+      let (start, at, course) = placed_as (asked_by script) (BeganOn script moment.world.guests) req
+      (session_among request.session host.node.sessions).disk request.course
+      (left_of_scripts opened.inode.spec.shift request.course i piece got)
+      (subst (IsPlacedIn (asked_by script) (BeganOn script moment.world.guests) req host.node.sessions) on.there
+      (requests_placed script range moment.world began n host there req)) in
       let known = known_here script range moment.world began n host there request.session opened on.on in
       let shift = known.disk.spec_valid.shift.0 in
       piece_has_item script range host req request opened start

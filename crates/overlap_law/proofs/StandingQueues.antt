@@ -143,7 +143,7 @@ module _ (script : List Statement) (range : RunsAreInRange script) where
         → Contains (queue_in session host.node.sessions) other → other.req < req
     above_queued cause caused req session ask from other among =
         let (request, got, belongs) = queued_there session other among in
-        before_asked script world began n host there cause caused req session ask from other.req request got belongs
+        before_asked script range.is_script world began n host there cause caused req session ask from other.req request got belongs
 
   ascending_kept : HostsKeep script (Began script) (λ (world : World) (n : ℕ) (host : Host). AreAscending host.node.sessions)
   unfolding initial_world

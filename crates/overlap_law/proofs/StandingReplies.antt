@@ -25,7 +25,10 @@ use Rattle.sheep_node.specs.SessionQueues.{QueuesAreDiskRequests, CommandsAreAlo
 use Rattle.sheep_node.specs.State.{Node}
 use Rattle.sheep_node.specs.StepState.{StepState, session_in, request_ended}
 use Rattle.sheep_node.specs.Changes as changes
-use Rattle.sheep_node.specs.Changes.{HasRequest, Outcome, ToWork, ToEntry, ToReply, RequestSteps, DiskBegins, DiskGoesOn, CommandBegins, CommandGoesOn, CommandDecided, CheckBegins, CheckGoesOn, ObjectBegins, ObjectIsDone, EntryBegins, EntryDecided, WorkIsNext, AtOnce, InTurn, Again, AgainAlone, Change, without_ended_work, without_denied_work, zones_of_members}
+use Rattle.sheep_node.specs.Changes.{HasRequest, Outcome, ToWork, ToEntry, ToReply, RequestSteps, DiskBegins, DiskGoesOn, CommandBegins}
+use Rattle.sheep_node.specs.Changes.{CommandGoesOn, CommandDecided, CheckBegins, CheckGoesOn, ObjectBegins, ObjectIsDone, EntryBegins}
+use Rattle.sheep_node.specs.Changes.{EntryDecided, WorkIsNext, AtOnce, InTurn, Again, AgainAlone, Change, without_ended_work}
+use Rattle.sheep_node.specs.Changes.{without_denied_work, zones_of_members}
 use Rattle.sheep_node.proofs.RefusedCourses.{this_refused-keeps}
 use Rattle.sheep_node.proofs.SoleCommands.{free}
 use Rattle.sheep_node.proofs.SoleParts.{CommandsAre, IsFreeFor, command_is_free}

@@ -1,6 +1,7 @@
 -- In the middle of a node's step, and at its end, no request is done that waits for a write which is there: what its session's queue has
 -- for the write stands before, and meets what it has for the other.
-use Rattle.std.proofs.Common.{◌≡◌, ◌≢◌, ◌⊎◌, inl, inr, ⊎_elim, ℕ, ◌+◌, ◌*◌, ◌/◌, ◌^◌, ◌<◌, ◌≤◌, ◌&&◌, Bool, true, false, List, length, Contains, Option, Some, None, slice_get, refl, sym, ap, subst, ◌∙◌, arith}
+use Rattle.std.proofs.Common.{◌≡◌, ◌≢◌, ◌⊎◌, inl, inr, ⊎_elim, ℕ, ◌+◌, ◌*◌, ◌/◌, ◌^◌, ◌<◌, ◌≤◌, ◌&&◌, Bool, true, false, List, length}
+use Rattle.std.proofs.Common.{Contains, Option, Some, None, slice_get, refl, sym, ap, subst, ◌∙◌, arith}
 use Rattle.std.specs.Ordering.{nat_cmp}
 use Rattle.std.specs.FinMap as tree
 use Rattle.std.proofs.lemmas.Bool.{eq-eqb}
@@ -38,7 +39,7 @@ use Rattle.overlap_law.specs.MomentChanges.{RunsAreInRange}
 use Rattle.overlap_law.specs.PastWords.{is_refusal}
 use Rattle.overlap_law.proofs.CausedWorks.{IsNotServed}
 use Rattle.overlap_law.proofs.CoursesAtChanges.{placed_in_chain}
-use Rattle.overlap_law.proofs.CoursesOfAsks.{PlacedSoFar, course_placed}
+use Rattle.overlap_law.proofs.CoursesOfAsks.{PlacedSoFar, course_placed, placed_as, placed_by_ask}
 use Rattle.overlap_law.proofs.CoursesOfScript.{asked_by, BeganOn, brings, placed_found, requests_placed}
 use Rattle.overlap_law.proofs.CoursesStepOn.{BeginsSo, IsKeptByCourses, IsSoAmong, IsSoIn, arrivals_so, change_so}
 use Rattle.overlap_law.proofs.CoveredCourses.{course_covered, shift_open}
@@ -49,13 +50,15 @@ use Rattle.overlap_law.proofs.QueuesInMoments.{HasGoodQueues, covered_in_world, 
 use Rattle.overlap_law.proofs.RepliesApart.{apart_so_far}
 use Rattle.overlap_law.proofs.RequestsInRuns.{at_place}
 use Rattle.overlap_law.proofs.RequestsInSteps.{KnownIn, change_known, received_none, received_replies}
-use Rattle.overlap_law.proofs.SessionsOfRequests.{IsAsked, IsAskedIn, are_asked, asked_so_far, brought}
+use Rattle.overlap_law.proofs.SessionsOfRequests.{IsAskedIn, IsAskedBy, IsAsked, brought, asked_so_far, are_asked, by_line, of_asking}
+use Rattle.overlap_law.proofs.SessionsOfRequests.{asked_session}
 use Rattle.overlap_law.proofs.StandingLists.{AreCalm, waiting}
 use Rattle.overlap_law.proofs.StandingMeets.{Waits, does_wait, from_first, to_last, touching_asks, write_course, write_covers, write_on}
 use Rattle.overlap_law.proofs.StandingNumbers.{before_asked}
 use Rattle.overlap_law.proofs.StandingQueues.{AreAscending, above_queued, ascending_in_world, ascending_so_far, stands_first}
 use Rattle.overlap_law.proofs.StandingReplies.{IsAsking, MayAnswer, Ran, Alone, comes_from}
 use Rattle.overlap_law.proofs.WholeInRuns.{may_change, sound_here}
+use Rattle.overlap_law.proofs.PlacedAnew.{disk_of_scripts}
 
 -- what a queue has for a request
 record IsQueuedAt (queue : List Queued) (req : ℕ) : Type 0 where
@@ -137,13 +140,14 @@ module _ (script : List Statement) (range : RunsAreInRange script) (world : Worl
         (other : ℕ) (apart : other ≢ req) (w : Waits script req session (offset / 512 + place) other) where
       asking_so : (number : ℕ) → IsAsking (input_of_cause cause) so_far number other → number ≡ session
       asking_so number (inl (course, found)) =
-          same_Some number session
-          (sym ((asked so_far leads).asked other (record { session = number; course = course }) found).asking ∙ w.asking)
+          asked_session script n host.incarnation other number session
+          ((asked so_far leads).asked other (record { session = number; course = course }) found) w.asking
       asking_so number (inr (ask, from)) =
-          same_Some number session (sym (brought script world n host cause caused other number ask from).asking ∙ w.asking)
+          asked_session script n host.incarnation other number session (brought script world n host cause caused other number ask from)
+          w.asking
 
       own_session : request.session ≡ session
-      own_session = same_Some request.session session (sym ((asked so_far leads).asked req request got).asking ∙ own)
+      own_session = asked_session script n host.incarnation req request.session session ((asked so_far leads).asked req request got) own
 
       no_answer : MayAnswer (input_of_cause cause) so_far other → ⊥
       no_answer (Alone number asks_it free) =
@@ -152,10 +156,14 @@ module _ (script : List Statement) (range : RunsAreInRange script) (world : Worl
           let same : number ≡ session = asking_so number (inl (course, found)) in
           let here : HasRequest number req request.course so_far
           = got ∙ (λ i. Some (record { session = (own_session ∙ sym same) i; course = request.course })) in
-          let (start, at, mine_so) = course_placed (asked_by script) (BeganOn script (progress_at_cause cause world)) number req
-          request.course so_far here (placed so_far leads) in
-          let (start_too, at_too, its_so) = course_placed (asked_by script) (BeganOn script (progress_at_cause cause world)) number other
-          course so_far found (placed so_far leads) in
+          let (start, at, mine_so) = placed_by_ask (asked_by script) (BeganOn script (progress_at_cause cause world)) req
+          (asks.Disk (disk_asks.Write offset payload)) is (session_in number so_far).disk request.course
+          (course_placed (asked_by script) (BeganOn script (progress_at_cause cause world)) number req request.course so_far here
+          (placed so_far leads)) in
+          let (start_too, at_too, its_so) = placed_as (asked_by script) (BeganOn script (progress_at_cause cause world)) other
+          (session_in number so_far).disk course (disk_of_scripts course disk)
+          (course_placed (asked_by script) (BeganOn script (progress_at_cause cause world)) number other course so_far found
+          (placed so_far leads)) in
           let opened = (session_in number so_far).disk in
           let on = write_on req offset payload (asked_by script req) is (session_in number so_far).disk start request.course mine_so in
           let wide : shift_open (session_in number so_far).disk ≡ Some on.disk.inode.spec.shift = ap shift_open on.there in
@@ -283,15 +291,17 @@ module _ (script : List Statement) (range : RunsAreInRange script) (world : Worl
 
           session_so : number ≡ session
           session_so =
-              same_Some number session (sym (brought script world n host cause caused req number ask from).asking ∙ own)
+              asked_session script n host.incarnation req number session (brought script world n host cause caused req number ask from) own
 
           old_earlier : Waits script req session (offset / 512 + place) reply.0 → (was : Request)
               → tree.get host.node.requests reply.0 ≡ Some was → ⊥
           old_earlier w was had =
-              let its = are_asked script world began n host there reply.0 was had in
               let belongs : was.session ≡ number
-              = same_Some was.session session (sym its.asking ∙ w.asking) ∙ sym session_so in
-              let less = before_asked script world began n host there cause caused req number ask from reply.0 was had belongs in
+              = asked_session script n host.incarnation reply.0 was.session session
+              (are_asked script world began n host there reply.0 was had) w.asking
+              ∙ sym session_so in
+              let less = before_asked script range.is_script world began n host there cause caused req number ask from reply.0 was had
+              belongs in
               let later = w.later in
               omega (arith, less, later)
 
@@ -356,19 +366,17 @@ module _ (script : List Statement) (range : RunsAreInRange script) (world : Worl
     pub elsewhere_calm : (q incarnation : ℕ) → q ≢ n → IsAskedIn script q incarnation req session → (so_far : StepState) → LeadsTo so_far
         → AreCalm script req session (offset / 512 + place) so_far.outputs.replies
     elsewhere_calm q incarnation other_node at so_far leads reply among = (
-      λ same. at_session (same_Some known.0 session
-          (sym (here.asking) ∙ ap (session_asking script) same ∙ own)),
+      λ same. at_session (ap (session_asking script) same ∙ own),
       λ fine. by_test (waiting script req session (offset / 512 + place) reply.0) refl,
     )
       where
-        known : (its : ℕ) × (disk : Bool) × IsAskedIn script n host.incarnation reply.0 its
+        known : (its : ℕ) × (disk : Bool) × IsAskedBy script n host.incarnation reply.0 its
         known = (asked so_far leads).replied reply among
 
-        here : IsAskedIn script n host.incarnation reply.0 known.0
-        here = known.2
-
-        at_session : known.0 ≡ session → ⊥
-        at_session same =
+        at_session : session_asking script reply.0 ≡ Some session → ⊥
+        at_session asking =
+            let here = by_line script n host.incarnation reply.0 known.0 known.2 (of_asking script reply.0 session asking) in
+            let same : known.0 ≡ session = asked_session script n host.incarnation reply.0 known.0 session known.2 asking in
             other_node (sym (one_node script n q session here.of at.of
             (ap (session_numbered script) (sym same) ∙ here.declared) here.of_node at.declared at.of_node))
 
@@ -377,4 +385,4 @@ module _ (script : List Statement) (range : RunsAreInRange script) (world : Worl
         by_test false is_so = is_so
         by_test true is_so =
             let w = does_wait script req session (offset / 512 + place) reply.0 is_so in
-            absurd (at_session (same_Some known.0 session (sym here.asking ∙ w.asking)))
+            absurd (at_session w.asking)

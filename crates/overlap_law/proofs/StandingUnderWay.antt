@@ -1,6 +1,7 @@
 -- What a write under way has to write stands by the history, in the middle of each step and behind each event of a run in range: who begins
 -- writes on its disk waits for it, and none that waits for it is done.
-use Rattle.std.proofs.Common.{◌≡◌, inl, ℕ, ◌+◌, ◌/◌, ◌<◌, ◌==◌, Bool, true, false, List, ◌++◌, length, Contains, Option, Some, refl, sym, ap, subst, ◌∙◌, arith}
+use Rattle.std.proofs.Common.{◌≡◌, inl, ℕ, ◌+◌, ◌/◌, ◌<◌, ◌==◌, Bool, true, false, List, ◌++◌, length, Contains, Option, Some, refl, sym}
+use Rattle.std.proofs.Common.{ap, subst, ◌∙◌, arith}
 use Rattle.std.specs.Prelude.{nat_le}
 use Rattle.std.specs.Option.{option_and_then, option_map_or}
 use Rattle.std.specs.FinMap as tree
@@ -27,12 +28,13 @@ use Rattle.sheep_node.specs.declared.check_write.CheckWrite.{CheckWrite}
 use Rattle.sheep_node.specs.SessionQueues.{command_in}
 use Rattle.sheep_node.proofs.SessionViews.{IsSeen}
 use Rattle.sheep_world.specs.Asking.{session_asking}
-use Rattle.sheep_world.specs.Began.{Began}
+use Rattle.sheep_world.specs.Began.{Began, MakesMove}
 use Rattle.sheep_world.specs.HistoryAdditions.{block_in}
 use Rattle.sheep_world.specs.NodeCauses.{NodeCause, GuestAsks, IsCause, progress_at_cause}
 use Rattle.sheep_world.specs.declared.progress.StartedRequest.{StartedRequest}
-use Rattle.sheep_world.specs.Step.{EventOutcome, step}
+use Rattle.sheep_world.specs.Step.{EventOutcome}
 use Rattle.sheep_world.specs.World.{Host}
+use Rattle.sheep_world.specs.RunsWithAsks.{Move}
 use Rattle.overlap_law.specs.CommandDisks.{opened_as}
 use Rattle.overlap_law.specs.DiskEvents.{begins_by_others, is_asked_in}
 use Rattle.overlap_law.specs.MomentChanges.{RunsAreInRange}
@@ -42,16 +44,15 @@ use Rattle.overlap_law.specs.Words.{Hosts}
 use Rattle.overlap_law.specs.Writers.{session_holder}
 use Rattle.overlap_law.proofs.AllowedCourses.{HasWorking, IsAllowed, opened_by}
 use Rattle.overlap_law.proofs.ComingWrites.{IsComing}
-use Rattle.overlap_law.proofs.CoursesOfAsks.{IsPlacedIn}
-use Rattle.overlap_law.proofs.CoursesOfScript.{asked_by, BeganOn, requests_placed}
+use Rattle.overlap_law.proofs.CoursesOfScript.{asked_by, BeganOn}
 use Rattle.overlap_law.proofs.DiskEventsOfHolders.{HasNone, others_none}
-use Rattle.overlap_law.proofs.DisksOfWriters.{IsOnOpenDisk, IsWriterAt, no_command, on_open_disk}
+use Rattle.overlap_law.proofs.DisksOfWriters.{IsOnOpenDisk, IsWriterAt, no_command, on_open_disk, of_writer}
 use Rattle.overlap_law.proofs.HoldersInWorlds.{working_held}
 use Rattle.overlap_law.proofs.NoRecoveredDue.{began-with_past}
 use Rattle.overlap_law.proofs.OpenItemsInRuns.{fewer_make}
 use Rattle.overlap_law.proofs.RefusedInRuns.{AreAnsweredAt, events_answered, opens_answered}
 use Rattle.overlap_law.proofs.RunsByEvents.{run-kept_by_events}
-use Rattle.overlap_law.proofs.SessionsOfRequests.{are_asked}
+use Rattle.overlap_law.proofs.SessionsOfRequests.{are_asked_by_line, of_ask, are_scripts}
 use Rattle.overlap_law.proofs.StandingLists.{all_calm, is_later, strays, waiting}
 use Rattle.overlap_law.proofs.StandingNumbers.{before_next}
 use Rattle.overlap_law.proofs.StandingOnDisks.{StandsIn, still_stands}
@@ -61,6 +62,7 @@ use Rattle.overlap_law.proofs.StartedWrites.{writes_is}
 use Rattle.overlap_law.proofs.UnansweredRequests.{Guests, unanswered_in}
 use Rattle.overlap_law.proofs.WholeInRuns.{sound_world}
 use Rattle.overlap_law.proofs.WorksInMoments.{well_in_world}
+use Rattle.overlap_law.proofs.PlacedOfScript.{placed_of_script}
 
 -- a request began on one disk
 pub began_same : (script : List Statement) (guests : Guests) → UnansweredAreOnce guests → (req : ℕ) (one other : Option ℕ)
@@ -111,7 +113,7 @@ StandIn script hosts guests history = (n : ℕ) (host : Host) → tree.get hosts
 abbrev pub StandAt : List Statement → MomentWithPast → Type 0
 StandAt script moment = StandIn script moment.world.hosts moment.world.guests moment.past.history
 
-module _ (script : List Statement) (range : RunsAreInRange script) (events : List Event) (start : MomentWithPast)
+module _ (script : List Statement) (range : RunsAreInRange script) (events : List Move) (start : MomentWithPast)
     (ran : run_with_past script events ≡ Some start) where
   pub began : Began script start.world
   began = began-with_past script events start ran
@@ -139,8 +141,7 @@ module _ (script : List Statement) (range : RunsAreInRange script) (events : Lis
     working =
         let allowed = subst (IsSeen opened_by IsAllowed host.node.sessions) had
         ((well_in_world script range start.world began n host there).allowed req) in
-        let (begun, at, course) = subst (IsPlacedIn (asked_by script) (BeganOn script start.world.guests) req host.node.sessions) had
-        (requests_placed script range start.world began n host there req) in
+        let (begun, at, course) = placed_of_script script range start.world began n host there req was had (of_writer script req writer) in
         write_works offset payload (asked_by script req) is on_it.disk begun was.course
         (subst (λ (o : Option Disk). IsAllowed (opened_as o) was.course) on_it.opened allowed)
         (subst (λ (o : Option Disk). IsCourseOfAsk (asked_by script req) o begun was.course) on_it.opened course)
@@ -161,16 +162,18 @@ module _ (script : List Statement) (range : RunsAreInRange script) (events : Lis
           → IsCause script start.world m second (GuestAsks session other ask) → session.number ≡ was.session
           → is_later script req was.session block other ≡ true
       by_guest m second found session other ask caused same =
-          let less = before_next script start.world began n host there session other ask m second caused req was had (sym same) in
+          let less = before_next script range.is_script start.world began n host there session other ask m second caused req was had
+          (sym same) in
           and_from (nat_le req other) (is_asked_in script was.session other) (le-leb req other (omega (arith, less)))
           (asked_there other session.number (ap (option_and_then session_of) caused.stands ∙ caused.own) same)
 
       by_check : (m : ℕ) (second : Host) → tree.get start.world.hosts m ≡ Some second → (write : CheckWrite)
           (comes : IsComing write second.node) → comes.session ≡ was.session → is_later script req was.session block write.req ≡ true
       by_check m second found write comes same =
-          let its = are_asked script start.world began m second found write.req
-          (record { session = comes.session; course = Checking comes.check }) comes.there in
-          let mine = are_asked script start.world began n host there req was had in
+          let its = are_scripts script range.is_script start.world began m second found write.req
+          (record { session = comes.session; course = Checking comes.check }) comes.there refl in
+          let mine = are_asked_by_line script start.world began n host there req was had
+          (of_ask script req (asks.Disk (disk_asks.Write offset payload)) is) in
           let node : n ≡ m = one_node script n m was.session mine.of its.of mine.declared mine.of_node
           (ap (session_numbered script) (sym same) ∙ its.declared) its.of_node in
           let host_so : host ≡ second = same_Some host second (sym there ∙ ap (tree.get start.world.hosts) node ∙ found) in
@@ -183,7 +186,7 @@ module _ (script : List Statement) (range : RunsAreInRange script) (events : Lis
           and_from (nat_le req write.req) (is_asked_in script was.session write.req) (le-leb req write.req (omega (arith, own)))
           (asked_there write.req comes.session its.asking same)
 
-      pub later_none : (event : Event) (made : EventOutcome) → step script event start.world ≡ Some made
+      pub later_none : (event : Event) (made : EventOutcome) → MakesMove script event start.world made
           → HasNone (begins_by_others on_it.disk.inode.vid (is_later script req was.session block)) made.grown
       later_none =
           others_none script range start.world began on_it.disk.inode.vid (session_holder n was.session) held

@@ -1,6 +1,7 @@
 -- In every run in range: the gateway of a request without reply came to the incarnation in which that was asked; as long as it is up in it
 -- the request hasn't ended; and a write that began on an open disk began a block of it.
-use Rattle.std.proofs.Common.{◌≡◌, ◌≢◌, ⊎_elim, ℕ, zero, suc, ◌+◌, ◌<◌, ◌≤◌, ◌==◌, ◌||◌, Bool, true, false, List, [], ◌++◌, map, length, Contains, Option, Some, None, is_some, option_map, refl, sym, ap, subst, arith, ◌∙◌}
+use Rattle.std.proofs.Common.{◌≡◌, ◌≢◌, ⊎_elim, ℕ, zero, suc, ◌+◌, ◌<◌, ◌≤◌, ◌==◌, ◌||◌, Bool, true, false, List, [], ◌++◌, map, length}
+use Rattle.std.proofs.Common.{Contains, Option, Some, None, is_some, option_map, refl, sym, ap, subst, arith, ◌∙◌}
 use Rattle.std.specs.Prelude.{◌/◌}
 use Rattle.std.specs.List.{list_any, range_with_len}
 use Rattle.std.specs.Option.{option_map_or}
@@ -33,11 +34,14 @@ use Rattle.sheep_world.specs.Asking.{session_asking}
 use Rattle.sheep_world.specs.Began.{Began}
 use Rattle.sheep_world.specs.BegunRequests.{WasBegun}
 use Rattle.sheep_world.specs.Effects.{disk_open, open_disk_at, request_started}
-use Rattle.sheep_world.specs.EventKinds.{log_after_return, world_after_return, outcome_of_step, EventKind, NodeStep, UntoldLoss, UnreadDelivery, NodeLoss, NodeLeave, NodeReweight, NodeJoin, NodeReturn, PhaseEnd}
+use Rattle.sheep_world.specs.EventKinds.{log_after_return, world_after_return, outcome_of_step, EventKind, NodeStep, UntoldLoss}
+use Rattle.sheep_world.specs.EventKinds.{UnreadDelivery, NodeLoss, NodeLeave, NodeReweight, NodeJoin, NodeReturn, PhaseEnd}
 use Rattle.sheep_world.specs.HistoryAdditions.{block_in, begins_on, is_write, replies_grown, request_grown, writers_lost}
 use Rattle.sheep_world.specs.HostChanges.{joined_host, host_after_return}
 use Rattle.sheep_world.specs.MembershipChanges.{lost_host}
-use Rattle.sheep_world.specs.NodeCauses.{NodeCause, GuestAsks, RequestComes, ReplyComes, LossIsTold, EntryIsRead, EntryIsPut, RecoveryTicks, WorkIsRetried, input_of_cause, IsCause, host_with_node, progress_at_cause, world_after_cause}
+use Rattle.sheep_world.specs.NodeCauses.{NodeCause, GuestAsks, RequestComes, ReplyComes, LossIsTold, EntryIsRead, EntryIsPut, RecoveryTicks}
+use Rattle.sheep_world.specs.NodeCauses.{WorkIsRetried, ClientAsks, input_of_cause, IsCause, host_with_node, progress_at_cause}
+use Rattle.sheep_world.specs.NodeCauses.{world_after_cause}
 use Rattle.sheep_world.specs.Step.{EventOutcome}
 use Rattle.sheep_world.proofs.ControlLaws.{next_fits}
 use Rattle.sheep_world.proofs.SessionNumbers.{once}
@@ -269,6 +273,7 @@ module _ (script : List Statement) (range : RunsAreInRange script) where
           by_cause (EntryIsPut entry) caused none before = was (EntryIsPut entry) none before
           by_cause RecoveryTicks caused none before = was RecoveryTicks none before
           by_cause WorkIsRetried caused none before = was WorkIsRetried none before
+          by_cause (ClientAsks req ask) caused none before = was (ClientAsks req ask) none before
 
     -- ---- a node is lost
 

@@ -1,6 +1,7 @@
 -- In every run in range no two requests of a session are without reply that have one number; so the disk on which a request without reply
 -- began is that of its number.
-use Rattle.std.proofs.Common.{◌≡◌, ⊎_elim, arith, ℕ, ◌<◌, Bool, true, false, cond, List, [], ◌∷◌, fold, slice_get, Contains, Option, Some, unwrap_or, refl, sym, ap, subst, ◌∙◌}
+use Rattle.std.proofs.Common.{◌≡◌, ⊎_elim, arith, ℕ, ◌<◌, Bool, true, false, cond, List, [], ◌∷◌, fold, slice_get, Contains, Option, Some}
+use Rattle.std.proofs.Common.{unwrap_or, refl, sym, ap, subst, ◌∙◌}
 use Rattle.std.specs.List.{find}
 use Rattle.std.specs.Option.{option_and_then}
 use Rattle.std.specs.Ordering.{nat_cmp}
@@ -18,15 +19,18 @@ use Rattle.sheep_world.specs.declared.progress.SessionProgress.{SessionProgress}
 use Rattle.sheep_world.specs.declared.progress.StartedRequest.{StartedRequest}
 use Rattle.sheep_world.specs.BegunRequests.{begun_count}
 use Rattle.sheep_world.specs.Effects.{disk_open, progress_with_started}
-use Rattle.sheep_world.specs.EventKinds.{log_after_return, EventKind, NodeStep, UntoldLoss, UnreadDelivery, NodeLoss, NodeLeave, NodeReweight, NodeJoin, NodeReturn, PhaseEnd}
+use Rattle.sheep_world.specs.EventKinds.{log_after_return, EventKind, NodeStep, UntoldLoss, UnreadDelivery, NodeLoss, NodeLeave}
+use Rattle.sheep_world.specs.EventKinds.{NodeReweight, NodeJoin, NodeReturn, PhaseEnd}
 use Rattle.sheep_world.specs.HistoryAdditions.{is_started_request, disk_of}
-use Rattle.sheep_world.specs.NodeCauses.{NodeCause, GuestAsks, RequestComes, ReplyComes, LossIsTold, EntryIsRead, EntryIsPut, RecoveryTicks, WorkIsRetried, input_of_cause, IsCause, progress_at_cause}
+use Rattle.sheep_world.specs.NodeCauses.{NodeCause, GuestAsks, RequestComes, ReplyComes, LossIsTold, EntryIsRead, EntryIsPut, RecoveryTicks}
+use Rattle.sheep_world.specs.NodeCauses.{WorkIsRetried, ClientAsks, input_of_cause, IsCause, progress_at_cause}
 use Rattle.sheep_world.specs.NodeSteps.{progress_after_reply}
 use Rattle.sheep_world.specs.Opening.{initial_world}
 use Rattle.sheep_world.specs.Step.{EventOutcome}
 use Rattle.sheep_world.specs.World.{Host, World, no_progress, progress_at}
-use Rattle.sheep_world.proofs.EventInversion.{happens}
+use Rattle.sheep_world.proofs.ClientReads.{goes_by_kind}
 use Rattle.sheep_world.proofs.SessionNumbers.{once}
+use Rattle.sheep_world.specs.RunsWithAsks.{Move}
 use Rattle.overlap_law.specs.Past.{MomentWithPast, first_moment, run_with_past}
 use Rattle.overlap_law.proofs.CoursesOfScript.{BeganOn}
 use Rattle.overlap_law.proofs.RefusedInRuns.{AreAnswered, AreAnsweredAt, opens_answered, events_answered, new_or_was, left_by}
@@ -84,6 +88,7 @@ module _ (script : List Statement) where
   caused_once world n host refused (EntryIsPut entry) caused are apart = apart
   caused_once world n host refused RecoveryTicks caused are apart = apart
   caused_once world n host refused WorkIsRetried caused are apart = apart
+  caused_once world n host refused (ClientAsks req ask) caused are apart = apart
 
   kind_once : (event : Event) (world : World) (made : EventOutcome) (refused : List ℕ) → EventKind script event world made
       → AreAnswered script world.guests refused → UnansweredAreOnce world.guests → UnansweredAreOnce made.world.guests
@@ -119,13 +124,13 @@ module _ (script : List Statement) where
   unfolding initial_world
   opens_once q one other there there_too same = absurd (none_at_opening q one there)
 
-  pub once-in_run : (events : List Event) (moment : MomentWithPast) → run_with_past script events ≡ Some moment
+  pub once-in_run : (events : List Move) (moment : MomentWithPast) → run_with_past script events ≡ Some moment
       → UnansweredAreOnce moment.world.guests
   once-in_run events moment is =
       (run-kept_by_events script IsOnceAt (opens_answered script, opens_once)
       (λ event before made began happened so. (
         events_answered script event before made began happened so.0,
-        kind_once event before.world made before.past.refused (happens script event before.world made happened) so.0 so.1,
+        kind_once event before.world made before.past.refused (goes_by_kind script event before.world made happened) so.0 so.1,
       )) events moment is).1
 
 -- ---- the disk of a number

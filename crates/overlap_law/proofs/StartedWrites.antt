@@ -1,6 +1,7 @@
 -- In each run in range the history has that each block of a write under way has begun, and the write ends inside its disk: so the disk has
 -- the block, and its item is open.
-use Rattle.std.proofs.Common.{◌≡◌, ◌≢◌, inl, ℕ, zero, suc, ◌+◌, ◌<◌, ◌≤◌, Bool, true, false, List, [], ◌++◌, length, Contains, Option, Some, None, refl, sym, subst, arith, ⊎_elim, ap, option_map, ◌∙◌}
+use Rattle.std.proofs.Common.{◌≡◌, ◌≢◌, inl, ℕ, zero, suc, ◌+◌, ◌<◌, ◌≤◌, Bool, true, false, List, [], ◌++◌, length, Contains, Option, Some}
+use Rattle.std.proofs.Common.{None, refl, sym, subst, arith, ⊎_elim, ap, option_map, ◌∙◌}
 use Rattle.std.specs.Prelude.{◌/◌}
 use Rattle.std.specs.List.{range_with_len}
 use Rattle.std.specs.Option.{option_map_or, option_and_then}
@@ -28,7 +29,6 @@ use Rattle.guest_driver.specs.Refusals.{refusal_on}
 use Rattle.peer_proto.specs.declared.guest.DiskAsk.TheVariants as disk_asks
 use Rattle.sheep_node.specs.declared.ask.Ask.{Ask}
 use Rattle.sheep_node.specs.declared.ask.Ask.TheVariants as asks
-use Rattle.sheep_node.specs.declared.event.Event.{Event}
 use Rattle.sheep_node.specs.declared.input.Input.TheVariants as inputs
 use Rattle.sheep_node.specs.Guests.{is_open_disk_deleted, request_refusal}
 use Rattle.sheep_node.specs.SessionQueues.{session_among}
@@ -41,6 +41,7 @@ use Rattle.sheep_world.specs.Effects.{open_disk_at, request_started}
 use Rattle.sheep_world.specs.EventKinds.{outcome_of_step}
 use Rattle.sheep_world.specs.HistoryAdditions.{begins_on, block_in, is_write, replies_grown, request_grown}
 use Rattle.sheep_world.specs.NodeCauses.{GuestAsks, world_after_cause}
+use Rattle.sheep_world.specs.RunsWithAsks.{Move}
 use Rattle.overlap_law.specs.DiskEvents.{BlocksUnderWayAreOpen, HasOpenItem}
 use Rattle.overlap_law.specs.Each.{spec_in}
 use Rattle.overlap_law.specs.Headline.{ledger_of}
@@ -199,7 +200,7 @@ module _ (script : List Statement) (range : RunsAreInRange script) (req offset :
         write_fits disk (is_open_disk_deleted host.node.peer (Some disk)) offset payload working of_disk,
       )
 
-pub blocks_open-in_run : (script : List Statement) → RunsAreInRange script → (events : List Event) (moment : MomentWithPast)
+pub blocks_open-in_run : (script : List Statement) → RunsAreInRange script → (events : List Move) (moment : MomentWithPast)
     → run_with_past script events ≡ Some moment → BlocksUnderWayAreOpen script moment.past.history moment.world.hosts
 blocks_open-in_run script range events moment is = record {
   each = λ n host there up req offset place payload opened disk way asked inside known.

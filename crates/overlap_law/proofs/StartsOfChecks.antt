@@ -14,12 +14,12 @@ use Rattle.message_wire.specs.declared.name.MessageName.{MessageName}
 use Rattle.object_id.specs.declared.node.NodeId.{NodeId}
 use Rattle.peer_proto.specs.declared.say.PeerRsp.{PeerRsp}
 use Rattle.sheep_node.specs.declared.check_write.CheckWrite.{CheckWrite}
-use Rattle.sheep_node.specs.declared.event.Event.{Event}
 use Rattle.sheep_node.specs.declared.input.Input.TheVariants as inputs
 use Rattle.sheep_node.specs.CheckWrites.{check_write_on}
 use Rattle.sheep_world.specs.World.{Host, World, is_host_up, node_at}
 use Rattle.sheep_world.specs.HistoryAdditions.{check_write_by, check_write_grown, is_write_of}
 use Rattle.sheep_world.specs.NodeCauses.{NodeCause, ReplyComes, IsCause, world_after_cause}
+use Rattle.sheep_world.specs.RunsWithAsks.{Move}
 use Rattle.overlap_law.specs.Headline.{ledger_of}
 use Rattle.overlap_law.specs.MomentChanges as moments
 use Rattle.overlap_law.specs.MomentChanges.{RunsAreInRange}
@@ -41,7 +41,7 @@ pub still_on : (req : ℕ) (history added : List HistEvent) → list_any (begins
 still_on req history added none on =
     subst (IsOnDisks req) (sym (fold-append ledger_after empty_ledger history added)) (on_along req added (ledger_of history) none on)
 
-module _ (script : List Statement) (range : RunsAreInRange script) (events : List Event) (before : MomentWithPast)
+module _ (script : List Statement) (range : RunsAreInRange script) (events : List Move) (before : MomentWithPast)
     (run : run_with_past script events ≡ Some before) (n : ℕ) (host : Host) (there : tree.get before.world.hosts n ≡ Some host)
     (up : is_host_up host ≡ true) (name : MessageName) (from : NodeId) (rsp : PeerRsp)
     (caused : IsCause script before.world n host (ReplyComes name from rsp)) where

@@ -1,6 +1,7 @@
 -- At each moment on the way of an event of a run in range a node that served an attempt has a row of the object that covers the attempt's
 -- epoch, unless a later one is settled by what the node has read, or the object's id is dead.
-use Rattle.std.proofs.Common.{◌≡◌, ◌⊎◌, inl, inr, ⊎_elim, arith, ℕ, ◌≤◌, ◌<◌, not, Bool, true, false, List, ◌++◌, Option, Some, None, is_some, slice_get, refl, sym, ap, subst, ◌∙◌}
+use Rattle.std.proofs.Common.{◌≡◌, ◌⊎◌, inl, inr, ⊎_elim, arith, ℕ, ◌≤◌, ◌<◌, not, Bool, true, false, List, ◌++◌, Option, Some, None}
+use Rattle.std.proofs.Common.{is_some, slice_get, refl, sym, ap, subst, ◌∙◌}
 use Rattle.std.specs.Option.{option_map_or}
 use Rattle.std.specs.FinMap as tree
 use Rattle.std.proofs.lemmas.Bool.{and_parts, leb-true}
@@ -22,13 +23,13 @@ use Rattle.vdi_directory.proofs.DeadLemmas.{dead-stays}
 use Rattle.vdi_directory.proofs.DeadTests.{test-finds-dead}
 use Rattle.peer_service.specs.State.{Peer}
 use Rattle.peer_service.specs.Serve.{peer_step}
-use Rattle.sheep_node.specs.declared.event.Event.{Event}
 use Rattle.sheep_node.specs.StepFacts.{read_after}
 use Rattle.sheep_node.specs.Step.{node_step}
 use Rattle.sheep_node.proofs.PeerLog.{Log, served_same}
 use Rattle.sheep_node.proofs.StepResults.{step_reads}
 use Rattle.sheep_world.specs.World.{Host}
 use Rattle.sheep_world.specs.Began.{Began}
+use Rattle.sheep_world.specs.RunsWithAsks.{Move}
 use Rattle.overlap_law.specs.Attempts.{AttemptRecord, object_of}
 use Rattle.overlap_law.specs.Words.{has_served}
 use Rattle.overlap_law.specs.Reached.{Hosts}
@@ -60,7 +61,8 @@ pub dead_later : (log later : List Entry) (vid : ℕ) → is_dead (log_effects l
 dead_later log later vid dead =
     (test-finds-dead (log ++ later) vid).1 (dead-stays log later vid ((test-finds-dead log vid).0 dead))
 
-pub alive_before : (log later : List Entry) (vid : ℕ) → is_dead (log_effects (log ++ later)) vid ≡ false → is_dead (log_effects log) vid ≡ false
+pub alive_before : (log later : List Entry) (vid : ℕ) → is_dead (log_effects (log ++ later)) vid ≡ false
+    → is_dead (log_effects log) vid ≡ false
 alive_before log later vid alive = by_test (is_dead (log_effects log) vid) refl
   where
     by_test : (b : Bool) → is_dead (log_effects log) vid ≡ b → b ≡ false
@@ -257,7 +259,7 @@ module _ (script : List Statement) (range : RunsAreInRange script) where
     keeps = λ start before after began change holds. change_holds start before after began change holds;
   }
 
-module _ (script : List Statement) (range : RunsAreInRange script) (events : List Event) (start moment : MomentWithPast)
+module _ (script : List Statement) (range : RunsAreInRange script) (events : List Move) (start moment : MomentWithPast)
     (is : run_with_past script events ≡ Some start) (trail : MomentTrail script start moment) where
   pub stays-on_the_way : ServedRowsStay (is_live_object moment.world.log moment.past.attempts) moment.world.hosts moment.past.attempts
   stays-on_the_way = record {

@@ -32,7 +32,7 @@ use Rattle.disk_check.specs.declared.act.CheckAct.{CheckAct}
 use Rattle.disk_check.specs.declared.act.CheckAct.TheVariants as check_acts
 use Rattle.sheep_node.specs.declared.ask.Ask.TheVariants as asks
 use Rattle.sheep_node.specs.declared.course.Course.{Course}
-use Rattle.sheep_node.specs.declared.course.Course.TheVariants.{Waiting, Driving, Commanding, Checking}
+use Rattle.sheep_node.specs.declared.course.Course.TheVariants.{Waiting, Driving, Commanding, Checking, DoingWork}
 use Rattle.sheep_node.specs.declared.course.Request.{Request}
 use Rattle.sheep_node.specs.declared.input.Input.{Input}
 use Rattle.sheep_node.specs.declared.input.Input.TheVariants as inputs
@@ -50,9 +50,11 @@ use Rattle.sheep_node.proofs.ValidityChanges.{AnySent, course_valid, inode_valid
 use Rattle.overlap_law.proofs.KnownDisks.{IsKnownInode, known_validity}
 use Rattle.overlap_law.proofs.KnownDrivers.{IsWorkOfStep, on_known, disk_before_end, driver_begins-of_step, driver_goes_on-of_step}
 use Rattle.overlap_law.proofs.OtherWorks.{HasNone, tag_none, read_none, begins_with_entry, CreatesDisk, IsOfDecision, ReadsIt, CreatesIt}
+use Rattle.overlap_law.proofs.OtherWorks.{idle_none}
 use Rattle.overlap_law.proofs.OtherWorks.{TagsIt, IsOfTask, WritesBackOrCreates, decided_work, done_work, check_begins_none}
 use Rattle.overlap_law.proofs.OtherWorks.{check_goes_none}
 use Rattle.overlap_law.proofs.WholeSteps.{IsWellKnown}
+use Rattle.gateway.specs.Work.{is_making}
 
 -- ---- the work of an act
 
@@ -115,7 +117,7 @@ module _ (input : Input) (node : Node) (so_far : StepState) (session req : ℕ) 
 -- ---- each step
 
 module _ {known : List Effect} {input : Input} {node : Node} (so_far : StepState) (knows : IsWellKnown known input node so_far)
-    (none : (req session : ℕ) (work : ObjWork) → input ≡ inputs.Guest req session (asks.Object work) → ⊥)
+    (none : (req session : ℕ) (work : ObjWork) → input ≡ inputs.Guest req session (asks.Object work) → is_making work ≡ false)
     (session req : ℕ) (work : ObjWork) where
   -- whose course is another than a driver's
   undriven : (moved : StepState) (course : Course)
@@ -193,7 +195,13 @@ module _ {known : List Effect} {input : Input} {node : Node} (so_far : StepState
       (get-insert_same so_far.node.requests req (record { session = session; course = Checking step.check }))
       (λ driver same. cc (same)))
       (WithoutEntry (check_goes_none bytes check step work goes (check_act step.act work to) of_known.disk.id of_known.within))
-  by_step next moved (ObjectBegins one arrival) to = absurd (none req session one arrival.from)
+  by_step next moved (ObjectBegins one arrival) to =
+      let same : one ≡ work = cc (to) in
+      OfOther
+      (undriven moved (DoingWork one)
+      (get-insert_same so_far.node.requests req (record { session = session; course = DoingWork one }))
+      (λ driver same. cc (same)))
+      (WithoutEntry (subst HasNone same (idle_none one (none req session one arrival.from))))
   by_step next moved (ObjectIsDone number ended attempt status bytes one ends) to = absurd (cc (to))
   by_step next moved (EntryBegins entry arrival) to = absurd (cc (to))
   by_step next moved (EntryDecided entry awaited from read there waits) to = absurd (cc (to))

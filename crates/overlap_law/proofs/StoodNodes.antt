@@ -1,5 +1,6 @@
 -- In each run in range a node that isn't lost is a member of each epoch since it joined, so members stay until they are lost.
-use Rattle.std.proofs.Common.{◌≡◌, ◌⊎◌, inl, inr, ⊎_elim, arith, ℕ, zero, suc, ◌≤◌, ◌<◌, nat_le, Bool, true, false, ◌||◌, List, [], ◌∷◌, ◌++◌, length, Option, Some, None, is_some, refl, sym, ap, subst, ◌∙◌}
+use Rattle.std.proofs.Common.{◌≡◌, ◌⊎◌, inl, inr, ⊎_elim, arith, ℕ, zero, suc, ◌≤◌, ◌<◌, nat_le, Bool, true, false, ◌||◌, List, [], ◌∷◌}
+use Rattle.std.proofs.Common.{◌++◌, length, Option, Some, None, is_some, refl, sym, ap, subst, ◌∙◌}
 use Rattle.std.specs.Option.{option_map_or}
 use Rattle.std.specs.FinMap as tree
 use Rattle.std.proofs.lemmas.Bool.{cases_lt, le-leb}
@@ -56,11 +57,14 @@ module _ (log : List Entry) (hosts : Hosts) (holds : TheUpHaveStood log hosts) w
   pub are_beyond : LeaversAreBeyond log hosts
   are_beyond = record {
     each = λ n host there epoch later member before most none.
-        ap (λ (o : Option Host). option_map_or (has_come_in later) o true) there ∙ come n host there epoch later member before most none host.is_lost refl;
+        ap (λ (o : Option Host). option_map_or (has_come_in later) o true) there
+        ∙ come n host there epoch later member before most none host.is_lost refl;
   }
     where
-      come : (n : ℕ) (host : Host) → tree.get hosts n ≡ Some host → (epoch later : ℕ) → is_member n (members_in log epoch) ≡ true → epoch < later
-          → later ≤ epoch_of log → is_member n (members_in log later) ≡ false → (b : Bool) → host.is_lost ≡ b → (b || nat_le later host.node.peer.epoch) ≡ true
+      come : (n : ℕ) (host : Host) → tree.get hosts n ≡ Some host → (epoch later : ℕ) → is_member n (members_in log epoch) ≡ true
+          → epoch < later
+          → later ≤ epoch_of log → is_member n (members_in log later) ≡ false → (b : Bool) → host.is_lost ≡ b
+          → (b || nat_le later host.node.peer.epoch) ≡ true
       come n host there epoch later member before most none true lost = refl
       come n host there epoch later member before most none false up =
           let stood = holds.stood n host there up in
@@ -110,7 +114,8 @@ module _ (script : List Statement) (range : RunsAreInRange script) where
     some = longer;
     members = members_after;
     seated = seated_after (ends_or_same script began change);
-    stood = λ n now there up. ⊎_elim (stands_still n now there up) (stands_anew n now there up) (ups_were_up script range began change n now there up);
+    stood = λ n now there up. ⊎_elim (stands_still n now there up) (stands_anew n now there up)
+        (ups_were_up script range began change n now there up);
   }
     where
       grows : LogGrows before.world.log after.world.log
@@ -130,34 +135,39 @@ module _ (script : List Statement) (range : RunsAreInRange script) where
       rises = epochs_rise script range start began change
 
       by_ends : Began script after.world ⊎ (after.world.log ≡ before.world.log) → TheUpAreMembers after.world.log after.world.hosts
-      by_ends (inl ended) = record { each = λ n host there up. ((log-holds script range.is_script range.room after.world ended).well n host there).stands up }
+      by_ends (inl ended) =
+          record { each = λ n host there up. ((log-holds script range.is_script range.room after.world ended).well n host there).stands up }
       by_ends (inr same) = record {
         each = λ n now there up. ⊎_elim
             (λ (was : WasUp before.world.hosts n).
             ap (λ (log : List Entry). is_member n (members_in log (epoch_of log))) same ∙ holds.members.each n was.0 was.1 was.2)
-            (λ (new : IsNew before after n now). let begun = new.begun in let epochs = ap epoch_of same in absurd (omega (arith, begun, epochs)))
-            (ups_were_up script range began change n now there up);
+            (λ (new : IsNew before after n now). let begun = new.begun in let epochs = ap epoch_of same in absurd
+            (omega (arith, begun, epochs))) (ups_were_up script range began change n now there up);
       }
 
       members_after : TheUpAreMembers after.world.log after.world.hosts
       members_after = by_ends (ends_or_same script began change)
 
-      there_still : (n : ℕ) (o : Option Host) → tree.get before.world.hosts n ≡ o → is_some o ≡ true → is_some (tree.get after.world.hosts n) ≡ true
+      there_still : (n : ℕ) (o : Option Host) → tree.get before.world.hosts n ≡ o → is_some o ≡ true
+          → is_some (tree.get after.world.hosts n) ≡ true
       there_still n None is there = absurd (cc (there))
       there_still n (Some host) is there = ap (λ (o : Option Host). is_some o) (rises n host is).1
 
-      seated_before : (n k : ℕ) → k ≤ epoch_of before.world.log → is_member n (members_in after.world.log k) ≡ true → is_some (tree.get before.world.hosts n) ≡ true
+      seated_before : (n k : ℕ) → k ≤ epoch_of before.world.log → is_member n (members_in after.world.log k) ≡ true
+          → is_some (tree.get before.world.hosts n) ≡ true
       seated_before n k old member =
           holds.seated n k old (sym (ap (is_member n) (same_members before.world.log after.world.log grows holds.some k old)) ∙ member)
 
       seated_after : Began script after.world ⊎ (after.world.log ≡ before.world.log)
-          → (n k : ℕ) → k ≤ epoch_of after.world.log → is_member n (members_in after.world.log k) ≡ true → is_some (tree.get after.world.hosts n) ≡ true
+          → (n k : ℕ) → k ≤ epoch_of after.world.log → is_member n (members_in after.world.log k) ≡ true
+          → is_some (tree.get after.world.hosts n) ≡ true
       seated_after ends n k within member = ⊎_elim
           (λ (new : epoch_of before.world.log < k). by_end ends (let most = grows.most in omega (arith, new, within, most)))
           (λ (old : k ≤ epoch_of before.world.log). there_still n (tree.get before.world.hosts n) refl (seated_before n k old member))
           (cases_lt (epoch_of before.world.log) k)
         where
-          by_end : Began script after.world ⊎ (after.world.log ≡ before.world.log) → k ≡ epoch_of after.world.log → is_some (tree.get after.world.hosts n) ≡ true
+          by_end : Began script after.world ⊎ (after.world.log ≡ before.world.log) → k ≡ epoch_of after.world.log
+              → is_some (tree.get after.world.hosts n) ≡ true
           by_end (inl ended) newest =
               (log-holds script range.is_script range.room after.world ended).seated n
               (ap (λ (q : ℕ). is_member n (members_in after.world.log q)) (sym newest) ∙ member)
@@ -170,8 +180,8 @@ module _ (script : List Statement) (range : RunsAreInRange script) where
       stands_still n now there up was =
           let (later, at, more) = rises n was.0 was.1 in
           let same : later ≡ now = same_Some later now (sym at ∙ there) in
-          stands_on before.world.log after.world.log grows holds.some n (members_after.each n now there up) was.0.node.peer.epoch now.node.peer.epoch
-          (subst (λ (h : Host). was.0.node.peer.epoch ≤ h.node.peer.epoch) same more) (holds.stood n was.0 was.1 was.2)
+          stands_on before.world.log after.world.log grows holds.some n (members_after.each n now there up) was.0.node.peer.epoch
+          now.node.peer.epoch (subst (λ (h : Host). was.0.node.peer.epoch ≤ h.node.peer.epoch) same more) (holds.stood n was.0 was.1 was.2)
 
       stands_anew : (n : ℕ) (now : Host) → tree.get after.world.hosts n ≡ Some now → now.is_lost ≡ false → IsNew before after n now
           → StoodSince after.world.log n now.node.peer.epoch
@@ -182,7 +192,8 @@ module _ (script : List Statement) (range : RunsAreInRange script) where
             let newest : k ≡ epoch_of after.world.log = omega (arith, from, most) in
             ap (λ (q : ℕ). is_member n (members_in after.world.log q)) newest ∙ members_after.each n now there up;
         before = ⊎_elim
-            (λ (none : is_some (tree.get before.world.hosts n) ≡ false). inr (λ k below. no_member k below none (is_member n (members_in after.world.log k)) refl))
+            (λ (none : is_some (tree.get before.world.hosts n) ≡ false). inr
+            (λ k below. no_member k below none (is_member n (members_in after.world.log k)) refl))
             (λ (own : now.node.peer.epoch ≡ epoch_of after.world.log). inl (omega (arith, own)))
             new.fresh;
       }
@@ -223,4 +234,5 @@ module _ (script : List Statement) (range : RunsAreInRange script) where
       }
 
   pub kept_stood : KeptByChanges script (λ (moment : MomentWithPast). TheUpHaveStood moment.world.log moment.world.hosts)
-  kept_stood = record { opens = opening_stood; keeps = λ start before after began change holds. change_stood start before after began change holds }
+  kept_stood =
+      record { opens = opening_stood; keeps = λ start before after began change holds. change_stood start before after began change holds }

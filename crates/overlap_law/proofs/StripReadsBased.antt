@@ -25,12 +25,12 @@ use Rattle.peer_service.specs.State.{object_size}
 use Rattle.vdi_directory.specs.Decisions.{log_effects}
 use Rattle.vdi_directory.specs.States.{state_of, is_live_state}
 use Rattle.sheep_node.specs.declared.course.Course.TheVariants.{Driving}
-use Rattle.sheep_node.specs.declared.event.Event.{Event}
 use Rattle.sheep_node.specs.Changes.{EndsWork}
 use Rattle.sheep_node.specs.State.{session_at}
 use Rattle.sheep_node.specs.StepState.{StepState}
 use Rattle.sheep_world.specs.NodeCauses.{host_with_node, input_of_cause}
 use Rattle.sheep_world.specs.World.{Host}
+use Rattle.sheep_world.specs.RunsWithAsks.{Move}
 use Rattle.overlap_law.specs.Attempts.{AttemptRecord, object_of, attempts_on}
 use Rattle.overlap_law.specs.BornObjects.{IsBorn}
 use Rattle.overlap_law.specs.Each.{spec_in}
@@ -67,7 +67,7 @@ use Rattle.overlap_law.proofs.WholeInRuns.{whole-on_the_way}
 use Rattle.overlap_law.proofs.WholeNodes.{IsWholeWork}
 use Rattle.overlap_law.proofs.WorksOfAttempts.{AreOfWorks, kept_works}
 
-module _ (script : List Statement) (range : RunsAreInRange script) (events : List Event) (start : MomentWithPast)
+module _ (script : List Statement) (range : RunsAreInRange script) (events : List Move) (start : MomentWithPast)
     (run : run_with_past script events ≡ Some start) (good_id : ℕ → Bool)
     (fewer : CallsFewer good_id (is_available_disk start.world.log start.past.unavailable))
     (closed : AboveIsGood (log_effects start.world.log) good_id) where
@@ -213,7 +213,8 @@ module _ (script : List Statement) (range : RunsAreInRange script) (events : Lis
   bases_at before trail ledger alike written coded items = record {
     each = λ stepping so_far is by leads same session req number work attempt status told bytes piece rest disk ends opened strips good
         live. (
-          born stepping so_far is by leads (subst (MomentTrail script start) same trail) session disk opened req number work attempt status told
+          born stepping so_far is by leads (subst (MomentTrail script start) same trail) session disk opened req number work attempt status
+              told
               bytes piece rest ends ledger strips good
               (subst (λ (m : MomentWithPast). is_live_state (state_of (log_effects m.world.log) disk.inode.vid) ≡ true) same live),
           λ unit found inside block whole.
@@ -223,8 +224,8 @@ module _ (script : List Statement) (range : RunsAreInRange script) (events : Lis
               (based stepping so_far is by leads (subst (MomentTrail script start) same trail) session disk opened req number work attempt
               status told bytes piece rest ends ledger strips good
               (subst (λ (m : MomentWithPast). is_live_state (state_of (log_effects m.world.log) disk.inode.vid) ≡ true) same live)
-              (subst (λ (m : MomentWithPast). ReadStripsAreAlike ledger (log_effects m.world.log) good_id m.world.hosts m.past.attempts) same
-              alike)
+              (subst (λ (m : MomentWithPast). ReadStripsAreAlike ledger (log_effects m.world.log) good_id m.world.hosts m.past.attempts)
+              same alike)
               (subst (λ (m : MomentWithPast). BlocksStayWritten ledger (log_effects m.world.log) good_id m.world.hosts m.past.attempts) same
               written)
               (subst (λ (m : MomentWithPast). StripItemsAreCoded ledger (log_effects m.world.log)) same coded) items unit found inside

@@ -28,14 +28,14 @@ use Rattle.vdi_directory.specs.declared.decision.Decision.TheVariants as decisio
 use Rattle.vdi_directory.specs.declared.header.Header.{Header}
 use Rattle.vdi_directory.specs.Decisions.{decision_after}
 use Rattle.sheep_node.specs.declared.check_write.CheckWrite.{CheckWrite}
-use Rattle.sheep_node.specs.declared.event.Event.{Event}
 use Rattle.sheep_world.specs.Effects.{open_disk_at}
 use Rattle.sheep_world.specs.Granted.{granted_header, disk_cloned, disk_made, granted_adds, decided_adds, entry_adds}
 use Rattle.sheep_world.specs.HistoryAdditions.{begins_on, block_checked, block_in, check_write_adds, check_write_grown, disk_of}
 use Rattle.sheep_world.specs.HistoryAdditions.{has_begun_check_write, is_lost_write, is_on_disk, writers_lost}
 use Rattle.sheep_world.specs.NodeCauses.{NodeCause, GuestAsks, RequestComes, ReplyComes, LossIsTold, EntryIsRead, EntryIsPut, RecoveryTicks}
-use Rattle.sheep_world.specs.NodeCauses.{WorkIsRetried}
+use Rattle.sheep_world.specs.NodeCauses.{WorkIsRetried, ClientAsks}
 use Rattle.sheep_world.specs.World.{World}
+use Rattle.sheep_world.specs.RunsWithAsks.{Move}
 use Rattle.overlap_law.specs.HistoryGrowth.{HistoryGrows, NothingIsAdded, WritesBegin, RequestIsReplied, EntryAdds, WritersAreLost}
 use Rattle.overlap_law.specs.HistoryGrowth.{added_at_cause, added_by_reply, check_write_at, world_at_cause}
 use Rattle.overlap_law.specs.MomentChanges.{KeptByChanges, MomentTrail, RunsAreInRange}
@@ -176,6 +176,7 @@ module _ (script : List Statement) (range : RunsAreInRange script) where
   cause_have world (EntryIsPut entry) = tt
   cause_have world RecoveryTicks = tt
   cause_have world WorkIsRetried = tt
+  cause_have world (ClientAsks req ask) = tt
 
   reply_have : (world : World) (cause : NodeCause) (reply : ℕ × GuestRsp) → AllHave (added_by_reply script world cause reply)
   reply_have world cause reply =
@@ -214,11 +215,11 @@ module _ (script : List Statement) (range : RunsAreInRange script) where
     each = λ req vid block bytes among. have_at moment.past.history all (WriteStart req vid block true bytes) among refl;
   }
 
-  pub bytes-in_run : (events : List Event) (moment : MomentWithPast) → run_with_past script events ≡ Some moment
+  pub bytes-in_run : (events : List Move) (moment : MomentWithPast) → run_with_past script events ≡ Some moment
       → CodedWritesAreOfBytes moment.past.history
   bytes-in_run events moment run = begun_so moment (run-kept script HasBegunSo kept_begun events moment run)
 
-  pub bytes-on_the_way : (events : List Event) (start moment : MomentWithPast) → run_with_past script events ≡ Some start
+  pub bytes-on_the_way : (events : List Move) (start moment : MomentWithPast) → run_with_past script events ≡ Some start
       → MomentTrail script start moment → CodedWritesAreOfBytes moment.past.history
   bytes-on_the_way events start moment run trail =
       begun_so moment (on_the_way script HasBegunSo kept_begun events start moment run trail)

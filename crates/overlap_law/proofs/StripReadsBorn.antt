@@ -1,6 +1,7 @@
 -- In the middle of a step that goes by changes, an attempt that some target has served was there as the step began: those that the step
 -- began are all on their way. So what it creates was born then.
-use Rattle.std.proofs.Common.{◌≡◌, ◌⊎◌, ⊎_elim, ℕ, zero, suc, ◌+◌, ◌-◌, ◌&&◌, ◌++◌, not, Bool, true, false, cond, List, [], ◌∷◌, map, Option}
+use Rattle.std.proofs.Common.{◌≡◌, ◌⊎◌, ⊎_elim, ℕ, zero, suc, ◌+◌, ◌-◌, ◌&&◌, ◌++◌, not, Bool, true, false, cond, List, [], ◌∷◌, map}
+use Rattle.std.proofs.Common.{Option}
 use Rattle.std.proofs.Common.{Some, None, option_map, slice_get, refl, sym, ap, subst, ◌∙◌}
 use Rattle.std.specs.List.{cons_option, filter_map, list_any, range_with_len}
 use Rattle.std.specs.FinMap as tree

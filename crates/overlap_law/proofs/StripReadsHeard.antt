@@ -1,6 +1,7 @@
--- What an open read was given of a good object has what its teller owed, over each change: what was heard before stays so, and what is heard
--- now was told so, by what was good as the event began.
-use Rattle.std.proofs.Common.{◌≡◌, ◌≢◌, ◌⊎◌, inl, inr, ⊎_elim, ℕ, zero, suc, ◌≤◌, ◌==◌, Bool, true, false, List, [], ◌∷◌, length, None, Some}
+-- What an open read was given of a good object has what its teller owed, over each change: what was heard before stays so, and what is
+-- heard now was told so, by what was good as the event began.
+use Rattle.std.proofs.Common.{◌≡◌, ◌≢◌, ◌⊎◌, inl, inr, ⊎_elim, ℕ, zero, suc, ◌≤◌, ◌==◌, Bool, true, false, List, [], ◌∷◌, length, None}
+use Rattle.std.proofs.Common.{Some}
 use Rattle.std.proofs.Common.{slice_get, refl, sym, ap, subst, ◌∙◌}
 use Rattle.std.specs.FinMap as tree
 use Rattle.std.specs.List.{list_any}
@@ -26,7 +27,6 @@ use Rattle.gateway.specs.Messages.{AreMessagesFor, HasNoNumber, NumbersDiffer}
 use Rattle.gateway.specs.State.{Gateway, Work, Open}
 use Rattle.gateway.specs.Work.{is_making}
 use Rattle.sheep_node.specs.declared.course.Request.{Request}
-use Rattle.sheep_node.specs.declared.event.Event.{Event}
 use Rattle.sheep_node.specs.Changes.{IsTold}
 use Rattle.sheep_node.specs.SoundWorks.{HasMessagesFor}
 use Rattle.sheep_node.specs.StepState.{StepState}
@@ -34,6 +34,7 @@ use Rattle.sheep_node.proofs.NumberChanges.{both_in_chain}
 use Rattle.sheep_world.specs.Began.{Began}
 use Rattle.sheep_world.specs.NodeCauses.{host_with_node, input_of_cause}
 use Rattle.sheep_world.specs.World.{Host}
+use Rattle.sheep_world.specs.RunsWithAsks.{Move}
 use Rattle.overlap_law.specs.Each.{policy_in}
 use Rattle.overlap_law.specs.MomentChanges.{MomentChange, MomentTrail, Then, RunsAreInRange}
 use Rattle.overlap_law.specs.Past.{MomentWithPast, run_with_past}
@@ -42,6 +43,7 @@ use Rattle.overlap_law.specs.StepMoments.{moment_in_step}
 use Rattle.overlap_law.specs.StripReadsGiven.{HasGiven}
 use Rattle.overlap_law.specs.ToldPieces.{IsUnansweredOf, offset_read, ToldPiecesAreSince}
 use Rattle.overlap_law.proofs.AnswersInMoments.{not_lost}
+use Rattle.overlap_law.proofs.ClientsInMoments.{own_before}
 use Rattle.overlap_law.proofs.DoneReads.{awaited_at}
 use Rattle.overlap_law.proofs.GuestsInMoments.{GuestsChange, GuestsStay, GuestsAreNone, IsGoingOn, IsBetween, between}
 use Rattle.overlap_law.proofs.HeardPieces.{heard_piece}
@@ -58,6 +60,7 @@ use Rattle.overlap_law.proofs.ToldPiecesSince.{IsWorkSince}
 use Rattle.overlap_law.proofs.ToldPiecesStay.{WasOpenAt, since-piece_stays}
 use Rattle.overlap_law.proofs.WorksInMoments.{well_along}
 use Rattle.overlap_law.proofs.WritersOfWorks.{asked_for}
+use Rattle.overlap_law.specs.Sessions.{is_of_client_at}
 
 -- ---- one message of a number
 
@@ -96,9 +99,9 @@ abbrev pub AllGiven : (ℕ → Bool) → MomentWithPast → Type 0
 AllGiven good moment = (n : ℕ) (now : Host) → tree.get moment.world.hosts n ≡ Some now → now.is_lost ≡ false → (req place : ℕ)
     (work : Work) (current : gateways.Attempt) (message : Message) (bytes : List ℕ)
     → HasGiven now.node.gateway.works req work current place message bytes → is_making work.work ≡ false
-    → IsGiven good moment work.work current.epoch.0 message.index bytes
+    → is_of_client_at req now.node ≡ false → IsGiven good moment work.work current.epoch.0 message.index bytes
 
-module _ (script : List Statement) (range : RunsAreInRange script) (events : List Event) (start : MomentWithPast)
+module _ (script : List Statement) (range : RunsAreInRange script) (events : List Move) (start : MomentWithPast)
     (is_run : run_with_past script events ≡ Some start) (good : ℕ → Bool)
     (told : ToldPiecesAreSince (log_effects start.world.log) good start.world.hosts start.world.wire start.past.attempts) where
   began : Began script start.world
@@ -112,7 +115,8 @@ module _ (script : List Statement) (range : RunsAreInRange script) (events : Lis
       (attempt : gateways.Attempt) (message : Message) (there : tree.get so_far.node.gateway.works req ≡ Some work)
       (stage : work.stage ≡ Open attempt) (at : slice_get attempt.messages place ≡ Some message)
       (awaited : list_any (is_awaited_message message.number) attempt.messages ≡ true) (bytes : List ℕ) (some : 1 ≤ length bytes)
-      (heard : IsTold (input_of_cause stepping.cause) message.number (statuses.Succeeded bytes)) where
+      (heard : IsTold (input_of_cause stepping.cause) message.number (statuses.Succeeded bytes))
+      (own : is_of_client_at req so_far.node ≡ false) where
     abbrev here : MomentWithPast
     here = moment_in_step script stepping start so_far
 
@@ -135,9 +139,10 @@ module _ (script : List Statement) (range : RunsAreInRange script) (events : Lis
         let (from, rsp, answering, said) = told_reply script range events start is_run stepping is by so_far leads trail stepping.cause
         is.caused message.number bytes some heard in
         let low = (known_step script range start.world began stepping is).given message.number (statuses.Succeeded bytes) heard in
-        let held = heard_piece script range events start is_run good told stepping.n stepping.host is.there message.number low from rsp bytes
+        let held = heard_piece script range events start is_run good told stepping.n stepping.host is.there message.number low from rsp
+        bytes
         answering said here trail was at_host (not_lost stepping.host is.up) req other_place work attempt other
-        (record { there = there; stage = stage; at = other_at; unanswered = unanswered }) number_so in
+        (record { there = there; stage = stage; at = other_at; unanswered = unanswered }) own number_so in
         record {
           from = from;
           teller = held.teller;
@@ -153,10 +158,11 @@ module _ (script : List Statement) (range : RunsAreInRange script) (events : Lis
   module _ (before after : MomentWithPast) (trail : MomentTrail script start before) (change : MomentChange script start before after)
       (n : ℕ) (now : Host) (there : tree.get after.world.hosts n ≡ Some now) (up : now.is_lost ≡ false) (req place : ℕ) (work : Work)
       (current : gateways.Attempt) (message : Message) (bytes : List ℕ)
-      (of : HasGiven now.node.gateway.works req work current place message bytes) where
+      (of : HasGiven now.node.gateway.works req work current place message bytes) (no_client : is_of_client_at req now.node ≡ false) where
     -- what was given before, to a message of the same work
     stays_given : (opened : WasOpenAt before.world.hosts n req work current) (index : ℕ) → index ≡ message.index
-        → IsGiven good before opened.was.work opened.before.epoch.0 index bytes → IsGiven good after work.work current.epoch.0 message.index bytes
+        → IsGiven good before opened.was.work opened.before.epoch.0 index bytes
+        → IsGiven good after work.work current.epoch.0 message.index bytes
     stays_given opened index same_index old =
         let had : IsGiven good before work.work current.epoch.0 message.index bytes
         = subst (λ (k : ℕ). IsGiven good before work.work current.epoch.0 k bytes) same_index
@@ -171,7 +177,7 @@ module _ (script : List Statement) (range : RunsAreInRange script) (events : Lis
               = ap (λ (log : List Entry). policy_in (log_effects log) (oid_of work.work)) grows.1
               ∙ policy_stays before.world.log grows.0 (oid_of work.work) had.teller.policy had.teller.made in
               since-piece_stays script range events start before after is_run trail change n now there up req work current of.there of.stage
-              opened had.from had.teller (policy_of work.work) message.index (offset_read work.work) bytes
+              opened had.from had.teller no_client (policy_of work.work) message.index (offset_read work.work) bytes
               (had.since is_good (had.teller.made ∙ sym then ∙ known));
         }
 
@@ -194,19 +200,22 @@ module _ (script : List Statement) (range : RunsAreInRange script) (events : Lis
           epoch_so = refl;
         }) message.index refl
         (all n was was_there was_up req place work current message bytes
-        (record { there = before_so; stage = of.stage; at = of.at; given = of.given; some = of.some }) reads)
+        (record { there = before_so; stage = of.stage; at = of.at; given = of.given; some = of.some }) reads
+        (own_before script range start began change n now was there was_there req work of.there no_client))
 
   pub given_after : (before after : MomentWithPast) → MomentTrail script start before → MomentChange script start before after
       → AllGiven good before → AllGiven good after
-  given_after before after trail change all n now there up req place work current message bytes of reads = ⊎_elim going_on
+  given_after before after trail change all n now there up req place work current message bytes of reads no_client = ⊎_elim going_on
       (λ (b : IsBetween before after). by_guests (b.0 n now there)) (between script start change)
     where
       by_guests : GuestsChange before n now → IsGiven good after work.work current.epoch.0 message.index bytes
       by_guests (GuestsStay was was_there was_up gateway sessions requests) =
-          same_given before after trail change n now there up req place work current message bytes of was was_there (was_up up) gateway reads
+          same_given before after trail change n now there up req place work current message bytes of no_client was was_there (was_up up)
+          gateway reads
           all
       by_guests (GuestsAreNone sessions none) =
-          let (request, asked) = asked_for now.node (well_along script range start began (Then trail change) n now there) req work of.there in
+          let (request, asked) = asked_for now.node (well_along script range start began (Then trail change) n now there) req work
+          of.there in
           let empty : tree.get now.node.requests req ≡ None
           = ap (λ (r : tree.FinMap nat_cmp Request). tree.get r req) none ∙ tree.get-empty {X = Request} nat_cmp req in
           absurd (cc (empty, asked))
@@ -214,10 +223,10 @@ module _ (script : List Statement) (range : RunsAreInRange script) (events : Lis
       going_on : IsGoingOn script start before after → IsGiven good after work.work current.epoch.0 message.index bytes
       going_on g = ⊎_elim own
           (λ (other : (n ≢ g.stepping.n) × (tree.get start.world.hosts n ≡ Some now)).
-          same_given before after trail change n now there up req place work current message bytes of now
+          same_given before after trail change n now there up req place work current message bytes of no_client now
           (ap (λ (m : MomentWithPast). tree.get m.world.hosts n) g.before_so
-          ∙ get-insert_other start.world.hosts g.stepping.n (host_with_node g.stepping.host g.so_far.node) n other.0 ∙ other.1) up refl reads
-          all)
+          ∙ get-insert_other start.world.hosts g.stepping.n (host_with_node g.stepping.host g.so_far.node) n other.0 ∙ other.1) up refl
+          reads all)
           (get-insert_cases start.world.hosts g.stepping.n (host_with_node g.stepping.host g.next.node) n now
           (ap (λ (m : MomentWithPast). tree.get m.world.hosts n) (sym g.after_so) ∙ there))
         where
@@ -239,10 +248,15 @@ module _ (script : List Statement) (range : RunsAreInRange script) (events : Lis
                   ∙ ap (tree.get (tree.insert start.world.hosts g.stepping.n (host_with_node g.stepping.host g.so_far.node))) here
                   ∙ get-insert_same start.world.hosts g.stepping.n (host_with_node g.stepping.host g.so_far.node)
 
+              own_then : is_of_client_at req g.so_far.node ≡ false
+              own_then =
+                  own_before script range start began change n now (host_with_node g.stepping.host g.so_far.node) there here_before req work
+                  of.there no_client
+
               was_one : WasMessageOf (input_of_cause g.stepping.cause) g.so_far.node.gateway.works req work current place message
                   → IsGiven good after work.work current.epoch.0 message.index bytes
               was_one was =
-                  stays_given before after trail change n now there up req place work current message bytes of (record {
+                  stays_given before after trail change n now there up req place work current message bytes of no_client (record {
                     old = host_with_node g.stepping.host g.so_far.node;
                     there = here_before;
                     up = not_lost g.stepping.host g.is.up;
@@ -258,18 +272,18 @@ module _ (script : List Statement) (range : RunsAreInRange script) (events : Lis
                       × (list_any (is_awaited_message message.number) was.before.messages ≡ true))
                       → IsGiven good before was.was.work was.before.epoch.0 was.m.index bytes
                   by_status (inl same_status) =
-                      all n (host_with_node g.stepping.host g.so_far.node) here_before (not_lost g.stepping.host g.is.up) req place was.was was.before was.m bytes
-                      (record {
+                      all n (host_with_node g.stepping.host g.so_far.node) here_before (not_lost g.stepping.host g.is.up) req place was.was
+                      was.before was.m bytes (record {
                         there = was.is.there;
                         stage = was.is.stage;
                         at = was.is.at;
                         given = sym same_status ∙ of.given;
                         some = of.some;
-                      }) (ap (λ (w : ObjWork). is_making w) (sym was.work_so) ∙ reads)
+                      }) (ap (λ (w : ObjWork). is_making w) (sym was.work_so) ∙ reads) own_then
                   by_status (inr (heard, awaited)) =
                       subst (λ (m : MomentWithPast). IsGiven good m was.was.work was.before.epoch.0 was.m.index bytes) (sym g.before_so)
                       (given_now g.stepping g.is g.by g.so_far g.within.leads (subst (MomentTrail script start) g.before_so trail) req place
                       was.was was.before was.m was.is.there was.is.stage was.is.at
                       (ap (λ (k : ℕ). list_any (is_awaited_message k) was.before.messages) (sym was.number_so) ∙ awaited) bytes of.some
                       (subst (λ (k : ℕ). IsTold (input_of_cause g.stepping.cause) k (statuses.Succeeded bytes)) was.number_so
-                      (subst (IsTold (input_of_cause g.stepping.cause) message.number) of.given heard)))
+                      (subst (IsTold (input_of_cause g.stepping.cause) message.number) of.given heard)) own_then)

@@ -1,7 +1,8 @@
 -- In each run in range, where a session has read a piece of an object in strips in the middle of a step, each block of it is that of an
 -- attempt that isn't doomed, behind which none adds anything, if the object was good as the event began: each of the messages that the read
 -- needs gave the strip of it, heard now or before.
-use Rattle.std.proofs.Common.{◌≡◌, ◌≢◌, arith, ℕ, zero, suc, ◌+◌, ◌*◌, ◌-◌, ◌/◌, ◌%◌, ◌<◌, ◌≤◌, ◌==◌, Bool, true, false, cond, All, List, [], ◌∷◌}
+use Rattle.std.proofs.Common.{◌≡◌, ◌≢◌, arith, ℕ, zero, suc, ◌+◌, ◌*◌, ◌-◌, ◌/◌, ◌%◌, ◌<◌, ◌≤◌, ◌==◌, Bool, true, false, cond, All, List}
+use Rattle.std.proofs.Common.{[], ◌∷◌, Option}
 use Rattle.std.proofs.Common.{length, map, filter, take, Some, slice_get, refl, sym, ap, subst, ◌∙◌}
 use Rattle.std.specs.Prelude.{nat_le}
 use Rattle.std.specs.List.{list_any}
@@ -45,13 +46,13 @@ use Rattle.gateway.specs.State.{Work, WorkStage, open_messages}
 use Rattle.gateway.specs.Work.{is_making}
 use Rattle.gateway.proofs.MessageLemmas.{AreMessagesFor-with_status}
 use Rattle.sheep_node.specs.declared.course.Course.{Course}
-use Rattle.sheep_node.specs.declared.event.Event.{Event}
 use Rattle.sheep_node.specs.Changes.{EndsWork, IsTold}
 use Rattle.sheep_node.specs.SoundWorks.{HasMessagesFor}
 use Rattle.sheep_node.specs.StepState.{StepState}
 use Rattle.sheep_world.specs.Began.{Began}
 use Rattle.sheep_world.specs.NodeCauses.{host_with_node, input_of_cause}
 use Rattle.sheep_world.specs.World.{Host}
+use Rattle.sheep_world.specs.RunsWithAsks.{Move}
 use Rattle.overlap_law.specs.Attempts.{AttemptRecord, object_of, attempts_on}
 use Rattle.overlap_law.specs.Each.{policy_in}
 use Rattle.overlap_law.specs.Holders.{targets_by}
@@ -78,6 +79,10 @@ use Rattle.overlap_law.proofs.StripReadsInRuns.{given-on_the_way}
 use Rattle.overlap_law.proofs.TablesOfReads.{reading_along}
 use Rattle.overlap_law.proofs.TellersOfPieces.{TellersAreTargets, tellers-on_the_way}
 use Rattle.overlap_law.proofs.ToldPiecesInRuns.{told_pieces-in_run}
+use Rattle.overlap_law.specs.RequestsOfScript.{is_of_client}
+use Rattle.overlap_law.specs.Sessions.{is_of_client_at}
+use Rattle.sheep_node.specs.declared.course.Request.{Request}
+use Rattle.std.specs.Option.{option_map_or}
 
 -- ---- lists of messages
 
@@ -88,7 +93,8 @@ all_successes P [] each = All-nil P
 all_successes P (first ∷ later) each =
     by_test (is_success first.status) refl (all_successes P later (λ place m at is. each (suc place) m at is))
   where
-    by_test : (b : Bool) → is_success first.status ≡ b → All P (successes later) → All P (cond b (first ∷ successes later) (successes later))
+    by_test : (b : Bool) → is_success first.status ≡ b → All P (successes later)
+        → All P (cond b (first ∷ successes later) (successes later))
     by_test true is rest = All-cons P first (successes later) (each zero first refl is) rest
     by_test false is rest = rest
 
@@ -155,7 +161,7 @@ points-first n messages are =
 
 -- ---- a block
 
-module _ (script : List Statement) (range : RunsAreInRange script) (events : List Event) (start : MomentWithPast)
+module _ (script : List Statement) (range : RunsAreInRange script) (events : List Move) (start : MomentWithPast)
     (ran : run_with_past script events ≡ Some start) (stepping : SteppingNode) (is : IsStepping script start.world stepping)
     (by : StepsByChanges stepping.cause) (so_far : StepState) (leads : LeadsInStep stepping (first_in_step stepping) so_far)
     (trail : MomentTrail script start (moment_in_step script stepping start so_far)) (session req number : ℕ) (work : Work)
@@ -163,12 +169,13 @@ module _ (script : List Statement) (range : RunsAreInRange script) (events : Lis
     (ends : EndsWork (input_of_cause stepping.cause) stepping.host.node so_far session req number work attempt status course bytes)
     (inode : Content) (home : ℕ) (piece : Piece) (is_read : work.work ≡ read_piece inode piece home) (is_vid : IsVid home)
     (few : piece.index < OBJECTS_MAX) (blocks : AreBlocks piece) (d p : ℕ) (coded : inode.spec.policy ≡ Coded d p)
+    (own : is_of_client course ≡ false)
     (known : policy_in (log_effects (moment_in_step script stepping start so_far).world.log) (object_number home piece.index)
     ≡ Some inode.spec.policy)
     (is_good : good_at start (object_number home piece.index) ≡ true) (unit : ℕ) (inside : IsInPiece piece unit) (j : ℕ)
     (made : AttemptRecord)
-    (at : slice_get (attempts_on (object_number home piece.index) (moment_in_step script stepping start so_far).past.attempts) j ≡ Some made)
-    (covers : covers_unit unit made ≡ true)
+    (at : slice_get (attempts_on (object_number home piece.index) (moment_in_step script stepping start so_far).past.attempts) j
+    ≡ Some made) (covers : covers_unit unit made ≡ true)
     (stands : is_doomed (moment_in_step script stepping start so_far).world.hosts made ≡ false)
     (quiet : AddNothingAfter (attempts_on (object_number home piece.index) (moment_in_step script stepping start so_far).past.attempts)
     unit j made)
@@ -205,6 +212,11 @@ module _ (script : List Statement) (range : RunsAreInRange script) (events : Lis
 
   reads : is_making work.work ≡ false
   reads = ap (λ (w : ObjWork). is_making w) is_read
+
+  -- of no client
+  no_client : is_of_client_at req was.node ≡ false
+  no_client =
+      ap (λ (o : Option Request). option_map_or (λ (request : Request). is_of_client request.course) o false) ends.ends.request ∙ own
 
   -- ---- the messages
 
@@ -260,14 +272,14 @@ module _ (script : List Statement) (range : RunsAreInRange script) (events : Lis
           by_test : (one : Message) → slice_get attempt.messages place ≡ Some one → (b : Bool) → (one.number == number) ≡ b
               → cond b (record one { status = status }) one ≡ m → IsGiven (good_at start) here work.work epoch m.index gave
           by_test one found true tie same =
-              let own : one.number ≡ number = eqb-true one.number number tie in
+              let its : one.number ≡ number = eqb-true one.number number tie in
               let came : status ≡ statuses.Succeeded gave = ap (λ (x : Message). x.status) same ∙ gave_bytes m.status succeeded in
               subst (λ (k : ℕ). IsGiven (good_at start) here work.work epoch k gave) (ap (λ (x : Message). x.index) same)
-              (given_now script range events start ran (good_at start) (told_pieces-in_run script range events start ran) stepping is by so_far
-              leads trail req place work attempt one ends.ends.learns.there ends.ends.learns.open_so found
-              (ap (λ (k : ℕ). list_any (is_awaited_message k) attempt.messages) own ∙ awaited) gave some
-              (subst (λ (k : ℕ). IsTold (input_of_cause stepping.cause) k (statuses.Succeeded gave)) (sym own)
-              (subst (IsTold (input_of_cause stepping.cause) number) came ends.ends.learns.told)))
+              (given_now script range events start ran (good_at start) (told_pieces-in_run script range events start ran) stepping is by
+              so_far leads trail req place work attempt one ends.ends.learns.there ends.ends.learns.open_so found
+              (ap (λ (k : ℕ). list_any (is_awaited_message k) attempt.messages) its ∙ awaited) gave some
+              (subst (λ (k : ℕ). IsTold (input_of_cause stepping.cause) k (statuses.Succeeded gave)) (sym its)
+              (subst (IsTold (input_of_cause stepping.cause) number) came ends.ends.learns.told)) no_client)
           by_test one found false apart same =
               given-on_the_way script range events start here ran trail stepping.n was at_host (not_lost stepping.host is.up) req place work
               attempt m gave (record {
@@ -276,7 +288,7 @@ module _ (script : List Statement) (range : RunsAreInRange script) (events : Lis
                 at = found ∙ ap (λ (x : Message). Some x) same;
                 given = gave_bytes m.status succeeded;
                 some = some;
-              }) reads
+              }) reads no_client
 
       of_piece : IsGiven (good_at start) here (read_piece inode piece home) epoch m.index gave
       of_piece = subst (λ (w : ObjWork). IsGiven (good_at start) here w epoch m.index gave) is_read given
@@ -286,7 +298,8 @@ module _ (script : List Statement) (range : RunsAreInRange script) (events : Lis
           → IsBehind here.world.wire other epoch
       behind k other other_at on =
           open_reads-in_run script range events start here ran trail stepping.n was at_host (not_lost stepping.host is.up) req work attempt
-          ends.ends.learns.there reads ends.ends.learns.open_so k other other_at (on ∙ ap (λ (w : ObjWork). oid_of w) (sym is_read))
+          ends.ends.learns.there reads no_client ends.ends.learns.open_so k other other_at
+          (on ∙ ap (λ (w : ObjWork). oid_of w) (sym is_read))
 
       earlier : (k : ℕ) (other : AttemptRecord) → slice_get here.past.attempts k ≡ Some other → object_of other ≡ oid → other.epoch ≤ epoch
       earlier k other other_at on = (behind k other other_at on).epochs
@@ -302,8 +315,8 @@ module _ (script : List Statement) (range : RunsAreInRange script) (events : Lis
           subst (λ (n : ℕ). n ≤ part_size policy (kind_of oid) (unit_start (kind_of oid) unit))
           (sym (λ i. part_size (coded i) (kind_so i) piece.offset))
           (subst (λ (n : ℕ). piece.offset / d ≤ n) (sym (λ i. part_size (coded i) (kind_so i) (unit_start (kind_so i) unit)))
-          (widths.by_cases (λ (n : ℕ). piece.offset / n ≤ 512 * unit / n) (omega (arith, first)) (omega (arith, first)) (omega (arith, first))
-          (omega (arith, first)) d is_policy.0))
+          (widths.by_cases (λ (n : ℕ). piece.offset / n ≤ 512 * unit / n) (omega (arith, first)) (omega (arith, first))
+          (omega (arith, first)) (omega (arith, first)) d is_policy.0))
 
       below : part_size policy (kind_of oid) (unit_start (kind_of oid) unit) + part_size policy (kind_of oid) (unit_size (kind_of oid) unit)
           ≤ part_size policy (kind_of oid) piece.offset + length gave
@@ -311,7 +324,8 @@ module _ (script : List Statement) (range : RunsAreInRange script) (events : Lis
           let last = inside.last in
           let offset_so : piece.offset % 512 ≡ 0 = blocks.offset in
           let size_so : piece.size % 512 ≡ 0 = blocks.size in
-          let offset_part : part_size policy (kind_of oid) piece.offset ≡ piece.offset / d = λ i. part_size (coded i) (kind_so i) piece.offset in
+          let offset_part : part_size policy (kind_of oid) piece.offset
+          ≡ piece.offset / d = λ i. part_size (coded i) (kind_so i) piece.offset in
           let start_part : part_size policy (kind_of oid) (unit_start (kind_of oid) unit) ≡ 512 * unit / d
           = λ i. part_size (coded i) (kind_so i) (unit_start (kind_so i) unit) in
           let size_part : part_size policy (kind_of oid) (unit_size (kind_of oid) unit) ≡ 512 / d
@@ -345,8 +359,8 @@ module _ (script : List Statement) (range : RunsAreInRange script) (events : Lis
 
       gave_strip : GaveStrip d piece.offset unit (bytes_by unit made.work) m
       gave_strip =
-          sym (λ i. piece_at gave (part_size (coded i) (kind_so i) (unit_start (kind_so i) unit) - part_size (coded i) (kind_so i) piece.offset)
-          (part_size (coded i) (kind_so i) (unit_size (kind_so i) unit))) ∙ part_so ∙ strip_of
+          sym (λ i. piece_at gave (part_size (coded i) (kind_so i) (unit_start (kind_so i) unit) - part_size (coded i) (kind_so i)
+          piece.offset) (part_size (coded i) (kind_so i) (unit_size (kind_so i) unit))) ∙ part_so ∙ strip_of
 
     -- ---- as many as the read needs
 
@@ -380,5 +394,6 @@ module _ (script : List Statement) (range : RunsAreInRange script) (events : Lis
   pub block_stands : piece_at bytes (BLOCK_BYTES * unit - piece.offset) BLOCK_BYTES ≡ bytes_by unit made.work
   block_stands =
       let work_is : IsWork work.work
-      = ((reading_along script range start began trail stepping.n was at_host).sound.open_works req work ends.ends.learns.there).range.is_work in
+      = ((reading_along script range start began trail stepping.n was at_host).sound.open_works req work
+      ends.ends.learns.there).range.is_work in
       block_so (subst IsPolicy coded (subst IsWork is_read work_is).0)

@@ -1,6 +1,7 @@
--- In each run in range, in the middle of whatever step of an event, what comes of a read of strips is to come, if each block that was read has
--- a made attempt behind which none is made or adds anything.
-use Rattle.std.proofs.Common.{◌≡◌, ℕ, ◌*◌, ◌-◌, ◌&&◌, ◌==◌, Bool, true, false, List, ◌++◌, Option, Some, option_map, slice_get, refl, sym, ap, subst, ◌∙◌}
+-- In each run in range, in the middle of whatever step of an event, what comes of a read of strips is to come, if each block that was read
+-- has a made attempt behind which none is made or adds anything.
+use Rattle.std.proofs.Common.{◌≡◌, ℕ, ◌*◌, ◌-◌, ◌&&◌, ◌==◌, Bool, true, false, List, ◌++◌, Option, Some, option_map, slice_get, refl, sym}
+use Rattle.std.proofs.Common.{ap, subst, ◌∙◌}
 use Rattle.std.specs.FinMap as tree
 use Rattle.std.proofs.lemmas.Bool.{eq-eqb, eqb-true}
 use Rattle.proof_tools.proofs.FiniteMaps.{get-insert_same}
@@ -25,7 +26,6 @@ use Rattle.gateway.specs.State.{Work}
 use Rattle.vdi_directory.specs.Decisions.{log_effects}
 use Rattle.vdi_directory.specs.States.{state_of, is_live_state}
 use Rattle.sheep_node.specs.declared.course.Course.TheVariants.{Driving}
-use Rattle.sheep_node.specs.declared.event.Event.{Event}
 use Rattle.sheep_node.specs.Changes.{EndsWork}
 use Rattle.sheep_node.specs.State.{session_at}
 use Rattle.sheep_node.specs.StepFacts.{read_after}
@@ -37,6 +37,7 @@ use Rattle.sheep_world.specs.HostChanges.{host_after_step}
 use Rattle.sheep_world.specs.NodeCauses.{event_of_cause, input_of_cause, world_after_cause}
 use Rattle.sheep_world.proofs.BegunWorlds.{goes_on}
 use Rattle.sheep_world.proofs.LogFrontLaws.{all_read}
+use Rattle.sheep_world.specs.RunsWithAsks.{Move}
 use Rattle.overlap_law.specs.Attempts.{AttemptRecord, object_of, attempts_on}
 use Rattle.overlap_law.specs.BornObjects.{IsBorn}
 use Rattle.overlap_law.specs.Each.{policy_in, spec_in}
@@ -87,7 +88,7 @@ pub coded_policy : (policy : Policy) → is_in_strips policy Block ≡ true → 
 coded_policy (Copies copies) is = absurd (cc (is))
 coded_policy (Coded d p) is = (d, p, refl)
 
-module _ (script : List Statement) (range : RunsAreInRange script) (events : List Event) (start : MomentWithPast)
+module _ (script : List Statement) (range : RunsAreInRange script) (events : List Move) (start : MomentWithPast)
     (run : run_with_past script events ≡ Some start) where
   -- what a node that steps knows of a disk the log says
   pub known_spec : (stepping : SteppingNode) (so_far : StepState) → IsStepping script start.world stepping → StepsByChanges stepping.cause
@@ -107,7 +108,7 @@ module _ (script : List Statement) (range : RunsAreInRange script) (events : Lis
       ap (λ (entries : List Entry). spec_in (log_effects entries) vid) read
       ∙ spec_stays (read_after (input_of_cause stepping.cause) stepping.host.node.peer.entries) front.rest vid spec known
 
-module _ (script : List Statement) (range : RunsAreInRange script) (events : List Event) (start : MomentWithPast)
+module _ (script : List Statement) (range : RunsAreInRange script) (events : List Move) (start : MomentWithPast)
     (run : run_with_past script events ≡ Some start) (good_id : ℕ → Bool)
     (fewer : CallsFewer good_id (is_available_disk start.world.log start.past.unavailable))
     (closed : AboveIsGood (log_effects start.world.log) good_id) where
@@ -132,8 +133,8 @@ module _ (script : List Statement) (range : RunsAreInRange script) (events : Lis
 
     pub reads_so : work.work ≡ read_piece disk.inode piece home
     reads_so =
-        is_read script range events start run good_id fewer closed here trail stepping so_far is by leads refl session disk opened req number
-        work attempt status told bytes piece rest ends
+        is_read script range events start run good_id fewer closed here trail stepping so_far is by leads refl session disk opened req
+        number work attempt status told bytes piece rest ends
 
     pub policy_known : policy_in (log_effects here.world.log) oid ≡ Some disk.inode.spec.policy
     policy_known =
@@ -160,17 +161,20 @@ module _ (script : List Statement) (range : RunsAreInRange script) (events : Lis
           (few script range events start run good_id fewer closed here trail stepping so_far is by leads refl session disk opened req
           number work attempt status told bytes piece rest ends)
           (blocks script range events start run good_id fewer closed here trail stepping so_far is by leads refl session disk opened req
-          number work attempt status told bytes piece rest ends) d p coded policy_known
-          (good_object script range events start run good_id fewer closed here trail stepping so_far is by leads refl session disk opened req
-          number work attempt status told bytes piece rest ends ledger good live born) unit inside j base of.there of.covers
+          number work attempt status told bytes piece rest ends) d p coded refl policy_known
+          (good_object script range events start run good_id fewer closed here trail stepping so_far is by leads refl session disk opened
+          req number work attempt status told bytes piece rest ends ledger good live born) unit inside j base of.there of.covers
           (made-not_doomed here.world.hosts base of.made) of.quiet of.block
 
-      piece_comes : PieceIsToCome ledger (log_effects here.world.log) good_id here.world.hosts here.past.attempts disk.inode home piece bytes
+      piece_comes : PieceIsToCome ledger (log_effects here.world.log) good_id here.world.hosts here.past.attempts disk.inode home piece
+          bytes
       piece_comes = record {
-        long = long_so script range events start run good_id fewer closed here trail stepping so_far is by leads refl session disk opened req
+        long =
+            long_so script range events start run good_id fewer closed here trail stepping so_far is by leads refl session disk opened req
             number work attempt status told bytes piece rest ends;
         each = λ unit found inside block torn.
-            let (born, of) = bases.each stepping so_far is by leads refl session req number work attempt status told bytes piece rest disk ends
+            let (born, of) = bases.each stepping so_far is by leads refl session req number work attempt status told bytes piece rest disk
+            ends
             opened strips good live in
             let (j, base, own) = of unit found inside block torn in
             let (place, comes) = base_comes here.world.hosts here.past.attempts oid unit j base own in
@@ -181,7 +185,8 @@ module _ (script : List Statement) (range : RunsAreInRange script) (events : Lis
       → StripsHaveBases script start before ledger (log_effects before.world.log) good_id
       → StripPiecesAreToCome script start before ledger (log_effects before.world.log) good_id
   strips_are_to_come before trail ledger bases = record {
-    each = λ stepping so_far is by leads same session req number work attempt status told bytes piece rest disk ends opened strips good live.
+    each =
+        λ stepping so_far is by leads same session req number work attempt status told bytes piece rest disk ends opened strips good live.
         subst (λ (m : MomentWithPast). PieceIsToCome ledger (log_effects m.world.log) good_id m.world.hosts m.past.attempts disk.inode
         (entry_of disk.inode piece) piece bytes) (sym same)
         (piece_comes stepping so_far is by leads (subst (MomentTrail script start) same trail) session disk opened req number work attempt

@@ -12,11 +12,11 @@ use Rattle.guest_driver.specs.declared.disk.Disk.{Disk}
 use Rattle.peer_service.specs.State.{effects_of}
 use Rattle.vdi_directory.specs.Dead.{is_dead}
 use Rattle.vdi_directory.specs.Decisions.{log_effects}
-use Rattle.sheep_node.specs.declared.event.Event.{Event}
 use Rattle.sheep_node.specs.declared.session.Session.{Session}
 use Rattle.sheep_world.specs.Began.{Began}
 use Rattle.sheep_world.specs.World.{Host}
 use Rattle.sheep_world.proofs.LogFrontLaws.{all_read}
+use Rattle.sheep_world.specs.RunsWithAsks.{Move}
 use Rattle.overlap_law.specs.Attempts.{AttemptRecord}
 use Rattle.overlap_law.specs.Each.{EachAttempt, spec_in}
 use Rattle.overlap_law.specs.MomentChanges.{RunsAreInRange}
@@ -51,7 +51,7 @@ failing : (passes : ℕ → Bool) (entries : List ℕ) → list_all passes entri
 failing passes [] fails = absurd (cc (fails))
 failing passes (first ∷ rest) fails = failing_by passes first rest (passes first) refl (failing passes rest) fails
 
-module _ (script : List Statement) (range : RunsAreInRange script) (events : List Event) (moment : MomentWithPast)
+module _ (script : List Statement) (range : RunsAreInRange script) (events : List Move) (moment : MomentWithPast)
     (is : run_with_past script events ≡ Some moment) (good_id : ℕ → Bool)
     (created : OpenInodesAreCreated moment.world.hosts moment.past.attempts)
     (tables : TablesStayTheInodes (log_effects moment.world.log) good_id moment.world.hosts moment.past.attempts) where

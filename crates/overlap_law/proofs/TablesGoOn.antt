@@ -13,7 +13,6 @@ use Rattle.guest_driver.proofs.ExtentLemmas.{objects_most}
 use Rattle.vdi_directory.specs.Dead.{is_dead}
 use Rattle.vdi_directory.specs.Decisions.{log_effects}
 use Rattle.sheep_node.specs.declared.course.Course.TheVariants.{Commanding}
-use Rattle.sheep_node.specs.declared.event.Event.{Event}
 use Rattle.sheep_node.specs.declared.session.Session.{Session}
 use Rattle.sheep_node.specs.Changes as changes
 use Rattle.sheep_node.specs.Changes.{EndsWork}
@@ -24,6 +23,7 @@ use Rattle.sheep_node.proofs.WantedSteps.{driver_goes_on-wanted}
 use Rattle.sheep_world.specs.Began.{Began}
 use Rattle.sheep_world.specs.NodeCauses.{input_of_cause, host_with_node}
 use Rattle.sheep_world.specs.World.{Host}
+use Rattle.sheep_world.specs.RunsWithAsks.{Move}
 use Rattle.overlap_law.specs.Attempts.{AttemptRecord}
 use Rattle.overlap_law.specs.Grants.{writer_of}
 use Rattle.overlap_law.specs.MomentChanges as moments
@@ -51,7 +51,7 @@ use Rattle.overlap_law.proofs.CausedWorks.{by_changes}
 use Rattle.overlap_law.proofs.WorksAtCourses.{HaveAt}
 use Rattle.overlap_law.proofs.WorksInMoments.{well_along}
 
-module _ (script : List Statement) (range : RunsAreInRange script) (events : List Event) (start : MomentWithPast)
+module _ (script : List Statement) (range : RunsAreInRange script) (events : List Move) (start : MomentWithPast)
     (ran : run_with_past script events ≡ Some start) (on : SteppingNode) (is : IsStepping script start.world on)
     (by : StepsByChanges on.cause) (so_far next : StepState) (within : IsWithinStep on so_far next)
     (trail : MomentTrail script start (moment_in_step script on start so_far)) (good_id : ℕ → Bool)
@@ -265,7 +265,7 @@ module _ (script : List Statement) (range : RunsAreInRange script) (events : Lis
 abbrev TablesHold : (ℕ → Bool) → MomentWithPast → Type 0
 TablesHold good_id moment = TablesStayTheInodes (log_effects moment.world.log) good_id moment.world.hosts moment.past.attempts
 
-pub tables_kept : (script : List Statement) → RunsAreInRange script → (events : List Event) (start before after : MomentWithPast)
+pub tables_kept : (script : List Statement) → RunsAreInRange script → (events : List Move) (start before after : MomentWithPast)
     → run_with_past script events ≡ Some start → MomentTrail script start before → MomentChange script start before after
     → (good_id : ℕ → Bool) → OpenedInodesHaveTables script good_id start before
     → TablesStayTheInodes (log_effects before.world.log) good_id before.world.hosts before.past.attempts

@@ -32,7 +32,6 @@ use Rattle.guest_driver.specs.PieceWorks.{write_entry, table_with_entry}
 use Rattle.vdi_directory.specs.Decisions.{log_effects}
 use Rattle.sheep_node.specs.declared.course.Course.TheVariants.{Driving}
 use Rattle.sheep_node.specs.declared.course.Request.{Request}
-use Rattle.sheep_node.specs.declared.event.Event.{Event}
 use Rattle.sheep_node.specs.declared.input.Input.{Input}
 use Rattle.sheep_node.specs.Changes as changes
 use Rattle.sheep_node.specs.Changes.{IsSoundStep, EndsWork}
@@ -46,6 +45,7 @@ use Rattle.sheep_node.proofs.NumberChanges.{both_in_chain}
 use Rattle.sheep_world.specs.Began.{Began}
 use Rattle.sheep_world.specs.NodeCauses.{input_of_cause, host_with_node}
 use Rattle.sheep_world.specs.World.{Host}
+use Rattle.sheep_world.specs.RunsWithAsks.{Move}
 use Rattle.overlap_law.specs.Attempts.{AttemptRecord}
 use Rattle.overlap_law.specs.Grants.{writer_of}
 use Rattle.overlap_law.specs.Holders.{is_object_among, targets_by}
@@ -82,7 +82,6 @@ use Rattle.overlap_law.proofs.OpenTables.{whole_tables}
 use Rattle.overlap_law.proofs.RefusedInMoments.{refused_of}
 use Rattle.overlap_law.proofs.RefusedToNothing.{refused_to_nothing}
 use Rattle.overlap_law.proofs.RunsByChanges.{on_the_way}
-use Rattle.overlap_law.proofs.SessionsOfRequests.{asked_so_far, brought, are_asked}
 use Rattle.overlap_law.proofs.ShapedAttempts.{kept_shaped}
 use Rattle.overlap_law.proofs.SnapshotsTaken.{writes-making, writes-object}
 use Rattle.overlap_law.proofs.TiedInRuns.{kept_tied}
@@ -94,6 +93,8 @@ use Rattle.overlap_law.proofs.WaitedSteps.{Waits}
 use Rattle.overlap_law.proofs.WorksAtCourses.{HaveAt}
 use Rattle.overlap_law.proofs.WorksGoOn.{IsDoneNow, WorkAfter, GoesOn, IsDone, IsRefused, work_after}
 use Rattle.overlap_law.proofs.WorksInMoments.{well_along}
+use Rattle.sheep_world.specs.Asking.{session_asking}
+use Rattle.overlap_law.proofs.AttemptsOfScript.{AreForRequests, kept_for, change_for}
 
 -- ---- what a driver leaves of the table
 
@@ -136,7 +137,7 @@ among_more req one more is = list_any-append (λ other. other == req) one more �
 
 -- ---- a change of a step
 
-module _ (script : List Statement) (range : RunsAreInRange script) (events : List Event) (start : MomentWithPast)
+module _ (script : List Statement) (range : RunsAreInRange script) (events : List Move) (start : MomentWithPast)
     (ran : run_with_past script events ≡ Some start) (on : SteppingNode) (is : IsStepping script start.world on)
     (by : StepsByChanges on.cause) (so_far next : StepState) (within : IsWithinStep on so_far next)
     (trail : MomentTrail script start (moment_in_step script on start so_far)) where
@@ -216,10 +217,10 @@ module _ (script : List Statement) (range : RunsAreInRange script) (events : Lis
       → IsEntryToCome (moment_in_step script on start next).world.hosts (moment_in_step script on start next).past.attempts vid index j
       attempt → ⊥
   refused_nothing q cause replied vid index j attempt own comes =
-      let (session, disk, asked) = (asked_so_far script on.n on.host.incarnation input node
-      (brought script start.world on.n on.host on.cause is.caused) (are_asked script start.world began on.n on.host is.there)
-      leads_then).replied (q, replies.Refused cause) replied in
-      let refuses : refuses_request script (q, replies.Refused cause) ≡ true = ap is_some asked.asking in
+      let asked = change_for script range start here later began change
+      (on_the_way script (AreForRequests script) (kept_for script range) events start here ran trail) j attempt comes.there in
+      let refuses : refuses_request script (q, replies.Refused cause) ≡ true
+      = ap is_some (ap (session_asking script) (sym own) ∙ asked.asking) in
       let among : is_object_among q (moment_in_step script on start next).past.refused ≡ true
       = ap (is_object_among q) (refused_in_step script on start next)
       ∙ among_more q start.past.refused (refused_in script next.outputs.replies)

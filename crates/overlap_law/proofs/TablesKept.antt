@@ -2,7 +2,6 @@
 use Rattle.std.proofs.Common.{◌≡◌, List, Some}
 use Rattle.vdi_directory.specs.Decisions.{log_effects}
 use Rattle.cluster_script.specs.declared.statement.Statement.{Statement}
-use Rattle.sheep_node.specs.declared.event.Event.{Event}
 use Rattle.overlap_law.specs.Groups.{TablesAreKept}
 use Rattle.overlap_law.specs.Holders.{is_live_object}
 use Rattle.overlap_law.specs.MomentChanges.{RunsAreInRange, Still}
@@ -22,8 +21,9 @@ use Rattle.overlap_law.proofs.SnapshotInodes.{open_inodes}
 use Rattle.overlap_law.proofs.TablesByComing.{tables_by}
 use Rattle.overlap_law.proofs.TiedInRuns.{kept_tied}
 use Rattle.overlap_law.proofs.WholeInRuns.{whole-on_the_way}
+use Rattle.sheep_world.specs.RunsWithAsks.{Move}
 
-module _ (script : List Statement) (range : RunsAreInRange script) (events : List Event) (moment : MomentWithPast)
+module _ (script : List Statement) (range : RunsAreInRange script) (events : List Move) (moment : MomentWithPast)
     (is : run_with_past script events ≡ Some moment) where
   pub table-in_run : TablesAreTheInodes (log_effects moment.world.log) (good_id_at moment) moment.world.hosts moment.past.attempts
   table-in_run =

@@ -1,6 +1,6 @@
--- While a session has a disk open, each copy of its inode that reaches the own base of an entry has the entry of the session's table, or the
--- disk's own id while that is being written: what the copy has there is of an attempt that may come to be read, as the own base is made and
--- so is owed; and what the inode may come to have is the table's.
+-- While a session has a disk open, each copy of its inode that reaches the own base of an entry has the entry of the session's table, or
+-- the disk's own id while that is being written: what the copy has there is of an attempt that may come to be read, as the own base is made
+-- and so is owed; and what the inode may come to have is the table's.
 use Rattle.std.proofs.Common.{◌≡◌, ◌⊎◌, inl, inr, ⊎_elim, arith, ℕ, ◌≤◌, ◌==◌, ◌&&◌, Bool, true, false}
 use Rattle.std.proofs.Common.{List, slice_get, slice_index, Some, sym, ap, subst, ◌∙◌}
 use Rattle.std.specs.FinMap as tree

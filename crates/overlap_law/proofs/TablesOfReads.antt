@@ -25,12 +25,12 @@ use Rattle.vdi_directory.specs.Dead.{is_dead}
 use Rattle.vdi_directory.specs.Decisions.{log_effects}
 use Rattle.sheep_node.specs.declared.course.Course.TheVariants.{Driving, Commanding}
 use Rattle.sheep_node.specs.declared.course.Request.{Request}
-use Rattle.sheep_node.specs.declared.event.Event.{Event}
 use Rattle.sheep_node.specs.May.{is_disk_course}
 use Rattle.sheep_node.specs.SessionQueues.{session_among, queue_in, command_in, is_disk_request_of, IsQueued}
 use Rattle.sheep_node.proofs.SessionViews.{IsSeen}
 use Rattle.sheep_world.specs.Began.{Began}
 use Rattle.sheep_world.specs.World.{Host}
+use Rattle.sheep_world.specs.RunsWithAsks.{Move}
 use Rattle.overlap_law.specs.Attempts.{AttemptRecord}
 use Rattle.overlap_law.specs.Each.{EachAttempt}
 use Rattle.overlap_law.specs.Fates.{IsCreated}
@@ -91,7 +91,7 @@ module _ (script : List Statement) (range : RunsAreInRange script) (start : Mome
 
 -- ---- an open disk
 
-module _ (script : List Statement) (range : RunsAreInRange script) (events : List Event) (start : MomentWithPast)
+module _ (script : List Statement) (range : RunsAreInRange script) (events : List Move) (start : MomentWithPast)
     (ran : run_with_past script events ≡ Some start) (moment : MomentWithPast) (trail : MomentTrail script start moment) (n : ℕ)
     (host : Host) (there : tree.get moment.world.hosts n ≡ Some host) (up : host.is_lost ≡ false) (number : ℕ) (disk : Disk)
     (opened : (session_among number host.node.sessions).disk ≡ Some disk) where

@@ -6,7 +6,6 @@ use Rattle.object_id.specs.Oid.{IsVid, inode_number}
 use Rattle.vdi_directory.specs.Dead.{is_dead}
 use Rattle.vdi_directory.specs.Decisions.{log_effects}
 use Rattle.cluster_script.specs.declared.statement.Statement.{Statement}
-use Rattle.sheep_node.specs.declared.event.Event.{Event}
 use Rattle.overlap_law.specs.Facts.{CopiesHaveTheTable}
 use Rattle.overlap_law.specs.GoodInodes.{is_available_inode}
 use Rattle.overlap_law.specs.Holders.{is_live_object, is_object_among, IsGood}
@@ -21,8 +20,9 @@ use Rattle.overlap_law.proofs.KnownDisks.{vid-of_inode}
 use Rattle.overlap_law.proofs.MakingInRuns.{creates_first-in_run}
 use Rattle.overlap_law.proofs.StayingRows.{not_dead}
 use Rattle.overlap_law.proofs.TablesOfCopies.{copies_have_table}
+use Rattle.sheep_world.specs.RunsWithAsks.{Move}
 
-module _ (script : List Statement) (range : RunsAreInRange script) (events : List Event) (moment : MomentWithPast)
+module _ (script : List Statement) (range : RunsAreInRange script) (events : List Move) (moment : MomentWithPast)
     (is : run_with_past script events ≡ Some moment) (vid : ℕ) (id : IsVid vid)
     (good : IsGood moment.world.log moment.past.attempts moment.past.unavailable (inode_number vid)) where
   alive : is_dead (log_effects moment.world.log) vid ≡ false

@@ -14,10 +14,10 @@ use Rattle.vdi_directory.specs.Dead.{is_dead}
 use Rattle.vdi_directory.specs.Decisions.{log_effects}
 use Rattle.vdi_directory.proofs.DeadLemmas.{dead-stays}
 use Rattle.vdi_directory.proofs.DeadTests.{test-finds-dead}
-use Rattle.sheep_node.specs.declared.event.Event.{Event}
 use Rattle.sheep_node.specs.declared.session.Session.{Session}
 use Rattle.sheep_node.specs.State.{Node}
 use Rattle.sheep_world.specs.World.{Host}
+use Rattle.sheep_world.specs.RunsWithAsks.{Move}
 use Rattle.overlap_law.specs.Attempts.{AttemptRecord}
 use Rattle.overlap_law.specs.MomentChanges.{MomentChange, MomentTrail, RunsAreInRange}
 use Rattle.overlap_law.specs.Past.{MomentWithPast, run_with_past}
@@ -51,7 +51,7 @@ lived log later grows vid lives = by_test (is_dead (log_effects log) vid) refl
     by_test false is = refl
     by_test true dead = let still = dead_later grows dead in absurd (cc (still, lives))
 
-module _ (script : List Statement) (range : RunsAreInRange script) (events : List Event) (start before after : MomentWithPast)
+module _ (script : List Statement) (range : RunsAreInRange script) (events : List Move) (start before after : MomentWithPast)
     (is : run_with_past script events ≡ Some start) (trail : MomentTrail script start before)
     (change : MomentChange script start before after)
     (good_id : ℕ → Bool)

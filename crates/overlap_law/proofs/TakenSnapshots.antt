@@ -1,6 +1,7 @@
 -- In each world of a run in range each entry of a snapshot made its disk one: the node that put it had the disk's lock, and the
 -- reservation of the id that took its place.
-use Rattle.std.proofs.Common.{◌≡◌, ◌≢◌, ⊎_elim, arith, ℕ, zero, suc, ◌+◌, true, false, List, [], ◌∷◌, ◌++◌, All, take, length, None, Some, refl, sym, ap, subst, ◌∙◌}
+use Rattle.std.proofs.Common.{◌≡◌, ◌≢◌, ⊎_elim, arith, ℕ, zero, suc, ◌+◌, true, false, List, [], ◌∷◌, ◌++◌, All, take, length, None, Some}
+use Rattle.std.proofs.Common.{refl, sym, ap, subst, ◌∙◌}
 use Rattle.std.specs.FinMap as tree
 use Rattle.std.specs.List.{slice_get}
 use Rattle.std.proofs.lemmas.List.{take_all, length-append}
@@ -15,13 +16,15 @@ use Rattle.sheep_node.specs.declared.event.Event.{Event}
 use Rattle.sheep_node.specs.OwnEntries.{IsEntryOf}
 use Rattle.sheep_world.specs.World.{Host, World}
 use Rattle.sheep_world.specs.Began.{Began}
-use Rattle.sheep_world.specs.EventKinds.{EventKind, NodeStep, UntoldLoss, UnreadDelivery, NodeLoss, NodeLeave, NodeReweight, NodeJoin, NodeReturn, PhaseEnd}
+use Rattle.sheep_world.specs.EventKinds.{EventKind, NodeStep, UntoldLoss, UnreadDelivery, NodeLoss, NodeLeave, NodeReweight, NodeJoin}
+use Rattle.sheep_world.specs.EventKinds.{NodeReturn, PhaseEnd}
 use Rattle.sheep_world.specs.MembershipChanges.{join_of, last_weight}
-use Rattle.sheep_world.specs.NodeCauses.{NodeCause, GuestAsks, RequestComes, ReplyComes, LossIsTold, EntryIsRead, EntryIsPut, RecoveryTicks, WorkIsRetried, IsCause, log_after_cause}
+use Rattle.sheep_world.specs.NodeCauses.{NodeCause, GuestAsks, RequestComes, ReplyComes, LossIsTold, EntryIsRead, EntryIsPut, RecoveryTicks}
+use Rattle.sheep_world.specs.NodeCauses.{WorkIsRetried, ClientAsks, IsCause, log_after_cause}
 use Rattle.sheep_world.specs.Opening.{initial_world}
 use Rattle.sheep_world.specs.Step.{EventOutcome}
 use Rattle.sheep_world.proofs.BegunWorlds.{by_induction}
-use Rattle.sheep_world.proofs.EventInversion.{happens}
+use Rattle.sheep_world.proofs.ClientReads.{goes_by_kind}
 use Rattle.sheep_world.proofs.LogFrontLaws.{all_read, next_after}
 use Rattle.overlap_law.specs.LastReads.{snaps, was_snapped, SnapshotsAreTaken}
 use Rattle.overlap_law.specs.MomentChanges.{RunsAreInRange}
@@ -86,6 +89,7 @@ module _ (script : List Statement) (range : RunsAreInRange script) where
     by_cause n host there up_so (EntryIsPut entry) so = one_more world.log entry (put_taken world began n host there up_so entry so) all
     by_cause n host there up_so RecoveryTicks so = all
     by_cause n host there up_so WorkIsRetried so = all
+    by_cause n host there up_so (ClientAsks req ask) so = all
 
   kept : (event : Event) (world : World) (made : EventOutcome) → Began script world → EventKind script event world made
       → SnapshotsAreTaken world.log → SnapshotsAreTaken made.world.log
@@ -117,7 +121,7 @@ module _ (script : List Statement) (range : RunsAreInRange script) where
   pub taken_in_worlds : (world : World) → Began script world → SnapshotsAreTaken world.log
   taken_in_worlds = by_induction script (λ (world : World). SnapshotsAreTaken world.log) (record {
     opens = opens;
-    keeps = λ event world made began is all. kept event world made began (happens script event world made is) all;
+    keeps = λ event world made began is all. kept event world made began (goes_by_kind script event world made is) all;
   })
 
   -- as a node reads it

@@ -24,7 +24,6 @@ use Rattle.peer_service.specs.State.{Peer}
 use Rattle.gateway.specs.Work.{targets_asked}
 use Rattle.gateway.specs.Attempt.{message_for, send_of}
 use Rattle.gateway.specs.State.{Work}
-use Rattle.sheep_node.specs.declared.event.Event.{Event}
 use Rattle.sheep_node.specs.declared.input.Input.{Input}
 use Rattle.sheep_node.specs.State.{Node}
 use Rattle.sheep_node.specs.StepState.{StepState, at_first}
@@ -39,9 +38,10 @@ use Rattle.sheep_world.specs.NodeCauses.{NodeCause, input_of_cause, IsCause, wor
 use Rattle.sheep_world.specs.HostChanges.{host_after_step}
 use Rattle.sheep_world.specs.Began.{Began, IsInvariant}
 use Rattle.sheep_world.proofs.BegunWorlds.{goes_on, by_induction}
-use Rattle.sheep_world.proofs.LogAtOpening.{log-holds}
+use Rattle.sheep_world.proofs.LogAtOpening.{log-holds, nodes-valid}
 use Rattle.sheep_world.proofs.LogFrontLaws.{all_read}
 use Rattle.sheep_world.proofs.NodesByTheLog.{by_the_log}
+use Rattle.sheep_world.specs.RunsWithAsks.{Move}
 use Rattle.overlap_law.specs.AskedTargets.{AsksTarget, AsksGoToTargets}
 use Rattle.overlap_law.specs.Each.{policy_in}
 use Rattle.overlap_law.specs.Holders.{targets_by}
@@ -134,7 +134,8 @@ module _ (script : List Statement) (range : RunsAreInRange script) where
             (from_beginning script range world began n host there up cause not caused (turn_whole input host.node) so_far leads session req
             asked lined comes)
             (work_known input host.node reservable
-            (caused_known script range.is_script (effects_after input host.node) world n host cause caused)
+            (caused_known script range.is_script (effects_after input host.node) world n host cause
+            (nodes-valid script range.is_script range.room world began n host there) caused)
             (nodes_know script range world began n host there) so_far leads session req asked lined comes) in
             let made : policy_in (log_effects log_then) (oid_of asked.work) ≡ Some (policy_of asked.work)
             = ap (λ (log : List Entry). policy_in (log_effects log) (oid_of asked.work)) log_so
@@ -183,6 +184,6 @@ module _ (script : List Statement) (range : RunsAreInRange script) where
   pub asks_go_to_targets : (world : World) → Began script world → AsksGoToTargets world
   asks_go_to_targets world began = by_induction script AsksGoToTargets stays_so world began
 
-  pub targets-in_run : (events : List Event) (moment : MomentWithPast) → run_with_past script events ≡ Some moment
+  pub targets-in_run : (events : List Move) (moment : MomentWithPast) → run_with_past script events ≡ Some moment
       → AsksGoToTargets moment.world
   targets-in_run events moment is = asks_go_to_targets moment.world (began-with_past script events moment is)

@@ -7,12 +7,12 @@ use Rattle.cluster_script.specs.declared.statement.Statement.{Statement}
 use Rattle.peer_service.specs.Serve.{row_or_none, tells_refusal}
 use Rattle.recovery.specs.declared.search.RowAnswer.{RowAnswer}
 use Rattle.recovery.specs.State.{Message, Search, Recovery, all_unanswered}
-use Rattle.sheep_node.specs.declared.event.Event.{Event}
 use Rattle.sheep_node.specs.declared.input.Input.TheVariants as inputs
 use Rattle.sheep_world.specs.World.{Host, is_host_up}
 use Rattle.sheep_world.specs.NodeCauses.{NodeCause, IsCause, input_of_cause}
 use Rattle.sheep_world.specs.EventKinds.{log_after_return}
 use Rattle.sheep_world.specs.Began.{Began}
+use Rattle.sheep_world.specs.RunsWithAsks.{Move}
 use Rattle.overlap_law.specs.Reached.{Hosts}
 use Rattle.overlap_law.specs.Each.{EachHost, has_reached}
 use Rattle.overlap_law.specs.Past.{MomentWithPast, run_with_past}
@@ -137,7 +137,7 @@ tellers_come moment holds = record {
       told;
 }
 
-pub tellers-on_the_way : (script : List Statement) → RunsAreInRange script → (events : List Event) (start moment : MomentWithPast)
+pub tellers-on_the_way : (script : List Statement) → RunsAreInRange script → (events : List Move) (start moment : MomentWithPast)
     → run_with_past script events ≡ Some start → MomentTrail script start moment → TellersHaveCome moment.world.hosts moment.world.wire
 tellers-on_the_way script range events start moment is trail =
     tellers_come moment (on_the_way script TellersHold (kept_tellers script range) events start moment is trail)

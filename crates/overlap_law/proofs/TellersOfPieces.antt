@@ -30,11 +30,11 @@ use Rattle.gateway.specs.Attempt as gateways
 use Rattle.gateway.specs.Attempt.{send_of}
 use Rattle.gateway.specs.State.{Work}
 use Rattle.gateway.specs.Work.{ask_for, is_making}
-use Rattle.sheep_node.specs.declared.event.Event.{Event}
 use Rattle.sheep_node.specs.State.{Node}
 use Rattle.sheep_world.specs.World.{Host}
 use Rattle.sheep_world.specs.Began.{Began}
 use Rattle.sheep_world.proofs.RecoveryMessages.{same_asked}
+use Rattle.sheep_world.specs.RunsWithAsks.{Move}
 use Rattle.overlap_law.specs.Each.{EachUp, end_of_row, policy_in, has_reached, index_of_part}
 use Rattle.overlap_law.specs.Holders.{targets_by}
 use Rattle.overlap_law.specs.MomentChanges.{MomentChange, MomentTrail, RunsAreInRange, KeptByChanges}
@@ -247,6 +247,6 @@ module _ (script : List Statement) (range : RunsAreInRange script) where
         ((kept_reads script range).keeps start before after began change holds.reads);
   }
 
-  pub tellers-on_the_way : (events : List Event) (start moment : MomentWithPast) → run_with_past script events ≡ Some start
+  pub tellers-on_the_way : (events : List Move) (start moment : MomentWithPast) → run_with_past script events ≡ Some start
       → MomentTrail script start moment → TellersAreTargets moment
   tellers-on_the_way events start moment is trail = on_the_way script TellersAreTargets kept_tellers events start moment is trail

@@ -1,11 +1,11 @@
 -- What is kept by each change of a moment holds at each moment on the way of an event of a run; so the group of epochs and nodes does.
 use Rattle.std.proofs.Common.{◌≡◌, List, Some}
 use Rattle.cluster_script.specs.declared.statement.Statement.{Statement}
-use Rattle.sheep_node.specs.declared.event.Event.{Event}
 use Rattle.overlap_law.specs.Past.{MomentWithPast, run_with_past}
 use Rattle.overlap_law.specs.MomentChanges.{MomentTrail, Still, RunsAreInRange}
 use Rattle.overlap_law.specs.Groups.{TermsAreKept}
-use Rattle.overlap_law.specs.NodeEpochs.{TheUpHaveStayed, LeaversAreBeyond, RecoveriesArePresent, AnswerersHaveCome, TheRecoveredHaveAll, TheUnfinishedAreUnsettled}
+use Rattle.overlap_law.specs.NodeEpochs.{TheUpHaveStayed, LeaversAreBeyond, RecoveriesArePresent, AnswerersHaveCome, TheRecoveredHaveAll}
+use Rattle.overlap_law.specs.NodeEpochs.{TheUnfinishedAreUnsettled}
 use Rattle.overlap_law.proofs.EpochsInRuns.{members-in_run, read-in_run, settled-in_run}
 use Rattle.overlap_law.proofs.FinishedInMoments.{TermsHold, kept_terms}
 use Rattle.overlap_law.proofs.OverlapLemmas.{settled-recovered}
@@ -14,8 +14,9 @@ use Rattle.overlap_law.proofs.RecoveredInMoments.{have_all}
 use Rattle.overlap_law.proofs.RunsByChanges.{on_the_way}
 use Rattle.overlap_law.proofs.StoodNodes.{have_stayed, are_beyond}
 use Rattle.overlap_law.proofs.UnsettledInMoments.{are_unsettled}
+use Rattle.sheep_world.specs.RunsWithAsks.{Move}
 
-module _ (script : List Statement) (range : RunsAreInRange script) (events : List Event) (start moment : MomentWithPast)
+module _ (script : List Statement) (range : RunsAreInRange script) (events : List Move) (start moment : MomentWithPast)
     (is : run_with_past script events ≡ Some start) (trail : MomentTrail script start moment) where
   terms : TermsHold moment
   terms = on_the_way script TermsHold (kept_terms script range) events start moment is trail
@@ -39,7 +40,7 @@ module _ (script : List Statement) (range : RunsAreInRange script) (events : Lis
   unsettled-on_the_way = are_unsettled moment terms
 
 -- and at the end of each event the whole group does
-module _ (script : List Statement) (range : RunsAreInRange script) (events : List Event) (moment : MomentWithPast)
+module _ (script : List Statement) (range : RunsAreInRange script) (events : List Move) (moment : MomentWithPast)
     (is : run_with_past script events ≡ Some moment) where
   pub terms-in_run : TermsAreKept moment.world.log moment.world.hosts
   terms-in_run = record {

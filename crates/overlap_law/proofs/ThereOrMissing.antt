@@ -1,6 +1,7 @@
 -- An object that is pending at a node, or of which the node has an open row, or which is missing, stays one of these over each input by
 -- which the node begins no recovery and enters no epoch, if its id isn't dead then.
-use Rattle.std.proofs.Common.{◌≡◌, ◌≢◌, ◌⊎◌, inl, inr, ⊎_elim, ℕ, ◌+◌, ◌==◌, ◌&&◌, ◌||◌, nat_le, nat_lt, not, Bool, true, false, cond, List, [], ◌∷◌, length, filter, Contains, Option, Some, None, is_some, option_map, refl, sym, ap, subst, ◌∙◌}
+use Rattle.std.proofs.Common.{◌≡◌, ◌≢◌, ◌⊎◌, inl, inr, ⊎_elim, ℕ, ◌+◌, ◌==◌, ◌&&◌, ◌||◌, nat_le, nat_lt, not, Bool, true, false, cond, List}
+use Rattle.std.proofs.Common.{[], ◌∷◌, length, filter, Contains, Option, Some, None, is_some, option_map, refl, sym, ap, subst, ◌∙◌}
 use Rattle.std.specs.Option.{option_map_or}
 use Rattle.std.specs.List.{list_any}
 use Rattle.std.specs.FinMap as tree
@@ -43,7 +44,8 @@ use Rattle.recovery.specs.Tick.{next_search, tick_messages, with_messages, state
 use Rattle.recovery.proofs.StepLemmas.{judged_each}
 use Rattle.sheep_node.specs.declared.input.Input.{Input}
 use Rattle.sheep_node.specs.declared.input.Input.TheVariants as inputs
-use Rattle.sheep_node.specs.LogReading.{is_epoch_member, epochs_with_entry, peer_with_entry, node_with_entry, begins_recovery, recovery_in_epoch, with_settled, entry_read}
+use Rattle.sheep_node.specs.LogReading.{is_epoch_member, epochs_with_entry, peer_with_entry, node_with_entry, begins_recovery}
+use Rattle.sheep_node.specs.LogReading.{recovery_in_epoch, with_settled, entry_read}
 use Rattle.sheep_node.specs.RecoveryView.{recovery_state_of, with_recovered_rows}
 use Rattle.sheep_node.specs.State.{Node}
 use Rattle.sheep_node.specs.Step.{on_request, recovery_stepped, on_put, on_recover_tick}

@@ -21,7 +21,8 @@ use Rattle.overlap_law.proofs.TrafficNumbers.{traffic_numbers}
 use Rattle.overlap_law.proofs.TrafficOfChanges.{traffic}
 
 -- before the first event nothing is in the wire, and there are no attempts
-pub none_yet : (script : List Statement) (name : MessageName) (packet : Packet) → tree.get (first_moment script).world.wire name ≡ Some packet → ⊥
+pub none_yet : (script : List Statement) (name : MessageName) (packet : Packet)
+    → tree.get (first_moment script).world.wire name ≡ Some packet → ⊥
 unfolding initial_world
 none_yet script name packet got = let none = tree.get-empty {X = Packet} name_cmp name in cc (got, none)
 
@@ -42,23 +43,33 @@ opening_tied script = record {
 }
 
 module _ (script : List Statement) (range : RunsAreInRange script) where
-  pub change_tied : (start before after : MomentWithPast) → Began script start.world → MomentChange script start before after → IsTied before → IsTied after
+  pub change_tied : (start before after : MomentWithPast) → Began script start.world → MomentChange script start before after
+      → IsTied before → IsTied after
   change_tied start before after began change tied = record {
     numbers = record {
-      given = traffic_numbers before.world.hosts after.world.hosts before.world.wire before.past.attempts (hosts_stay script range start began change) tied.numbers.given
-          (traffic script range start began change);
+      given =
+          traffic_numbers before.world.hosts after.world.hosts before.world.wire before.past.attempts
+          (hosts_stay script range start began change) tied.numbers.given (traffic script range start began change);
     };
-    no_reply_to_lost = traffic_lost before.world.hosts after.world.hosts before.world.wire after.world.wire before.past.attempts after.past.attempts
+    no_reply_to_lost =
+        traffic_lost before.world.hosts after.world.hosts before.world.wire after.world.wire before.past.attempts after.past.attempts
         (lost_were_lost script change) (traffic script range start began change) tied.no_reply_to_lost;
-    there = there_still before.world.hosts after.world.hosts before.world.wire after.world.wire before.past.attempts after.past.attempts tied.incarnations tied.there
-        (hosts_stay script range start began change) (traffic script range start began change);
-    incarnations = incarnations_still before.world.hosts after.world.hosts before.world.wire after.world.wire before.past.attempts after.past.attempts tied.incarnations tied.there
-        (hosts_stay script range start began change) (traffic script range start began change);
+    there =
+        there_still before.world.hosts after.world.hosts before.world.wire after.world.wire before.past.attempts after.past.attempts
+        tied.incarnations tied.there (hosts_stay script range start began change) (traffic script range start began change);
+    incarnations =
+        incarnations_still before.world.hosts after.world.hosts before.world.wire after.world.wire before.past.attempts after.past.attempts
+        tied.incarnations tied.there (hosts_stay script range start began change) (traffic script range start began change);
     fates = keeps_fates script range start before after began change tied.incarnations tied.fates;
     told = keeps_told script range start before after began change tied.incarnations tied.fates tied.told;
-    reached = traffic_reached before.world.hosts after.world.hosts before.world.wire before.past.attempts (epochs_rise script range start began change) tied.reached
-        tied.fates (traffic script range start began change);
+    reached =
+        traffic_reached before.world.hosts after.world.hosts before.world.wire before.past.attempts
+        (epochs_rise script range start began change) tied.reached tied.fates (traffic script range start began change);
   }
 
   pub kept_tied : KeptByChanges script IsTied
-  kept_tied = record { opens = opening_tied script; keeps = λ start before after began change tied. change_tied start before after began change tied }
+  kept_tied =
+      record {
+        opens = opening_tied script;
+        keeps = λ start before after began change tied. change_tied start before after began change tied;
+      }

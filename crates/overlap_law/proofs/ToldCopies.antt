@@ -9,8 +9,8 @@ use Rattle.object_store.specs.Store.{SeenRow, rows_of, row_bytes, copy_of}
 use Rattle.object_store.proofs.CopyLaws.{row_bytes-copy_of}
 use Rattle.cluster_script.specs.declared.statement.Statement.{Statement}
 use Rattle.vdi_directory.specs.Decisions.{log_effects}
-use Rattle.sheep_node.specs.declared.event.Event.{Event}
 use Rattle.sheep_world.specs.Began.{Began}
+use Rattle.sheep_world.specs.RunsWithAsks.{Move}
 use Rattle.object_id.specs.declared.entry.Entry.{Entry}
 use Rattle.overlap_law.specs.Attempts.{attempts_on}
 use Rattle.overlap_law.specs.Each.{policy_in}
@@ -142,7 +142,7 @@ module _ (script : List Statement) (range : RunsAreInRange script) where
     };
   }
 
-  module _ (events : List Event) (start moment : MomentWithPast) (is : run_with_past script events ≡ Some start)
+  module _ (events : List Move) (start moment : MomentWithPast) (is : run_with_past script events ≡ Some start)
       (trail : MomentTrail script start moment) where
     copies_hold : CopiesHold moment
     copies_hold = on_the_way script CopiesHold kept_copies events start moment is trail

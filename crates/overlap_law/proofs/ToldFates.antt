@@ -1,5 +1,7 @@
--- What a node is told of a message of its open create or write fits the message's fate; and while it is told nothing, the message is in the wire.
-use Rattle.std.proofs.Common.{◌≡◌, ⊎_elim, ℕ, true, false, List, filter, Contains, Option, Some, None, is_some, slice_get, refl, sym, ap, subst, ◌∙◌}
+-- What a node is told of a message of its open create or write fits the message's fate; and while it is told nothing, the message is in the
+-- wire.
+use Rattle.std.proofs.Common.{◌≡◌, ⊎_elim, ℕ, true, false, List, filter, Contains, Option, Some, None, is_some, slice_get, refl, sym, ap}
+use Rattle.std.proofs.Common.{subst, ◌∙◌}
 use Rattle.std.specs.FinMap as tree
 use Rattle.std.proofs.lemmas.Bool.{or_cases}
 use Rattle.std.proofs.lemmas.List.Elements.{Contains-append_left}
@@ -40,7 +42,8 @@ use Rattle.overlap_law.proofs.KnownFates.{FitsFate}
 -- ---- an unanswered message is in the wire
 
 -- it is one that its node waits for
-pub asked_message : (node : Node) (req : ℕ) (work : Work) (current : gateways.Attempt) (place : ℕ) (message : Message) → tree.get node.gateway.works req ≡ Some work
+pub asked_message : (node : Node) (req : ℕ) (work : Work) (current : gateways.Attempt) (place : ℕ) (message : Message)
+    → tree.get node.gateway.works req ≡ Some work
     → work.stage ≡ Open current → slice_get current.messages place ≡ Some message → message.status ≡ statuses.Unanswered
     → Contains (asked_by node) (send_of node.me current.epoch work.work message)
 asked_message node req work current place message there stage got status =
@@ -51,8 +54,8 @@ asked_message node req work current place message there stage got status =
     (Contains-map (send_of node.me current.epoch work.work) (filter waits current.messages) message
     (Contains-filter waits current.messages message (contains_at current.messages place message got) (ap is_unanswered status))) in
     Contains-append_left (asked_by_gateway node.me node.gateway) (asked_by_recovery node.recovery) send
-    (Contains-flat_map (λ (entry : ℕ × Work). unanswered_in node.me entry.1 entry.1.stage) (tree.entries node.gateway.works) (req, work) send
-    (entries-contain tree.nat_cmp-IsAntisymmetric node.gateway.works req work there) inside)
+    (Contains-flat_map (λ (entry : ℕ × Work). unanswered_in node.me entry.1 entry.1.stage) (tree.entries node.gateway.works) (req, work)
+    send (entries-contain tree.nat_cmp-IsAntisymmetric node.gateway.works req work there) inside)
 
 pub in_flight : (node : Node) (send : NodeId × PeerReq) (wire : Wire) (name : MessageName) → own_name node send ≡ name
     → IsInFlight node send (tree.get wire (own_name node send)) → is_name_in_wire wire name ≡ true
@@ -70,12 +73,15 @@ is_piece_none (obj_works.Write oid policy offset payload) bytes making fit = cc 
 is_piece_none (obj_works.Read oid policy offset size) bytes making fit = cc (making)
 is_piece_none (obj_works.ReadAll oid policy size) bytes making fit = cc (making)
 
-pub no_piece : (node : Node) (rsp : PeerRsp) (bytes : List ℕ) → HasOneWorkPerRequest node → fits_node rsp node ≡ true → (req : ℕ) (work : Work)
-    → tree.get node.gateway.works req ≡ Some work → is_making work.work ≡ true → is_awaited_in rsp.number work ≡ true → rsp.say ≡ says.Piece bytes → ⊥
+pub no_piece : (node : Node) (rsp : PeerRsp) (bytes : List ℕ) → HasOneWorkPerRequest node → fits_node rsp node ≡ true
+    → (req : ℕ) (work : Work)
+    → tree.get node.gateway.works req ≡ Some work → is_making work.work ≡ true → is_awaited_in rsp.number work ≡ true
+    → rsp.say ≡ says.Piece bytes → ⊥
 no_piece node rsp bytes one fit req work there making waits say =
     by_asker (asker rsp.number node.gateway) refl (got_found rsp.number node.gateway.works req work there waits)
   where
-    by_message : (o : Option recoveries.Message) → is_some o ≡ false → recovery_fits.fits_message (recovery_state_of node).shown o rsp.say ≡ true → ⊥
+    by_message : (o : Option recoveries.Message) → is_some o ≡ false
+        → recovery_fits.fits_message (recovery_state_of node).shown o rsp.say ≡ true → ⊥
     by_message None none fit = cc (fit)
     by_message (Some message) none fit = cc (none)
 
@@ -97,14 +103,16 @@ no_piece node rsp bytes one fit req work there making waits say =
 
 -- ---- a reply to a message
 
-pub reply_fits : (wire : Wire) (attempts : List AttemptRecord) → FatesAreTold wire attempts → FatesAreOfTheWire wire attempts → (j : ℕ) (was : AttemptRecord)
+pub reply_fits : (wire : Wire) (attempts : List AttemptRecord) → FatesAreTold wire attempts → FatesAreOfTheWire wire attempts
+    → (j : ℕ) (was : AttemptRecord)
     → slice_get attempts j ≡ Some was → (place : ℕ) (target : NodeId) (fate : MessageFate) → slice_get was.targets place ≡ Some target
     → slice_get was.fates place ≡ Some fate → (from : NodeId) (rsp : PeerRsp) → IsAnswering wire (message_name_at was place) from rsp
     → ((bytes : List ℕ) → rsp.say ≡ says.Piece bytes → ⊥) → FitsFate (status_by rsp.say) fate
 reply_fits wire attempts told fates j was at place target fate to has from rsp answering none =
     by_say rsp.say refl fate has (fates.each j was at place target fate to has)
   where
-    by_say : (say : PeerSay) → rsp.say ≡ say → (fate : MessageFate) → slice_get was.fates place ≡ Some fate → IsFateIn wire was place target fate
+    by_say : (say : PeerSay) → rsp.say ≡ say → (fate : MessageFate) → slice_get was.fates place ≡ Some fate
+        → IsFateIn wire was place target fate
         → FitsFate (status_by say) fate
     by_say says.Success is fate has inside =
         let served : slice_get was.fates place ≡ Some Served = (told.each j was at place target from rsp to answering).1 is in
@@ -113,7 +121,8 @@ reply_fits wire attempts told fates j was at place target fate to has from rsp a
     by_say (says.Objects oids) is fate has inside = tt
     by_say (says.Row row) is fate has inside = tt
     by_say says.NoRow is fate has inside = tt
-    by_say (says.Refused refusal) is Flying has inside = let asked = inside.there in let answered = answering.there in absurd (cc (asked, answered))
+    by_say (says.Refused refusal) is Flying has inside =
+        let asked = inside.there in let answered = answering.there in absurd (cc (asked, answered))
     by_say (says.Refused refusal) is Served has inside =
         let so : rsp.say ≡ says.Success = (told.each j was at place target from rsp to answering).0 has in
         absurd (cc (is, so))

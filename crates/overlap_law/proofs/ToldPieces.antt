@@ -28,11 +28,11 @@ use Rattle.gateway.specs.Attempt as gateways
 use Rattle.gateway.specs.Attempt.{send_of}
 use Rattle.gateway.specs.State.{Work}
 use Rattle.gateway.specs.Work.{ask_for, asks_all}
-use Rattle.sheep_node.specs.declared.event.Event.{Event}
 use Rattle.sheep_node.specs.State.{Node}
 use Rattle.sheep_world.specs.World.{Host}
 use Rattle.sheep_world.specs.Began.{Began}
 use Rattle.sheep_world.proofs.RecoveryMessages.{same_asked}
+use Rattle.sheep_world.specs.RunsWithAsks.{Move}
 use Rattle.object_id.specs.declared.entry.Entry.{Entry}
 use Rattle.overlap_law.proofs.EpochsRise.{epochs_rise}
 use Rattle.object_id.specs.declared.node.Epoch.{Epoch}
@@ -260,7 +260,7 @@ module _ (script : List Statement) (range : RunsAreInRange script) where
     keeps = λ start before after began change holds. reads_after script range start before after began change holds;
   }
 
-  module _ (events : List Event) (start moment : MomentWithPast) (is : run_with_past script events ≡ Some start)
+  module _ (events : List Move) (start moment : MomentWithPast) (is : run_with_past script events ≡ Some start)
       (trail : MomentTrail script start moment) where
     pub reads-on_the_way : ReadsAreTold moment
     reads-on_the_way = on_the_way script ReadsAreTold kept_reads events start moment is trail

@@ -10,7 +10,6 @@ use Rattle.gf256.specs.Part.{part_size}
 use Rattle.cluster_script.specs.declared.statement.Statement.{Statement}
 use Rattle.vdi_directory.specs.Decisions.{log_effects}
 use Rattle.peer_proto.specs.Work.{oid_of, policy_of}
-use Rattle.sheep_node.specs.declared.event.Event.{Event}
 use Rattle.overlap_law.specs.Attempts.{AttemptRecord, object_of}
 use Rattle.overlap_law.specs.Holders.{is_object_among, born_objects}
 use Rattle.overlap_law.specs.MomentChanges.{MomentTrail, TrailLeft, RunsAreInRange, Still, Next}
@@ -25,6 +24,7 @@ use Rattle.overlap_law.proofs.MessagesInMoments.{no_works}
 use Rattle.overlap_law.proofs.OverlapLemmas.{filter-passed}
 use Rattle.overlap_law.proofs.ToldPiecesSince.{told_pieces_after}
 use Rattle.overlap_law.proofs.KeptToTheEnd.{BeginsToTheEnd, IsKeptToTheEnd, to_the_end-in_run, to_the_end-on_the_way}
+use Rattle.sheep_world.specs.RunsWithAsks.{Move}
 
 -- ---- a piece of an object that isn't born
 
@@ -66,9 +66,9 @@ module _ (script : List Statement) (range : RunsAreInRange script) where
   -- by the test of the end
   begins : BeginsToTheEnd script (λ (end moment : MomentWithPast). HoldsAt (good_at end) moment)
   begins events event start end run happens told = record {
-    each = λ n host there up req place work current message from rsp bytes of answering said is_good known.
+    each = λ n host there up req place work current message from rsp bytes of own answering said is_good known.
         by_birth (is_object_among (oid_of work.work) (born_objects start.past.attempts)) refl
-        (λ born. told.each n host there up req place work current message from rsp bytes of answering said
+        (λ born. told.each n host there up req place work current message from rsp bytes of own answering said
         (was_good script event start end happens (oid_of work.work) is_good born) known)
         (λ unborn. none_owed (policy_of work.work) (oid_of work.work) start.world.hosts start.past.attempts from message.index
         current.epoch.0 (offset_read work.work) bytes
@@ -86,7 +86,7 @@ module _ (script : List Statement) (range : RunsAreInRange script) where
   kept : IsKeptToTheEnd script (λ (end moment : MomentWithPast). HoldsAt (good_at end) moment)
   kept = record {
     opens = record {
-      each = λ n host there up req place work current message from rsp bytes of answering said is_good known.
+      each = λ n host there up req place work current message from rsp bytes of own answering said is_good known.
           absurd (no_works script n host there req work of.there);
     };
     begins = begins;
@@ -97,12 +97,12 @@ module _ (script : List Statement) (range : RunsAreInRange script) where
         told;
   }
 
-  pub told_pieces-in_run : (events : List Event) (moment : MomentWithPast) → run_with_past script events ≡ Some moment
+  pub told_pieces-in_run : (events : List Move) (moment : MomentWithPast) → run_with_past script events ≡ Some moment
       → ToldPiecesAreSince (log_effects moment.world.log) (good_at moment) moment.world.hosts moment.world.wire moment.past.attempts
   told_pieces-in_run = to_the_end-in_run script (λ (end moment : MomentWithPast). HoldsAt (good_at end) moment) kept
 
   -- and on the way of an event, by the test of its end
-  pub told_pieces-by_the_end : (events : List Event) (event : Event) (start moment end : MomentWithPast)
+  pub told_pieces-by_the_end : (events : List Move) (event : Move) (start moment end : MomentWithPast)
       → run_with_past script events ≡ Some start → next_moment script event start ≡ Some end → MomentTrail script start moment
       → TrailLeft script start moment end
       → ToldPiecesAreSince (log_effects moment.world.log) (good_at end) moment.world.hosts moment.world.wire moment.past.attempts

@@ -19,9 +19,10 @@ use Rattle.gateway.specs.declared.message.Message.{Message}
 use Rattle.gateway.specs.Attempt as gateways
 use Rattle.gateway.specs.State.{Work}
 use Rattle.gateway.specs.Work.{ask_for}
-use Rattle.sheep_node.specs.declared.event.Event.{Event}
 use Rattle.sheep_world.specs.World.{Host}
 use Rattle.sheep_world.specs.Began.{Began}
+use Rattle.sheep_world.specs.RunsWithAsks.{Move}
+use Rattle.overlap_law.proofs.ClientsInMoments.{own_before}
 use Rattle.overlap_law.specs.Each.{end_of_row, policy_in}
 use Rattle.overlap_law.specs.MomentChanges.{MomentChange, MomentTrail, RunsAreInRange}
 use Rattle.overlap_law.specs.Packets.{IsAnswering}
@@ -36,13 +37,14 @@ use Rattle.overlap_law.proofs.TellersOfPieces.{was_asked, reply_came, told_by}
 use Rattle.overlap_law.proofs.ToldBefore.{IsNewAnswer}
 use Rattle.overlap_law.proofs.ToldPiecesStay.{still_open, since-piece_stays}
 use Rattle.overlap_law.proofs.UnansweredInSteps.{WasUnansweredAt, MessageIsSentNow, unanswered_came}
+use Rattle.overlap_law.specs.Sessions.{is_of_client_at}
 
 -- what is told of a work's object to a message has what its teller owed
 abbrev pub IsWorkSince : MomentWithPast → ObjWork → ℕ → NodeId → ℕ → List ℕ → Type 0
 IsWorkSince moment work epoch from index bytes =
     IsPieceSince (policy_of work) (oid_of work) moment.world.hosts moment.past.attempts from index epoch (offset_read work) bytes
 
-module _ (script : List Statement) (range : RunsAreInRange script) (events : List Event) (start : MomentWithPast)
+module _ (script : List Statement) (range : RunsAreInRange script) (events : List Move) (start : MomentWithPast)
     (is : run_with_past script events ≡ Some start) where
   began : Began script start.world
   began = began-with_past script events start is
@@ -77,11 +79,16 @@ module _ (script : List Statement) (range : RunsAreInRange script) (events : Lis
           subst (λ (w : ObjWork). IsWorkSince before w current.epoch.0 from message.index bytes) work_so
           (subst (λ (e : ℕ). IsWorkSince before was.of.was.work e from message.index bytes) epoch_so piece)
 
-      pub goes_on : IsToldBy before work.work current.epoch.0 from → IsWorkSince before work.work current.epoch.0 from message.index bytes
+      -- and was no client's
+      pub own_then : is_of_client_at req now.node ≡ false → is_of_client_at req was.old.node ≡ false
+      own_then own = own_before script range start began change n now was.old there was.there req work of.there own
+
+      pub goes_on : IsToldBy before work.work current.epoch.0 from → is_of_client_at req now.node ≡ false
+          → IsWorkSince before work.work current.epoch.0 from message.index bytes
           → IsWorkSince after work.work current.epoch.0 from message.index bytes
-      goes_on teller piece =
+      goes_on teller own piece =
           since-piece_stays script range events start before after is trail change n now there up req work current of.there of.stage
-          (still_open before.world.hosts n req place work current message was) from teller (policy_of work.work) message.index
+          (still_open before.world.hosts n req place work current message was) from teller own (policy_of work.work) message.index
           (offset_read work.work) bytes piece
 
     -- ---- by the rows of before
@@ -115,9 +122,9 @@ module _ (script : List Statement) (range : RunsAreInRange script) (events : Lis
 
       pub told_pieces_after : ToldPiecesAreSince (log_effects after.world.log) good after.world.hosts after.world.wire after.past.attempts
       told_pieces_after = record {
-        each = λ n now there up req place work current message from rsp bytes of answering said is_good known. ⊎_elim
+        each = λ n now there up req place work current message from rsp bytes of own answering said is_good known. ⊎_elim
             (λ (was : WasUnansweredAt before.world.hosts n req work current place message).
-            by_reply n now there up req place work current message of was from rsp bytes said is_good known
+            by_reply n now there up req place work current message of own was from rsp bytes said is_good known
             (reply_came script range start before after began change tellers n req place work current message was from rsp answering))
             (λ (new : MessageIsSentNow after.world.wire n now.node work current message).
             let asked = new.there in
@@ -138,30 +145,32 @@ module _ (script : List Statement) (range : RunsAreInRange script) (events : Lis
 
           by_reply : (n : ℕ) (now : Host) → tree.get after.world.hosts n ≡ Some now → now.is_lost ≡ false → (req place : ℕ) (work : Work)
               (current : gateways.Attempt) (message : Message) → IsUnansweredOf now.node.gateway.works req work current place message
-              → WasUnansweredAt before.world.hosts n req work current place message → (from : NodeId) (rsp : PeerRsp) (bytes : List ℕ)
+              → is_of_client_at req now.node ≡ false → WasUnansweredAt before.world.hosts n req work current place message
+              → (from : NodeId) (rsp : PeerRsp) (bytes : List ℕ)
               → rsp.say ≡ says.Piece bytes → good (oid_of work.work) ≡ true
               → policy_in (log_effects after.world.log) (oid_of work.work) ≡ Some (policy_of work.work)
               → IsAnswering before.world.wire (message_name n message.number) from rsp
               ⊎ IsNewAnswer before.world.hosts before.world.wire (message_name n message.number) from rsp
               → IsWorkSince after work.work current.epoch.0 from message.index bytes
-          by_reply n now there up req place work current message of was from rsp bytes said is_good known (inl old) =
+          by_reply n now there up req place work current message of own was from rsp bytes said is_good known (inl old) =
               let old_teller = tellers.told n was.old was.there was.up req place was.of.was was.of.before message from rsp bytes
               was.of.is old said in
               let teller = teller_now n now there up req place work current message of was from bytes old_teller in
               let same = work_so n now there up req place work current message of was from bytes in
               let before_known = known_then work.work current.epoch.0 from teller known in
-              goes_on n now there up req place work current message of was from bytes teller
+              goes_on n now there up req place work current message of was from bytes teller own
               (since_now n now there up req place work current message of was from bytes
-              (told.each n was.old was.there was.up req place was.of.was was.of.before message from rsp bytes was.of.is old said
+              (told.each n was.old was.there was.up req place was.of.was was.of.before message from rsp bytes was.of.is
+              (own_then n now there up req place work current message of was from bytes own) old said
               (ap (λ (w : ObjWork). good (oid_of w)) same ∙ is_good)
               (subst (λ (w : ObjWork). policy_in (log_effects before.world.log) (oid_of w) ≡ Some (policy_of w)) (sym same)
               before_known)))
-          by_reply n now there up req place work current message of was from rsp bytes said is_good known (inr new) =
+          by_reply n now there up req place work current message of own was from rsp bytes said is_good known (inr new) =
               let asked = was_asked script range start before after began change tellers n req place work current message was from
               new.request new.asking in
               let says_so = ap (λ (r : PeerRsp). r.say) new.said ∙ said in
               let teller = told_by before tellers.reads tellers.rows work.work current.epoch.0 message.index new.host from new.there
               new.request asked.0 asked.1 bytes says_so in
-              goes_on n now there up req place work current message of was from bytes teller
+              goes_on n now there up req place work current message of was from bytes teller own
               (now_since work.work current.epoch.0 message.index from new.host new.there new.request asked.0 asked.1 bytes says_so is_good
               (known_then work.work current.epoch.0 from teller known))

@@ -19,9 +19,9 @@ use Rattle.gateway.specs.declared.message.Message.{Message}
 use Rattle.gateway.specs.Attempt as gateways
 use Rattle.gateway.specs.State.{Work, Open}
 use Rattle.gateway.specs.Work.{is_making}
-use Rattle.sheep_node.specs.declared.event.Event.{Event}
 use Rattle.sheep_world.specs.World.{Host}
 use Rattle.sheep_world.specs.Began.{Began}
+use Rattle.sheep_world.specs.RunsWithAsks.{Move}
 use Rattle.overlap_law.specs.Attempts.{AttemptRecord, MessageFate, Served, Flying, object_of, attempts_on}
 use Rattle.overlap_law.specs.MomentChanges.{MomentChange, MomentTrail, RunsAreInRange}
 use Rattle.overlap_law.specs.Packets.{HasPacket}
@@ -34,6 +34,7 @@ use Rattle.overlap_law.specs.Traffic.{TrafficBetween}
 use Rattle.overlap_law.specs.Words.{Hosts, has_served, is_served_by, is_doomed}
 use Rattle.overlap_law.proofs.AllAnswersInMoments.{reached_at}
 use Rattle.overlap_law.proofs.BeyondInMoments.{doomed_later}
+use Rattle.overlap_law.proofs.ClientsInMoments.{own_before}
 use Rattle.overlap_law.proofs.FinishedInMoments.{TermsHold, kept_terms}
 use Rattle.overlap_law.proofs.GrownAttempts.{GoOn, traffic_goes_on, grows-object, goes_on-grows}
 use Rattle.overlap_law.proofs.LastReads.{open_reads-in_run, none_begins_beside}
@@ -49,6 +50,7 @@ use Rattle.overlap_law.proofs.ServedPlaces.{served_at, served_from}
 use Rattle.overlap_law.proofs.TellersOfPieces.{IsToldBy, TellersAreTargets, tellers-on_the_way}
 use Rattle.overlap_law.proofs.TrafficOfChanges.{traffic}
 use Rattle.overlap_law.proofs.UnansweredInSteps.{WasUnansweredAt}
+use Rattle.overlap_law.specs.Sessions.{is_of_client_at}
 
 -- a work's attempt was open before
 pub record WasOpenAt (hosts : Hosts) (n req : ℕ) (work : Work) (current : gateways.Attempt) : Type 0 where
@@ -77,7 +79,7 @@ still_open hosts n req place work current message was = record {
   epoch_so = was.of.epoch_so;
 }
 
-module _ (script : List Statement) (range : RunsAreInRange script) (events : List Event) (start before after : MomentWithPast)
+module _ (script : List Statement) (range : RunsAreInRange script) (events : List Move) (start before after : MomentWithPast)
     (is : run_with_past script events ≡ Some start) (trail : MomentTrail script start before)
     (change : MomentChange script start before after) where
   began : Began script start.world
@@ -104,7 +106,7 @@ module _ (script : List Statement) (range : RunsAreInRange script) (events : Lis
   module _ (n : ℕ) (now : Host) (there : tree.get after.world.hosts n ≡ Some now) (up : now.is_lost ≡ false) (req : ℕ) (work : Work)
       (current : gateways.Attempt) (got : tree.get now.node.gateway.works req ≡ Some work) (stage : work.stage ≡ Open current)
       (was : WasOpenAt before.world.hosts n req work current) (from : NodeId)
-      (teller : IsToldBy before work.work current.epoch.0 from) where
+      (teller : IsToldBy before work.work current.epoch.0 from) (own : is_of_client_at req now.node ≡ false) where
     abbrev oid : ℕ
     oid = oid_of work.work
 
@@ -123,7 +125,8 @@ module _ (script : List Statement) (range : RunsAreInRange script) (events : Lis
         let packet : HasPacket before.world.wire attempt p target
         = record { among = among; there = ap (λ (o : Option Packet). is_some o) asking.there } in
         let less = (open_reads-in_run script range events start before is trail n was.old was.there was.up req was.was was.before was.got
-        (ap (λ (w : ObjWork). is_making w) (sym was.work_so) ∙ teller.reads) was.stage j attempt at
+        (ap (λ (w : ObjWork). is_making w) (sym was.work_so) ∙ teller.reads)
+        (own_before script range start began change n now was.old there was.there req work got own) was.stage j attempt at
         (object ∙ ap (λ (w : ObjWork). oid_of w) was.work_so)).flying p target packet in
         let same = then_so in
         omega (arith, less, same)
@@ -198,7 +201,7 @@ module _ (script : List Statement) (range : RunsAreInRange script) (events : Lis
         (λ (opened : IsOpened script start after attempt).
         let among = filter-passed (λ (a : AttemptRecord). object_of a == oid) after.past.attempts j attempt at in
         absurd (none_begins_beside script range events start before after is trail change n now there up req work current got
-        teller.reads stage behind.place attempt behind.there (eqb-true (object_of attempt) oid among.passed) opened))
+        teller.reads own stage behind.place attempt behind.there (eqb-true (object_of attempt) oid among.passed) opened))
         (come_from script range start began change behind.place attempt behind.there)
 
     -- so what had what the teller owed has it

@@ -1,9 +1,8 @@
--- Each change on the way of an event of a run keeps that what recoveries were told of rows has what it owes: what that rests on holds of each
--- moment on the way, before the change and after it.
+-- Each change on the way of an event of a run keeps that what recoveries were told of rows has what it owes: what that rests on holds of
+-- each moment on the way, before the change and after it.
 use Rattle.std.proofs.Common.{◌≡◌, ℕ, Bool, List, Some}
 use Rattle.vdi_directory.specs.Decisions.{log_effects}
 use Rattle.cluster_script.specs.declared.statement.Statement.{Statement}
-use Rattle.sheep_node.specs.declared.event.Event.{Event}
 use Rattle.overlap_law.specs.MomentChanges.{MomentChange, MomentTrail, RunsAreInRange, Then}
 use Rattle.overlap_law.specs.Past.{MomentWithPast, run_with_past}
 use Rattle.overlap_law.specs.Searches.{ToldRowsAreSince}
@@ -14,8 +13,9 @@ use Rattle.overlap_law.proofs.NoRecoveredDue.{began-with_past}
 use Rattle.overlap_law.proofs.RunsByChanges.{on_the_way}
 use Rattle.overlap_law.proofs.ToldSince.{told_since_after}
 use Rattle.overlap_law.proofs.TrueRows.{truth-on_the_way}
+use Rattle.sheep_world.specs.RunsWithAsks.{Move}
 
-pub told_since-on_the_way : (script : List Statement) → RunsAreInRange script → (events : List Event) (start before after : MomentWithPast)
+pub told_since-on_the_way : (script : List Statement) → RunsAreInRange script → (events : List Move) (start before after : MomentWithPast)
     → run_with_past script events ≡ Some start → MomentTrail script start before → MomentChange script start before after
     → (good : ℕ → Bool)
     → RowsAreSince (log_effects before.world.log) good before.world.hosts before.past.attempts

@@ -15,7 +15,7 @@ use Rattle.sheep_node.proofs.NumberChanges.{both_in_chain}
 use Rattle.sheep_node.proofs.OneWorkParts.{Requests}
 use Rattle.sheep_world.specs.World.{Host}
 use Rattle.sheep_world.specs.NodeCauses.{NodeCause, GuestAsks, RequestComes, ReplyComes, LossIsTold, EntryIsRead, EntryIsPut, RecoveryTicks}
-use Rattle.sheep_world.specs.NodeCauses.{WorkIsRetried, input_of_cause, host_with_node}
+use Rattle.sheep_world.specs.NodeCauses.{WorkIsRetried, ClientAsks, input_of_cause, host_with_node}
 use Rattle.sheep_world.specs.Began.{Began}
 use Rattle.overlap_law.specs.Attempts.{AttemptRecord}
 use Rattle.overlap_law.specs.Past.{MomentWithPast, past_after_event}
@@ -53,6 +53,7 @@ guest_tells_nothing node (EntryIsRead entry) attempts req session ask from = ref
 guest_tells_nothing node (EntryIsPut entry) attempts req session ask from = refl
 guest_tells_nothing node RecoveryTicks attempts req session ask from = refl
 guest_tells_nothing node WorkIsRetried attempts req session ask from = refl
+guest_tells_nothing node (ClientAsks number asks) attempts req session ask from = refl
 
 -- what is refused at a point of a step
 pub refused_in_step : (script : List Statement) (stepping : SteppingNode) (start : MomentWithPast) (so_far : StepState)

@@ -5,7 +5,8 @@ use Rattle.peer_proto.specs.declared.ask.PeerReq.{PeerReq}
 use Rattle.overlap_law.specs.Attempts.{AttemptRecord, MessageFate, Flying, Served, Doomed, known_fate, fate_of_say}
 use Rattle.overlap_law.specs.Reached.{Hosts}
 use Rattle.overlap_law.specs.Packets.{Wire}
-use Rattle.overlap_law.specs.Traffic.{IsBegunBy, Traffic, NothingMoves, MessageIsLost, ReplyIsReceived, RequestIsAnswered, RequestsAreSent, AttemptBegins, RepliesGo}
+use Rattle.overlap_law.specs.Traffic.{IsBegunBy, Traffic, NothingMoves, MessageIsLost, ReplyIsReceived, RequestIsAnswered, RequestsAreSent}
+use Rattle.overlap_law.specs.Traffic.{AttemptBegins, RepliesGo}
 use Rattle.overlap_law.proofs.AttemptLists.{got_more}
 use Rattle.overlap_law.proofs.KnownFatesLater.{WasMarked, as_it_was, marked_was, lost_was}
 
@@ -32,7 +33,8 @@ came_from hosts hosts_after wire attempts (AttemptBegins n sends new begun) j no
 came_from hosts hosts_after wire attempts (RepliesGo n) j now got = inl (as_it_was attempts j now got)
 
 -- what is served then was served, or flew
-pub served_before : (told was now : MessageFate) → (now ≡ was) ⊎ (now ≡ known_fate told was) → now ≡ Served → (was ≡ Served) ⊎ (was ≡ Flying)
+pub served_before : (told was now : MessageFate) → (now ≡ was) ⊎ (now ≡ known_fate told was) → now ≡ Served
+    → (was ≡ Served) ⊎ (was ≡ Flying)
 served_before told Flying now either served = inr refl
 served_before told Served now either served = inl refl
 served_before told Doomed now either served = ⊎_elim

@@ -20,7 +20,8 @@ use Rattle.overlap_law.specs.Attempts.{AttemptRecord}
 use Rattle.overlap_law.specs.Reached.{Hosts}
 use Rattle.overlap_law.specs.Packets.{Wire, is_request_in_flight}
 use Rattle.overlap_law.specs.Flight.{NoReplyGoesToTheLost}
-use Rattle.overlap_law.specs.Traffic.{Traffic, NothingMoves, MessageIsLost, ReplyIsReceived, RequestIsAnswered, RequestsAreSent, AttemptBegins, RepliesGo}
+use Rattle.overlap_law.specs.Traffic.{Traffic, NothingMoves, MessageIsLost, ReplyIsReceived, RequestIsAnswered, RequestsAreSent}
+use Rattle.overlap_law.specs.Traffic.{AttemptBegins, RepliesGo}
 use Rattle.overlap_law.proofs.HostsInMoments.{GetsNoReply, WasLostBefore}
 use Rattle.overlap_law.proofs.WireLemmas.{tied_to, gone_at, left_before, said_else}
 
@@ -31,12 +32,15 @@ up_not_lost host up lost =
     let is = ap not lost in
     absurd (cc (not_lost, is))
 
-module _ (hosts hosts_after : Hosts) (wire : Wire) (attempts : List AttemptRecord) (none : NoReplyGoesToTheLost hosts wire) (n : ℕ) (now : Host)
+module _ (hosts hosts_after : Hosts) (wire : Wire) (attempts : List AttemptRecord) (none : NoReplyGoesToTheLost hosts wire) (n : ℕ)
+    (now : Host)
     (there_now : tree.get hosts_after n ≡ Some now) (lost_now : now.is_lost ≡ true) (was : WasLostBefore hosts n) where
-  request_before : (number : ℕ) (packet : Packet) → tree.get wire (message_name n number) ≡ Some packet → is_request_in_flight (Some packet) ≡ true
+  request_before : (number : ℕ) (packet : Packet) → tree.get wire (message_name n number) ≡ Some packet
+      → is_request_in_flight (Some packet) ≡ true
   request_before number packet got = none.each n was.0 was.1 number packet was.2 got
 
-  request_if_sent : (sends : List (NodeId × PeerReq)) (number : ℕ) (packet : Packet) → tree.get (fold wire_with_request wire sends) (message_name n number) ≡ Some packet
+  request_if_sent : (sends : List (NodeId × PeerReq)) (number : ℕ) (packet : Packet)
+      → tree.get (fold wire_with_request wire sends) (message_name n number) ≡ Some packet
       → is_request_in_flight (Some packet) ≡ true
   request_if_sent sends number packet got = ⊎_elim
       (λ (new : IsSent sends (message_name n number) packet).
@@ -45,25 +49,34 @@ module _ (hosts hosts_after : Hosts) (wire : Wire) (attempts : List AttemptRecor
       (λ (old : tree.get wire (message_name n number) ≡ Some packet). request_before number packet old)
       (got_sent sends wire (message_name n number) packet got)
 
-  request_if_answered : (name : MessageName) (to : NodeId) (up : Bool) (rsp : PeerRsp) → up ≡ is_up_among hosts_after name.sender.0 → (number : ℕ) (packet : Packet)
-      → tree.get (wire_with_reply name to up (Some rsp) wire) (message_name n number) ≡ Some packet → is_request_in_flight (Some packet) ≡ true
+  request_if_answered : (name : MessageName) (to : NodeId) (up : Bool) (rsp : PeerRsp) → up ≡ is_up_among hosts_after name.sender.0
+      → (number : ℕ) (packet : Packet)
+      → tree.get (wire_with_reply name to up (Some rsp) wire) (message_name n number) ≡ Some packet
+      → is_request_in_flight (Some packet) ≡ true
   request_if_answered name to up rsp up_so number packet got = ⊎_elim
       (λ (own : message_name n number ≡ name). by_up up up_so own got)
-      (λ (apart : message_name n number ≢ name). request_before number packet (sym (said_else wire name to rsp up (message_name n number) apart) ∙ got))
+      (λ (apart : message_name n number ≢ name). request_before number packet
+      (sym (said_else wire name to rsp up (message_name n number) apart) ∙ got))
       (tied_to wire name (message_name n number))
     where
       by_up : (b : Bool) → b ≡ is_up_among hosts_after name.sender.0 → message_name n number ≡ name
-          → tree.get (wire_with_reply name to b (Some rsp) wire) (message_name n number) ≡ Some packet → is_request_in_flight (Some packet) ≡ true
+          → tree.get (wire_with_reply name to b (Some rsp) wire) (message_name n number) ≡ Some packet
+          → is_request_in_flight (Some packet) ≡ true
       by_up true is own got =
-          let at : tree.get hosts_after name.sender.0 ≡ Some now = ap (λ (q : MessageName). tree.get hosts_after q.sender.0) (sym own) ∙ there_now in
+          let at : tree.get hosts_after name.sender.0 ≡ Some now = ap (λ (q : MessageName). tree.get hosts_after q.sender.0) (sym own)
+          ∙ there_now in
           up_not_lost now (sym (is ∙ ap (λ o. option_map_or is_host_up o false) at)) lost_now
       by_up false is own got = let gone = ap (tree.get (tree.remove wire name)) own ∙ gone_at wire name in absurd (cc (got, gone))
 
-  pub still_request : {later : Wire} {after : List AttemptRecord} → Traffic hosts hosts_after wire attempts later after → GetsNoReply n later
+  pub still_request : {later : Wire} {after : List AttemptRecord} → Traffic hosts hosts_after wire attempts later after
+      → GetsNoReply n later
   still_request NothingMoves number packet got = request_before number packet got
-  still_request (MessageIsLost name lost there) number packet got = request_before number packet (left_before wire name (message_name n number) packet got)
-  still_request (ReplyIsReceived name from bytes there) number packet got = request_before number packet (left_before wire name (message_name n number) packet got)
-  still_request (RequestIsAnswered name to bytes up rsp there answer) number packet got = request_if_answered name to up rsp answer.up_so number packet got
+  still_request (MessageIsLost name lost there) number packet got =
+      request_before number packet (left_before wire name (message_name n number) packet got)
+  still_request (ReplyIsReceived name from bytes there) number packet got =
+      request_before number packet (left_before wire name (message_name n number) packet got)
+  still_request (RequestIsAnswered name to bytes up rsp there answer) number packet got =
+      request_if_answered name to up rsp answer.up_so number packet got
   still_request (RequestsAreSent k sends by nothing) number packet got = request_if_sent sends number packet got
   still_request (AttemptBegins k sends attempt begun) number packet got = request_if_sent sends number packet got
   still_request (RepliesGo k) number packet got = request_before number packet (got_before k wire (message_name n number) packet got)

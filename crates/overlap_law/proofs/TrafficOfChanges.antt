@@ -28,7 +28,9 @@ use Rattle.sheep_world.specs.NodeSteps.{wire_with_request}
 use Rattle.sheep_world.specs.Step.{EventOutcome}
 use Rattle.sheep_world.specs.Began.{Began}
 use Rattle.sheep_world.specs.HoldsTogether.{HoldsTogether}
-use Rattle.sheep_world.specs.NodeCauses.{NodeCause, GuestAsks, RequestComes, ReplyComes, LossIsTold, EntryIsRead, EntryIsPut, RecoveryTicks, WorkIsRetried, input_of_cause, IsCause, wire_at_cause, wire_after_cause, is_up_among, host_with_node, world_after_cause}
+use Rattle.sheep_world.specs.NodeCauses.{NodeCause, GuestAsks, RequestComes, ReplyComes, LossIsTold, EntryIsRead, EntryIsPut, RecoveryTicks}
+use Rattle.sheep_world.specs.NodeCauses.{WorkIsRetried, ClientAsks, input_of_cause, IsCause, wire_at_cause, wire_after_cause, is_up_among}
+use Rattle.sheep_world.specs.NodeCauses.{host_with_node, world_after_cause}
 use Rattle.sheep_world.specs.EventKinds.{log_after_return}
 use Rattle.sheep_world.proofs.ReturningNodes.{stepped_renewed}
 use Rattle.sheep_world.proofs.StepsByCause.{served_silent}
@@ -37,21 +39,26 @@ use Rattle.overlap_law.specs.Reached.{Hosts}
 use Rattle.overlap_law.specs.Packets.{Wire}
 use Rattle.overlap_law.specs.BegunAttempts.{attempts_after}
 use Rattle.overlap_law.specs.Past.{MomentWithPast, past_after_event, moment_after}
-use Rattle.overlap_law.specs.StepMoments.{SteppingNode, IsStepping, StepsByChanges, StepsAtOnce, first_in_step, last_in_step, LeadsInStep, IsWithinStep, hosts_in_step, moment_in_step, attempts_with_loss, attempts_at_cause, attempts_of_change}
+use Rattle.overlap_law.specs.StepMoments.{SteppingNode, IsStepping, StepsByChanges, StepsAtOnce, first_in_step, last_in_step, LeadsInStep}
+use Rattle.overlap_law.specs.StepMoments.{IsWithinStep, hosts_in_step, moment_in_step, attempts_with_loss, attempts_at_cause}
+use Rattle.overlap_law.specs.StepMoments.{attempts_of_change}
 use Rattle.overlap_law.specs.MomentChanges as moments
 use Rattle.overlap_law.specs.MomentChanges.{MomentChange, RunsAreInRange}
 use Rattle.overlap_law.specs.Traffic as kinds
 use Rattle.overlap_law.specs.Traffic.{Traffic, TrafficBetween}
-use Rattle.overlap_law.proofs.AttemptsOfEvents.{attempts-of_untold_loss, attempts-of_unread_delivery, attempts-of_loss, attempts-of_leave, attempts-of_reweight, attempts-of_join, attempts-of_return, attempts-of_phase_end}
+use Rattle.overlap_law.proofs.AttemptsOfEvents.{attempts-of_untold_loss, attempts-of_unread_delivery, attempts-of_loss, attempts-of_leave}
+use Rattle.overlap_law.proofs.AttemptsOfEvents.{attempts-of_reweight, attempts-of_join, attempts-of_return, attempts-of_phase_end}
 use Rattle.overlap_law.proofs.AttemptsInSteps.{attempts-at_first, attempts-at_end, attempts-grow}
-use Rattle.overlap_law.proofs.SendsOfChanges.{received_nothing, steps_send_nothing, next_sends_nothing, refusal_sends_nothing, denial_sends_nothing, end_sends_nothing, put_sends}
+use Rattle.overlap_law.proofs.SendsOfChanges.{received_nothing, steps_send_nothing, next_sends_nothing, refusal_sends_nothing}
+use Rattle.overlap_law.proofs.SendsOfChanges.{denial_sends_nothing, end_sends_nothing, put_sends}
 use Rattle.overlap_law.proofs.AskedEpochs.{SendsInThePast}
 use Rattle.overlap_law.proofs.AskedMakers.{ticked_asks_nothing}
 use Rattle.overlap_law.proofs.PastAsks.{step_in_past}
 use Rattle.overlap_law.proofs.KnownSteps.{IsKnownStep, together, known_step}
 use Rattle.overlap_law.proofs.OpeningTraffic.{AreReadable, readable_at, opening_traffic}
 
-fold_twice : (wire : Wire) (one other : List (NodeId × PeerReq)) → fold wire_with_request wire (one ++ other) ≡ fold wire_with_request (fold wire_with_request wire one) other
+fold_twice : (wire : Wire) (one other : List (NodeId × PeerReq))
+    → fold wire_with_request wire (one ++ other) ≡ fold wire_with_request (fold wire_with_request wire one) other
 fold_twice wire [] other = refl
 fold_twice wire (send ∷ one) other = fold_twice (wire_with_request wire send) one other
 
@@ -71,27 +78,36 @@ module _ (script : List Statement) (world : World) (stepping : SteppingNode) (kn
   wire_so_far so_far = fold wire_with_request found so_far.outputs.sends
 
   module _ (attempts : List AttemptRecord) where
-    abbrev Goes : StepState → StepState → List AttemptRecord → Type 0
-    Goes so_far next begun = Traffic (hosts_in_step stepping world so_far) (hosts_in_step stepping world next) (wire_so_far so_far) attempts (wire_so_far next) (attempts ++ begun)
+    abbrev MakesMove : StepState → StepState → List AttemptRecord → Type 0
+    MakesMove so_far next begun =
+        Traffic (hosts_in_step stepping world so_far) (hosts_in_step stepping world next) (wire_so_far so_far) attempts (wire_so_far next)
+        (attempts ++ begun)
 
-    rests : (so_far next : StepState) → next.outputs.sends ≡ so_far.outputs.sends → Goes so_far next []
+    rests : (so_far next : StepState) → next.outputs.sends ≡ so_far.outputs.sends → MakesMove so_far next []
     rests so_far next same =
         subst (λ (sends : List (NodeId × PeerReq)).
-        Traffic (hosts_in_step stepping world so_far) (hosts_in_step stepping world next) (wire_so_far so_far) attempts (fold wire_with_request found sends) (attempts ++ [])) (sym same)
-        (subst (Traffic (hosts_in_step stepping world so_far) (hosts_in_step stepping world next) (wire_so_far so_far) attempts (wire_so_far so_far)) (sym (append-nil attempts)) kinds.NothingMoves)
+        Traffic (hosts_in_step stepping world so_far) (hosts_in_step stepping world next) (wire_so_far so_far) attempts
+        (fold wire_with_request found sends) (attempts ++ [])) (sym same)
+        (subst (Traffic (hosts_in_step stepping world so_far) (hosts_in_step stepping world next) (wire_so_far so_far) attempts
+        (wire_so_far so_far)) (sym (append-nil attempts)) kinds.NothingMoves)
 
-    change_traffic : (so_far next : StepState) → LeadsInStep stepping (first_in_step stepping) so_far → (change : changes.Change input host.node so_far next)
-        → AreReadable script world stepping known next.outputs.sends → Goes so_far next (attempts_of_change host so_far next change)
+    change_traffic : (so_far next : StepState) → LeadsInStep stepping (first_in_step stepping) so_far
+        → (change : changes.Change input host.node so_far next)
+        → AreReadable script world stepping known next.outputs.sends → MakesMove so_far next (attempts_of_change host so_far next change)
     change_traffic so_far next leads (changes.Marks req number work attempt status learns over) readable = rests so_far next refl
-    change_traffic so_far next leads (changes.Fails session req number work attempt status course ends done why) readable = rests so_far next refl
-    change_traffic so_far next leads (changes.Stops session req number work attempt status course bytes ends over) readable = rests so_far next refl
+    change_traffic so_far next leads (changes.Fails session req number work attempt status course ends done why) readable =
+        rests so_far next refl
+    change_traffic so_far next leads (changes.Stops session req number work attempt status course bytes ends over) readable =
+        rests so_far next refl
     change_traffic so_far next leads (changes.Refuses session req number work attempt status course cause ends done why) readable =
         rests so_far next (refusal_sends_nothing session req cause course (changes.without_ended_work session req work status so_far)).1
     change_traffic so_far next leads (changes.Opens session req asked lined comes enough) readable =
-        let more = map (send_of lined.node.gateway.me (record { 0 = lined.node.peer.epoch }) asked.work) (attempt_in asked lined.node).messages in
-        subst (λ (wire : Wire). Traffic (hosts_in_step stepping world so_far) (hosts_in_step stepping world next) (wire_so_far so_far) attempts wire
-        (attempts ++ attempts_of_change host so_far next (changes.Opens session req asked lined comes enough)))
-        (sym (ap (λ (s : List (NodeId × PeerReq)). fold wire_with_request found (s ++ more)) (next_sends_nothing so_far session req asked lined comes).1
+        let more = map (send_of lined.node.gateway.me (record { 0 = lined.node.peer.epoch }) asked.work)
+        (attempt_in asked lined.node).messages in
+        subst (λ (wire : Wire). Traffic (hosts_in_step stepping world so_far) (hosts_in_step stepping world next) (wire_so_far so_far)
+        attempts wire (attempts ++ attempts_of_change host so_far next (changes.Opens session req asked lined comes enough)))
+        (sym (ap (λ (s : List (NodeId × PeerReq)). fold wire_with_request found (s ++ more))
+        (next_sends_nothing so_far session req asked lined comes).1
         ∙ fold_twice found so_far.outputs.sends more))
         (opening_traffic script world stepping known so_far leads session req asked lined comes
         (λ send there. readable send (Contains-append_right lined.outputs.sends more send there)) (wire_so_far so_far) attempts)
@@ -99,7 +115,8 @@ module _ (script : List Statement) (world : World) (stepping : SteppingNode) (kn
         rests so_far next (next_sends_nothing so_far session req asked lined comes).1
     change_traffic so_far next leads (changes.Denies session req asked lined request comes short untouched there own) readable =
         rests so_far next
-        ((denial_sends_nothing req (Halt (changes.zones_of_members lined.node) (zones_for asked.work)) request (changes.without_denied_work session req asked lined)).1
+        ((denial_sends_nothing req (Halt (changes.zones_of_members lined.node) (zones_for asked.work)) request
+        (changes.without_denied_work session req asked lined)).1
         ∙ (next_sends_nothing so_far session req asked lined comes).1)
     change_traffic so_far next leads (changes.Strays req work gateway there none apart) readable = rests so_far next refl
     change_traffic so_far next leads (changes.Lines session req work moved steps waits) readable =
@@ -107,7 +124,8 @@ module _ (script : List Statement) (world : World) (stepping : SteppingNode) (kn
     change_traffic so_far next leads (changes.Appends session req entry moved steps) readable =
         rests so_far next (steps_send_nothing so_far session req (changes.ToEntry entry) moved steps).1
     change_traffic so_far next leads (changes.Replies session req reply moved steps) readable =
-        rests so_far next ((end_sends_nothing session req reply moved).1 ∙ (steps_send_nothing so_far session req (changes.ToReply reply) moved steps).1)
+        rests so_far next ((end_sends_nothing session req reply moved).1
+        ∙ (steps_send_nothing so_far session req (changes.ToReply reply) moved steps).1)
     change_traffic so_far next leads (changes.Arrives session req ask disk arrival on) readable = rests so_far next refl
     change_traffic so_far next leads (changes.Rejects session req ask cause arrival) readable = rests so_far next refl
     change_traffic so_far next leads (changes.Recovers due) readable = rests so_far next refl
@@ -115,7 +133,8 @@ module _ (script : List Statement) (world : World) (stepping : SteppingNode) (kn
 -- ---- a step begins, or is one change
 
 -- nothing comes into the wire of a step that goes by changes but what the node sends
-wire-by_changes : (cause : NodeCause) → StepsByChanges cause → (hosts : Hosts) (node : Node) (wire : Wire) → wire_after_cause cause hosts node wire ≡ wire
+wire-by_changes : (cause : NodeCause) → StepsByChanges cause → (hosts : Hosts) (node : Node) (wire : Wire)
+    → wire_after_cause cause hosts node wire ≡ wire
 wire-by_changes (GuestAsks session req ask) by hosts node wire = refl
 wire-by_changes (RequestComes name to request) by hosts node wire = absurd by
 wire-by_changes (ReplyComes name from rsp) by hosts node wire = refl
@@ -124,9 +143,11 @@ wire-by_changes (EntryIsRead entry) by hosts node wire = refl
 wire-by_changes (EntryIsPut entry) by hosts node wire = absurd by
 wire-by_changes RecoveryTicks by hosts node wire = absurd by
 wire-by_changes WorkIsRetried by hosts node wire = refl
+wire-by_changes (ClientAsks req ask) by hosts node wire = refl
 
 -- what a request leaves of the peer
-request_leaves : (request : PeerReq) (node : Node) → (node_step (inputs.Request request) node).node.peer ≡ (peer_step node.peer request).peer
+request_leaves : (request : PeerReq) (node : Node)
+    → (node_step (inputs.Request request) node).node.peer ≡ (peer_step node.peer request).peer
 unfolding on_request
 request_leaves request node = step_peer (inputs.Request request) node
 
@@ -141,11 +162,13 @@ module _ (script : List Statement) (world : World) (n : ℕ) (host : Host) (atte
   begins hosts_after (EntryIsPut entry) so by = absurd by
   begins hosts_after RecoveryTicks so by = absurd by
   begins hosts_after WorkIsRetried so by = kinds.NothingMoves
+  begins hosts_after (ClientAsks req ask) so by = kinds.NothingMoves
 
   at_once : (holds : HoldsTogether script world) (there : host_at n world ≡ Some host) (up : is_host_up host ≡ true) (cause : NodeCause)
       → IsCause script world n host cause → StepsAtOnce cause → IsKnownStep script world (record { n = n; host = host; cause = cause })
       → SendsInThePast (input_of_cause cause) host.node
-      → Traffic world.hosts (world_after_cause script n host cause world).hosts world.wire attempts (world_after_cause script n host cause world).wire (attempts_at_cause host.node cause attempts)
+      → Traffic world.hosts (world_after_cause script n host cause world).hosts world.wire attempts
+      (world_after_cause script n host cause world).wire (attempts_at_cause host.node cause attempts)
   at_once holds there up (GuestAsks session req ask) so by known past = absurd by
   at_once holds there up (RequestComes name to request) so by known past =
       let hosts = (world_after_cause script n host (RequestComes name to request) world).hosts in
@@ -178,28 +201,32 @@ module _ (script : List Statement) (world : World) (n : ℕ) (host : Host) (atte
   at_once holds there up (LossIsTold name packet) so by known past = absurd by
   at_once holds there up (EntryIsRead entry) so by known past = absurd by
   at_once holds there up (EntryIsPut entry) so by known past =
-      subst (λ (sends : List (NodeId × PeerReq)). Traffic world.hosts (world_after_cause script n host (EntryIsPut entry) world).hosts world.wire attempts (fold wire_with_request world.wire sends) attempts)
+      subst (λ (sends : List (NodeId × PeerReq)). Traffic world.hosts (world_after_cause script n host (EntryIsPut entry) world).hosts
+      world.wire attempts (fold wire_with_request world.wire sends) attempts)
       (sym (put_sends host.node)) kinds.NothingMoves
-  at_once holds there up RecoveryTicks so by known past = kinds.RequestsAreSent n (node_step inputs.RecoverTick host.node).outputs.sends (record {
-    host = host;
-    there = there;
-    numbers = step_numbers inputs.RecoverTick host.node;
-    own = λ send there. ap (λ (me : NodeId). me.0) (known.asking.own send there) ∙ known.numbered;
-    after = host_with_node host (node_step inputs.RecoverTick host.node).node;
-    there_after = get-insert_same world.hosts n (host_with_node host (node_step inputs.RecoverTick host.node).node);
-    stays = refl;
-    counted = step_counts inputs.RecoverTick host.node;
-    read = known.asking.read;
-    past = past;
-  }) (ticked_asks_nothing host.node)
+  at_once holds there up RecoveryTicks so by known past =
+      kinds.RequestsAreSent n (node_step inputs.RecoverTick host.node).outputs.sends (record {
+        host = host;
+        there = there;
+        numbers = step_numbers inputs.RecoverTick host.node;
+        own = λ send there. ap (λ (me : NodeId). me.0) (known.asking.own send there) ∙ known.numbered;
+        after = host_with_node host (node_step inputs.RecoverTick host.node).node;
+        there_after = get-insert_same world.hosts n (host_with_node host (node_step inputs.RecoverTick host.node).node);
+        stays = refl;
+        counted = step_counts inputs.RecoverTick host.node;
+        read = known.asking.read;
+        past = past;
+      }) (ticked_asks_nothing host.node)
   at_once holds there up WorkIsRetried so by known past = absurd by
+  at_once holds there up (ClientAsks req ask) so by known past = absurd by
 
 -- ---- every change
 
 module _ (script : List Statement) (range : RunsAreInRange script) (start : MomentWithPast) (began : Began script start.world) where
   -- the wire of a moment in a step that goes by changes
   pub wire-in_step : (stepping : SteppingNode) → StepsByChanges stepping.cause → (so_far : StepState)
-      → (moment_in_step script stepping start so_far).world.wire ≡ fold wire_with_request (wire_at_cause stepping.cause start.world.wire) so_far.outputs.sends
+      → (moment_in_step script stepping start so_far).world.wire ≡ fold wire_with_request (wire_at_cause stepping.cause start.world.wire)
+      so_far.outputs.sends
   wire-in_step stepping by so_far = wire-by_changes
       stepping.cause by (hosts_in_step stepping start.world so_far) stepping.host.node
       (fold wire_with_request (wire_at_cause stepping.cause start.world.wire) so_far.outputs.sends)
@@ -221,7 +248,8 @@ module _ (script : List Statement) (range : RunsAreInRange script) (start : Mome
       (sym (attempts-at_first script start stepping is by))
       (begins script start.world stepping.n stepping.host start.past.attempts hosts_after stepping.cause is.caused by))
 
-  step_goes_on : (stepping : SteppingNode) (so_far next : StepState) → IsStepping script start.world stepping → StepsByChanges stepping.cause
+  step_goes_on : (stepping : SteppingNode) (so_far next : StepState) → IsStepping script start.world stepping
+      → StepsByChanges stepping.cause
       → IsWithinStep stepping so_far next
       → TrafficBetween (moment_in_step script stepping start so_far) (moment_in_step script stepping start next)
   step_goes_on stepping so_far next is by within =
@@ -232,29 +260,33 @@ module _ (script : List Statement) (range : RunsAreInRange script) (start : Mome
       let more = attempts_of_change stepping.host so_far next within.change in
       subst (λ (wire : Wire). Traffic hosts hosts_after wire attempts (moment_in_step script stepping start next).world.wire
       (moment_in_step script stepping start next).past.attempts) (sym (wire-in_step stepping by so_far))
-      (subst (λ (wire : Wire). Traffic hosts hosts_after (fold wire_with_request (wire_at_cause stepping.cause start.world.wire) so_far.outputs.sends) attempts wire
-      (moment_in_step script stepping start next).past.attempts) (sym (wire-in_step stepping by next))
-      (subst (Traffic hosts hosts_after (fold wire_with_request (wire_at_cause stepping.cause start.world.wire) so_far.outputs.sends) attempts
-      (fold wire_with_request (wire_at_cause stepping.cause start.world.wire) next.outputs.sends))
+      (subst (λ (wire : Wire). Traffic hosts hosts_after (fold wire_with_request (wire_at_cause stepping.cause start.world.wire)
+      so_far.outputs.sends) attempts wire (moment_in_step script stepping start next).past.attempts) (sym (wire-in_step stepping by next))
+      (subst (Traffic hosts hosts_after (fold wire_with_request (wire_at_cause stepping.cause start.world.wire) so_far.outputs.sends)
+      attempts (fold wire_with_request (wire_at_cause stepping.cause start.world.wire) next.outputs.sends))
       (sym (attempts-grow script start stepping is known.sound known.given by so_far next within))
-      (change_traffic script start.world stepping known attempts so_far next within.leads within.change (readable_at script start.world stepping known next within.rest))))
+      (change_traffic script start.world stepping known attempts so_far next within.leads within.change
+      (readable_at script start.world stepping known next within.rest))))
 
   step_is_made : (stepping : SteppingNode) → IsStepping script start.world stepping → StepsAtOnce stepping.cause
       → TrafficBetween start (moment_in_step script stepping start (last_in_step stepping))
   step_is_made stepping is by =
       let known = known_step script range start.world began stepping is in
-      subst (Traffic start.world.hosts (hosts_in_step stepping start.world (last_in_step stepping)) start.world.wire start.past.attempts (moment_in_step script stepping start (last_in_step stepping)).world.wire)
+      subst (Traffic start.world.hosts (hosts_in_step stepping start.world (last_in_step stepping)) start.world.wire start.past.attempts
+      (moment_in_step script stepping start (last_in_step stepping)).world.wire)
       (sym (attempts-at_end script start stepping is by))
-      (at_once script start.world stepping.n stepping.host start.past.attempts (together script range start.world began) is.there is.up stepping.cause is.caused by known
-      (step_in_past script range start.world began stepping is))
+      (at_once script start.world stepping.n stepping.host start.past.attempts (together script range start.world began) is.there is.up
+      stepping.cause is.caused by known (step_in_past script range start.world began stepping is))
 
   -- an event at which no node steps, by the wire and the attempts after it
   by_event : (event : Event) (made : EventOutcome) (wire : Wire) (attempts : List AttemptRecord) → made.world.wire ≡ wire
       → attempts_after script event start.world made.world start.past.attempts ≡ attempts
-      → Traffic start.world.hosts made.world.hosts start.world.wire start.past.attempts wire attempts → TrafficBetween start (moment_after script event start made)
+      → Traffic start.world.hosts made.world.hosts start.world.wire start.past.attempts wire attempts
+      → TrafficBetween start (moment_after script event start made)
   unfolding past_after_event
   by_event event made wire attempts wire_so attempts_so traffic =
-      subst (λ (w : Wire). Traffic start.world.hosts made.world.hosts start.world.wire start.past.attempts w (attempts_after script event start.world made.world start.past.attempts)) (sym wire_so)
+      subst (λ (w : Wire). Traffic start.world.hosts made.world.hosts start.world.wire start.past.attempts w
+      (attempts_after script event start.world made.world start.past.attempts)) (sym wire_so)
       (subst (Traffic start.world.hosts made.world.hosts start.world.wire start.past.attempts wire) (sym attempts_so) traffic)
 
   -- the wire that was made
@@ -266,8 +298,9 @@ module _ (script : List Statement) (range : RunsAreInRange script) (start : Mome
   traffic (moments.StepGoesOn stepping so_far next is by within) = step_goes_on stepping so_far next is by within
   traffic (moments.StepIsMade stepping is by) = step_is_made stepping is by
   traffic (moments.LossIsUntold event made happened h) =
-      by_event event made (tree.remove start.world.wire h.name) (attempts_with_loss h.name h.packet start.past.attempts) (ap wire_of (sym h.made_so))
-      (attempts-of_untold_loss script event start.world made start.past.attempts h) (kinds.MessageIsLost h.name h.packet h.there)
+      by_event event made (tree.remove start.world.wire h.name) (attempts_with_loss h.name h.packet start.past.attempts)
+      (ap wire_of (sym h.made_so)) (attempts-of_untold_loss script event start.world made start.past.attempts h)
+      (kinds.MessageIsLost h.name h.packet h.there)
   traffic (moments.DeliveryIsUnread event made happened h) =
       by_event event made start.world.wire start.past.attempts (ap wire_of (sym h.made_so))
       (attempts-of_unread_delivery script event start.world made start.past.attempts h) kinds.NothingMoves

@@ -21,7 +21,8 @@ use Rattle.overlap_law.specs.Attempts.{AttemptRecord}
 use Rattle.overlap_law.specs.Reached.{Hosts}
 use Rattle.overlap_law.specs.Flight.{FlyInThePast}
 use Rattle.overlap_law.specs.Packets.{Wire, is_request_in_flight, IsAsking}
-use Rattle.overlap_law.specs.Traffic.{AreSentBy, Traffic, NothingMoves, MessageIsLost, ReplyIsReceived, RequestIsAnswered, RequestsAreSent, AttemptBegins, RepliesGo}
+use Rattle.overlap_law.specs.Traffic.{AreSentBy, Traffic, NothingMoves, MessageIsLost, ReplyIsReceived, RequestIsAnswered, RequestsAreSent}
+use Rattle.overlap_law.specs.Traffic.{AttemptBegins, RepliesGo}
 use Rattle.overlap_law.proofs.EpochsRise.{EpochsRise}
 use Rattle.overlap_law.proofs.WireLemmas.{tied_to, left_before, said_none, said_else}
 
@@ -29,7 +30,8 @@ abbrev bytes_of : Packet → List ℕ
 bytes_of (Request to bytes) = bytes
 bytes_of (Reply from bytes) = bytes
 
-module _ (hosts hosts_after : Hosts) (wire : Wire) (attempts : List AttemptRecord) (rise : EpochsRise hosts hosts_after) (given : NumbersAreGiven hosts wire)
+module _ (hosts hosts_after : Hosts) (wire : Wire) (attempts : List AttemptRecord) (rise : EpochsRise hosts hosts_after)
+    (given : NumbersAreGiven hosts wire)
     (past : FlyInThePast hosts wire) where
   -- what flew is of the past
   flew : (n : ℕ) (host : Host) → tree.get hosts_after n ≡ Some host → (number : ℕ) (to : NodeId) (request : PeerReq)
@@ -47,7 +49,8 @@ module _ (hosts hosts_after : Hosts) (wire : Wire) (attempts : List AttemptRecor
           omega (arith, was, rises, same)
 
   -- and so is what is sent
-  flies_if_sent : (k : ℕ) (sends : List (NodeId × PeerReq)) → AreSentBy hosts hosts_after k sends → FlyInThePast hosts_after (fold wire_with_request wire sends)
+  flies_if_sent : (k : ℕ) (sends : List (NodeId × PeerReq)) → AreSentBy hosts hosts_after k sends
+      → FlyInThePast hosts_after (fold wire_with_request wire sends)
   flies_if_sent k sends by n host there number to request asking = ⊎_elim
       (λ (new : IsSent sends (message_name n number) (Request to asking.bytes)).
       let (send, among, named, is) = new in
@@ -65,32 +68,52 @@ module _ (hosts hosts_after : Hosts) (wire : Wire) (attempts : List AttemptRecor
       (got_sent sends wire (message_name n number) (Request to asking.bytes) asking.there)
 
   -- no request comes where one is answered
-  flies_if_answered : (name : MessageName) (to : NodeId) (up : Bool) (rsp : PeerRsp) → FlyInThePast hosts_after (wire_with_reply name to up (Some rsp) wire)
+  flies_if_answered : (name : MessageName) (to : NodeId) (up : Bool) (rsp : PeerRsp)
+      → FlyInThePast hosts_after (wire_with_reply name to up (Some rsp) wire)
   flies_if_answered name from up rsp n host there number to request asking = ⊎_elim
       (λ (own : message_name n number ≡ name).
       let none : is_request_in_flight (tree.get (wire_with_reply name from up (Some rsp) wire) (message_name n number)) ≡ false
-      = ap (λ (q : MessageName). is_request_in_flight (tree.get (wire_with_reply name from up (Some rsp) wire) q)) own ∙ said_none wire name from rsp up in
+      = ap (λ (q : MessageName). is_request_in_flight (tree.get (wire_with_reply name from up (Some rsp) wire) q)) own
+      ∙ said_none wire name from rsp up in
       let some : is_request_in_flight (tree.get (wire_with_reply name from up (Some rsp) wire) (message_name n number)) ≡ true
       = ap is_request_in_flight asking.there in
       absurd (cc (none, some)))
       (λ (apart : message_name n number ≢ name).
       flew n host there number to request
-      (record { bytes = asking.bytes; there = sym (said_else wire name from rsp up (message_name n number) apart) ∙ asking.there; spelled = asking.spelled }))
+      (record {
+        bytes = asking.bytes;
+        there = sym (said_else wire name from rsp up (message_name n number) apart) ∙ asking.there;
+        spelled = asking.spelled;
+      }))
       (tied_to wire name (message_name n number))
 
-  pub traffic_past : {later : Wire} {after : List AttemptRecord} → Traffic hosts hosts_after wire attempts later after → FlyInThePast hosts_after later
+  pub traffic_past : {later : Wire} {after : List AttemptRecord} → Traffic hosts hosts_after wire attempts later after
+      → FlyInThePast hosts_after later
   traffic_past NothingMoves n host there number to request asking = flew n host there number to request asking
   traffic_past (MessageIsLost name packet lost) n host there number to request asking =
       flew n host there number to request
-      (record { bytes = asking.bytes; there = left_before wire name (message_name n number) (Request to asking.bytes) asking.there; spelled = asking.spelled })
+      (record {
+        bytes = asking.bytes;
+        there = left_before wire name (message_name n number) (Request to asking.bytes) asking.there;
+        spelled = asking.spelled;
+      })
   traffic_past (ReplyIsReceived name from bytes got) n host there number to request asking =
       flew n host there number to request
-      (record { bytes = asking.bytes; there = left_before wire name (message_name n number) (Request to asking.bytes) asking.there; spelled = asking.spelled })
+      (record {
+        bytes = asking.bytes;
+        there = left_before wire name (message_name n number) (Request to asking.bytes) asking.there;
+        spelled = asking.spelled;
+      })
   traffic_past (RequestIsAnswered name from bytes up rsp got answer) n host there number to request asking =
       flies_if_answered name from up rsp n host there number to request asking
-  traffic_past (RequestsAreSent k sends by nothing) n host there number to request asking = flies_if_sent k sends by n host there number to request asking
+  traffic_past (RequestsAreSent k sends by nothing) n host there number to request asking =
+      flies_if_sent k sends by n host there number to request asking
   traffic_past (AttemptBegins k sends attempt begun) n host there number to request asking =
       flies_if_sent k sends begun.sent_by n host there number to request asking
   traffic_past (RepliesGo k) n host there number to request asking =
       flew n host there number to request
-      (record { bytes = asking.bytes; there = got_before k wire (message_name n number) (Request to asking.bytes) asking.there; spelled = asking.spelled })
+      (record {
+        bytes = asking.bytes;
+        there = got_before k wire (message_name n number) (Request to asking.bytes) asking.there;
+        spelled = asking.spelled;
+      })

@@ -22,7 +22,8 @@ use Rattle.overlap_law.specs.Reached.{Hosts}
 use Rattle.overlap_law.specs.Each.{has_reached}
 use Rattle.overlap_law.specs.Flight.{RepliersHaveCome}
 use Rattle.overlap_law.specs.Packets.{Wire, IsAnswering}
-use Rattle.overlap_law.specs.Traffic.{IsAnswer, Traffic, NothingMoves, MessageIsLost, ReplyIsReceived, RequestIsAnswered, RequestsAreSent, AttemptBegins, RepliesGo}
+use Rattle.overlap_law.specs.Traffic.{IsAnswer, Traffic, NothingMoves, MessageIsLost, ReplyIsReceived, RequestIsAnswered, RequestsAreSent}
+use Rattle.overlap_law.specs.Traffic.{AttemptBegins, RepliesGo}
 use Rattle.overlap_law.proofs.EpochsRise.{EpochsRise}
 use Rattle.overlap_law.proofs.TrafficServers.{reached_still}
 use Rattle.overlap_law.proofs.WireLemmas.{tied_to, gone_at, left_before, put_at, said_else}
@@ -38,8 +39,10 @@ asked_in (Reply from bytes) = from
 abbrev epoch_in : Option Host → ℕ
 epoch_in o = option_map_or (λ (host : Host). host.node.peer.epoch) o 0
 
-module _ (hosts hosts_after : Hosts) (wire : Wire) (attempts : List AttemptRecord) (rise : EpochsRise hosts hosts_after) (come : RepliersHaveCome hosts wire) where
-  came : (name : MessageName) (from : NodeId) (reply : PeerRsp) → IsAnswering wire name from reply → has_reached hosts_after reply.epoch.0 from ≡ true
+module _ (hosts hosts_after : Hosts) (wire : Wire) (attempts : List AttemptRecord) (rise : EpochsRise hosts hosts_after)
+    (come : RepliersHaveCome hosts wire) where
+  came : (name : MessageName) (from : NodeId) (reply : PeerRsp) → IsAnswering wire name from reply
+      → has_reached hosts_after reply.epoch.0 from ≡ true
   came name from reply answering = reached_still hosts hosts_after rise reply.epoch.0 from (come name from reply answering)
 
   came_if_sent : (sends : List (NodeId × PeerReq)) → RepliersHaveCome hosts_after (fold wire_with_request wire sends)
@@ -50,7 +53,8 @@ module _ (hosts hosts_after : Hosts) (wire : Wire) (attempts : List AttemptRecor
       (got_sent sends wire name (Reply from answering.bytes) answering.there)
 
   -- the node that replies is there, in the epoch of its reply
-  replied : (name : MessageName) (to : NodeId) (bytes : List ℕ) (up : Bool) (rsp : PeerRsp) → IsAnswer hosts hosts_after name to bytes up rsp
+  replied : (name : MessageName) (to : NodeId) (bytes : List ℕ) (up : Bool) (rsp : PeerRsp)
+      → IsAnswer hosts hosts_after name to bytes up rsp
       → has_reached hosts_after rsp.epoch.0 to ≡ true
   replied name to bytes up rsp answer =
       let (now, there, rises) = rise to.0 answer.host answer.there in
@@ -58,31 +62,51 @@ module _ (hosts hosts_after : Hosts) (wire : Wire) (attempts : List AttemptRecor
       let more : answer.host.node.peer.epoch ≤ now.node.peer.epoch = rises in
       ap (λ (o : Option Host). nat_le rsp.epoch.0 (epoch_in o)) there ∙ le-leb rsp.epoch.0 now.node.peer.epoch (omega (arith, own, more))
 
-  came_if_answered : (name : MessageName) (to : NodeId) (bytes : List ℕ) (up : Bool) (rsp : PeerRsp) → IsAnswer hosts hosts_after name to bytes up rsp
+  came_if_answered : (name : MessageName) (to : NodeId) (bytes : List ℕ) (up : Bool) (rsp : PeerRsp)
+      → IsAnswer hosts hosts_after name to bytes up rsp
       → RepliersHaveCome hosts_after (wire_with_reply name to up (Some rsp) wire)
   came_if_answered name to bytes up rsp answer q from reply answering = ⊎_elim
       (λ (own : q ≡ name). by_up up (ap (tree.get (wire_with_reply name to up (Some rsp) wire)) (sym own) ∙ answering.there))
       (λ (apart : q ≢ name).
-      came q from reply (record { bytes = answering.bytes; there = sym (said_else wire name to rsp up q apart) ∙ answering.there; spelled = answering.spelled }))
+      came q from reply (record {
+        bytes = answering.bytes;
+        there = sym (said_else wire name to rsp up q apart) ∙ answering.there;
+        spelled = answering.spelled;
+      }))
       (tied_to wire name q)
     where
-      by_up : (b : Bool) → tree.get (wire_with_reply name to b (Some rsp) wire) name ≡ Some (Reply from answering.bytes) → has_reached hosts_after reply.epoch.0 from ≡ true
+      by_up : (b : Bool) → tree.get (wire_with_reply name to b (Some rsp) wire) name ≡ Some (Reply from answering.bytes)
+          → has_reached hosts_after reply.epoch.0 from ≡ true
       by_up true got =
           let packets : Reply to (say_bytes rsp) ≡ Reply from answering.bytes
           = same_Some (Reply to (say_bytes rsp)) (Reply from answering.bytes) (sym (put_at wire name (Reply to (say_bytes rsp))) ∙ got) in
-          let said : rsp ≡ reply = same_said rsp reply (sym answer.spelled ∙ ap (λ (p : Packet). say_in (bytes_in p)) packets ∙ answering.spelled) in
+          let said : rsp ≡ reply = same_said rsp reply (sym answer.spelled ∙ ap (λ (p : Packet). say_in (bytes_in p)) packets
+          ∙ answering.spelled) in
           (λ i. has_reached hosts_after (sym said i).epoch.0 (asked_in (sym packets i))) ∙ replied name to bytes up rsp answer
       by_up false got = let gone = gone_at wire name in absurd (cc (got, gone))
 
-  pub traffic_repliers : {later : Wire} {after : List AttemptRecord} → Traffic hosts hosts_after wire attempts later after → RepliersHaveCome hosts_after later
+  pub traffic_repliers : {later : Wire} {after : List AttemptRecord} → Traffic hosts hosts_after wire attempts later after
+      → RepliersHaveCome hosts_after later
   traffic_repliers NothingMoves name from reply answering = came name from reply answering
   traffic_repliers (MessageIsLost lost packet there) name from reply answering =
-      came name from reply (record { bytes = answering.bytes; there = left_before wire lost name (Reply from answering.bytes) answering.there; spelled = answering.spelled })
+      came name from reply (record {
+        bytes = answering.bytes;
+        there = left_before wire lost name (Reply from answering.bytes) answering.there;
+        spelled = answering.spelled;
+      })
   traffic_repliers (ReplyIsReceived received sender bytes there) name from reply answering =
-      came name from reply (record { bytes = answering.bytes; there = left_before wire received name (Reply from answering.bytes) answering.there; spelled = answering.spelled })
+      came name from reply (record {
+        bytes = answering.bytes;
+        there = left_before wire received name (Reply from answering.bytes) answering.there;
+        spelled = answering.spelled;
+      })
   traffic_repliers (RequestIsAnswered asked to bytes up rsp there answer) name from reply answering =
       came_if_answered asked to bytes up rsp answer name from reply answering
   traffic_repliers (RequestsAreSent n sends by nothing) name from reply answering = came_if_sent sends name from reply answering
   traffic_repliers (AttemptBegins n sends attempt begun) name from reply answering = came_if_sent sends name from reply answering
   traffic_repliers (RepliesGo n) name from reply answering =
-      came name from reply (record { bytes = answering.bytes; there = got_before n wire name (Reply from answering.bytes) answering.there; spelled = answering.spelled })
+      came name from reply (record {
+        bytes = answering.bytes;
+        there = got_before n wire name (Reply from answering.bytes) answering.there;
+        spelled = answering.spelled;
+      })

@@ -1,5 +1,6 @@
 -- There stays one writer over each change of a moment, if writers take turns.
-use Rattle.std.proofs.Common.{◌≡◌, ◌⊎◌, inl, inr, ⊎_elim, ℕ, Bool, true, false, List, [], ◌∷◌, ◌++◌, length, slice_get, Some, refl, sym, subst}
+use Rattle.std.proofs.Common.{◌≡◌, ◌⊎◌, inl, inr, ⊎_elim, ℕ, Bool, true, false, List, [], ◌∷◌, ◌++◌, length, slice_get, Some, refl, sym}
+use Rattle.std.proofs.Common.{subst}
 use Rattle.std.proofs.lemmas.Bool.{both_ways}
 use Rattle.object_id.specs.declared.entry.Entry.{Entry}
 use Rattle.object_id.specs.declared.node.NodeId.{NodeId}
@@ -14,8 +15,10 @@ use Rattle.overlap_law.specs.Packets.{Wire, message_name_at, is_name_in_wire}
 use Rattle.overlap_law.specs.Fates.{AttemptsAreOfIncarnations}
 use Rattle.overlap_law.specs.MomentChanges.{MomentChange, RunsAreInRange}
 use Rattle.overlap_law.specs.TiedAttempts.{IsTied}
-use Rattle.overlap_law.specs.Traffic.{Traffic, NothingMoves, MessageIsLost, ReplyIsReceived, RequestIsAnswered, RequestsAreSent, AttemptBegins, RepliesGo}
-use Rattle.overlap_law.specs.Writers.{bound_of, IsUnderTheGrant, HasEnded, IsFencedOff, ThereIsOneWriter, AttemptsHaveBegun, WritersTakeTurns}
+use Rattle.overlap_law.specs.Traffic.{Traffic, NothingMoves, MessageIsLost, ReplyIsReceived, RequestIsAnswered, RequestsAreSent}
+use Rattle.overlap_law.specs.Traffic.{AttemptBegins, RepliesGo}
+use Rattle.overlap_law.specs.Writers.{bound_of, IsUnderTheGrant, HasEnded, IsFencedOff, ThereIsOneWriter, AttemptsHaveBegun}
+use Rattle.overlap_law.specs.Writers.{WritersTakeTurns}
 use Rattle.overlap_law.proofs.AttemptLists.{got_more, got_marked, fates_told}
 use Rattle.overlap_law.proofs.LogsOfMoments.{log_of_change}
 use Rattle.overlap_law.proofs.OneWriterAtEntries.{one_writer_after}
@@ -26,7 +29,8 @@ use Rattle.overlap_law.proofs.TrafficOrder.{HaveNoMore, traffic_fewer}
 abbrev HasItsWriter : List Entry → Wire → AttemptRecord → Type 0
 HasItsWriter log wire attempt =
     IsUnderTheGrant log attempt (vid_of (object_of attempt))
-    ⊎ (HasEnded wire attempt (bound_of log (vid_of (object_of attempt))) ⊎ IsFencedOff log attempt (bound_of log (vid_of (object_of attempt))))
+    ⊎ (HasEnded wire attempt (bound_of log (vid_of (object_of attempt)))
+    ⊎ IsFencedOff log attempt (bound_of log (vid_of (object_of attempt))))
 
 module _ (log : List Entry) where
   -- with fewer packets
@@ -35,7 +39,8 @@ module _ (log : List Entry) where
   fewer_writers wire later attempts fewer one = record {
     each = λ j attempt got. ⊎_elim
         (λ (under : IsUnderTheGrant log attempt (vid_of (object_of attempt))). inl under)
-        (λ (other : HasEnded wire attempt (bound_of log (vid_of (object_of attempt))) ⊎ IsFencedOff log attempt (bound_of log (vid_of (object_of attempt)))). ⊎_elim
+        (λ (other : HasEnded wire attempt (bound_of log (vid_of (object_of attempt)))
+        ⊎ IsFencedOff log attempt (bound_of log (vid_of (object_of attempt)))). ⊎_elim
         (λ (ended : HasEnded wire attempt (bound_of log (vid_of (object_of attempt)))). inr (inl (record {
           quiet = record { none = λ place target among. still j attempt got place target among (ended.quiet.none place target among) };
           before = ended.before;
@@ -44,23 +49,28 @@ module _ (log : List Entry) where
         (one.each j attempt got);
   }
     where
-      still : (j : ℕ) (attempt : AttemptRecord) → slice_get attempts j ≡ Some attempt → (place : ℕ) (target : NodeId) → slice_get attempt.targets place ≡ Some target
+      still : (j : ℕ) (attempt : AttemptRecord) → slice_get attempts j ≡ Some attempt → (place : ℕ) (target : NodeId)
+          → slice_get attempt.targets place ≡ Some target
           → is_name_in_wire wire (message_name_at attempt place) ≡ false → is_name_in_wire later (message_name_at attempt place) ≡ false
       still j attempt got place target among none = by_test (is_name_in_wire later (message_name_at attempt place)) refl
         where
-          by_test : (b : Bool) → is_name_in_wire later (message_name_at attempt place) ≡ b → is_name_in_wire later (message_name_at attempt place) ≡ false
+          by_test : (b : Bool) → is_name_in_wire later (message_name_at attempt place) ≡ b
+              → is_name_in_wire later (message_name_at attempt place) ≡ false
           by_test false is = is
-          by_test true is = absurd (both_ways (is_name_in_wire wire (message_name_at attempt place)) none (fewer j attempt got place target among is))
+          by_test true is =
+              absurd (both_ways (is_name_in_wire wire (message_name_at attempt place)) none (fewer j attempt got place target among is))
 
   -- with what is told of a message
   told_writer : (wire : Wire) (attempt : AttemptRecord) (fates : List MessageFate) → HasItsWriter log wire attempt
       → HasItsWriter log wire (record attempt { fates = fates })
   told_writer wire attempt fates (inl under) = inl (record { writer = under.writer; since = under.since })
-  told_writer wire attempt fates (inr (inl ended)) = inr (inl (record { quiet = record { none = ended.quiet.none }; before = ended.before }))
+  told_writer wire attempt fates (inr (inl ended)) =
+      inr (inl (record { quiet = record { none = ended.quiet.none }; before = ended.before }))
   told_writer wire attempt fates (inr (inr fenced)) =
       inr (inr (record { left = fenced.left; leave = fenced.leave; before = fenced.before; granted_later = fenced.granted_later }))
 
-  marked_writers : (wire : Wire) (told : MessageFate) (sender : NodeId) (number : ℕ) (attempts : List AttemptRecord) → ThereIsOneWriter log wire attempts
+  marked_writers : (wire : Wire) (told : MessageFate) (sender : NodeId) (number : ℕ) (attempts : List AttemptRecord)
+      → ThereIsOneWriter log wire attempts
       → ThereIsOneWriter log wire (attempts_with_fate told sender number attempts)
   marked_writers wire told sender number attempts one = record {
     each = λ j now got.
@@ -78,7 +88,8 @@ module _ (log : List Entry) where
         (got_more attempts new j attempt got);
   }
 
-  module _ (hosts hosts_after : Hosts) (wire : Wire) (attempts : List AttemptRecord) (of_incarnations : AttemptsAreOfIncarnations hosts wire attempts) where
+  module _ (hosts hosts_after : Hosts) (wire : Wire) (attempts : List AttemptRecord)
+      (of_incarnations : AttemptsAreOfIncarnations hosts wire attempts) where
     traffic_writers : {later : Wire} {after : List AttemptRecord} → Traffic hosts hosts_after wire attempts later after
         → ((attempt : AttemptRecord) → after ≡ attempts ++ attempt ∷ [] → IsUnderTheGrant log attempt (vid_of (object_of attempt)))
         → ThereIsOneWriter log wire attempts → ThereIsOneWriter log later after
@@ -89,7 +100,8 @@ module _ (log : List Entry) where
             → ((attempt : AttemptRecord) → after ≡ attempts ++ attempt ∷ [] → IsUnderTheGrant log attempt (vid_of (object_of attempt)))
             → ThereIsOneWriter log later attempts → ThereIsOneWriter log later after
         by_kind NothingMoves begins one = one
-        by_kind {later} (MessageIsLost name (Request to bytes) there) begins one = marked_writers later Doomed name.sender name.number attempts one
+        by_kind {later} (MessageIsLost name (Request to bytes) there) begins one =
+            marked_writers later Doomed name.sender name.number attempts one
         by_kind (MessageIsLost name (Reply from bytes) there) begins one = one
         by_kind (ReplyIsReceived name from bytes there) begins one = one
         by_kind {later} (RequestIsAnswered name to bytes up rsp there answer) begins one =

@@ -17,8 +17,8 @@ use Rattle.object_store.specs.Rows.{reaches}
 use Rattle.object_store.specs.Store.{SeenRow, rows_of, copy_of}
 use Rattle.cluster_script.specs.declared.statement.Statement.{Statement}
 use Rattle.vdi_directory.specs.Decisions.{log_effects}
-use Rattle.sheep_node.specs.declared.event.Event.{Event}
 use Rattle.sheep_world.specs.Began.{Began}
+use Rattle.sheep_world.specs.RunsWithAsks.{Move}
 use Rattle.overlap_law.specs.Each.{end_of_row, row_covers, has_reached, policy_in}
 use Rattle.overlap_law.specs.Holders.{targets_by}
 use Rattle.overlap_law.specs.Past.{MomentWithPast, run_with_past}
@@ -182,7 +182,7 @@ module _ (script : List Statement) (range : RunsAreInRange script) where
     };
   }
 
-  module _ (events : List Event) (start moment : MomentWithPast) (is : run_with_past script events ≡ Some start)
+  module _ (events : List Move) (start moment : MomentWithPast) (is : run_with_past script events ≡ Some start)
       (trail : MomentTrail script start moment) where
     pub truth-on_the_way : TruthHolds moment
     truth-on_the_way = on_the_way script TruthHolds kept_truth events start moment is trail

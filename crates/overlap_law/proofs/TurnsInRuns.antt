@@ -14,15 +14,15 @@ use Rattle.cluster_script.specs.Settings.{vnodes_of}
 use Rattle.disk_lock.specs.declared.holder.Holder.{Holder}
 use Rattle.epoch_log.specs.Epochs.{epoch_of}
 use Rattle.vdi_directory.specs.Decisions.{outcome, log_effects}
-use Rattle.sheep_node.specs.declared.event.Event.{Event}
 use Rattle.sheep_node.specs.May.{has_numbers}
 use Rattle.sheep_node.proofs.LogLaws.{epoch_more}
 use Rattle.sheep_world.specs.Began.{Began}
 use Rattle.sheep_world.specs.MembershipChanges.{join_of, last_weight}
 use Rattle.sheep_world.specs.NodeCauses.{NodeCause, GuestAsks, RequestComes, ReplyComes, LossIsTold, EntryIsRead, EntryIsPut, RecoveryTicks}
-use Rattle.sheep_world.specs.NodeCauses.{WorkIsRetried, IsCause, host_with_node, log_after_cause}
+use Rattle.sheep_world.specs.NodeCauses.{WorkIsRetried, ClientAsks, IsCause, host_with_node, log_after_cause}
 use Rattle.sheep_world.specs.Step.{EventOutcome}
 use Rattle.sheep_world.specs.World.{Host, is_host_up}
+use Rattle.sheep_world.specs.RunsWithAsks.{Move}
 use Rattle.overlap_law.specs.Attempts.{AttemptRecord, object_of}
 use Rattle.overlap_law.specs.Each.{EachAttempt}
 use Rattle.overlap_law.specs.Grants.{leaves_of, leave_of, takes_writer, may_take_writer}
@@ -134,6 +134,7 @@ module _ (script : List Statement) (range : RunsAreInRange script) (start : Mome
       ends_put script range start began n host there up (up_not_lost host up) put so awaited j attempt got under takes)
   stepped_ends awaited n host there up RecoveryTicks so entry more = absurd (never_pushed start.world.log entry more)
   stepped_ends awaited n host there up WorkIsRetried so entry more = absurd (never_pushed start.world.log entry more)
+  stepped_ends awaited n host there up (ClientAsks req ask) so entry more = absurd (never_pushed start.world.log entry more)
 
   ends : {before after : MomentWithPast} → MomentChange script start before after → IsTied before
       → PacketsAreOfOpenWorks before.world.hosts before.world.wire before.past.attempts → EndAtEntries before after
@@ -250,6 +251,6 @@ module _ (script : List Statement) (range : RunsAreInRange script) where
     };
   }
 
-  pub one_writer-in_run : (events : List Event) (start moment : MomentWithPast) → run_with_past script events ≡ Some start
+  pub one_writer-in_run : (events : List Move) (start moment : MomentWithPast) → run_with_past script events ≡ Some start
       → MomentTrail script start moment → ThereIsOneWriter moment.world.log moment.world.wire moment.past.attempts
   one_writer-in_run events start moment is trail = (on_the_way script HasOneWriter kept_one events start moment is trail).one

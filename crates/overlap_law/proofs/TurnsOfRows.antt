@@ -16,7 +16,6 @@ use Rattle.peer_service.specs.Epochs.{stays_open, row_entering}
 use Rattle.peer_service.specs.LogReading.{without_objects, read_entry}
 use Rattle.recovery.specs.Shown.{NodeView, index_in}
 use Rattle.vnode_table.specs.Targets.{targets_in}
-use Rattle.sheep_node.specs.declared.event.Event.{Event}
 use Rattle.sheep_node.specs.declared.input.Input.{Input}
 use Rattle.sheep_node.specs.declared.input.Input.TheVariants as inputs
 use Rattle.sheep_node.specs.LogReading.{epochs_with_entry}
@@ -28,18 +27,21 @@ use Rattle.sheep_node.proofs.LogLaws.{epoch_more}
 use Rattle.sheep_world.specs.World.{Host, World}
 use Rattle.sheep_world.specs.Opening.{format_entry, initial_world}
 use Rattle.sheep_world.specs.MembershipChanges.{join_of, last_weight}
-use Rattle.sheep_world.specs.NodeCauses.{NodeCause, GuestAsks, RequestComes, ReplyComes, LossIsTold, EntryIsRead, EntryIsPut, RecoveryTicks, WorkIsRetried, input_of_cause}
+use Rattle.sheep_world.specs.NodeCauses.{NodeCause, GuestAsks, RequestComes, ReplyComes, LossIsTold, EntryIsRead, EntryIsPut, RecoveryTicks}
+use Rattle.sheep_world.specs.NodeCauses.{WorkIsRetried, ClientAsks, input_of_cause}
 use Rattle.sheep_world.specs.EventKinds.{log_after_return}
 use Rattle.sheep_world.specs.HostChanges.{HostsKeep}
 use Rattle.sheep_world.specs.Began.{Began}
 use Rattle.sheep_world.proofs.BegunWorlds.{each_where}
 use Rattle.sheep_world.proofs.LogFrontLaws.{all_read}
 use Rattle.sheep_world.proofs.NodesByTheLog.{by_the_log}
+use Rattle.sheep_world.specs.RunsWithAsks.{Move}
 use Rattle.overlap_law.specs.Past.{MomentWithPast, run_with_past}
 use Rattle.overlap_law.specs.MomentChanges.{RunsAreInRange}
 use Rattle.overlap_law.specs.Rows.{RowsHaveEnds, OneRowIsOpen, RowsAreApart}
 use Rattle.overlap_law.proofs.NoRecoveredDue.{began-with_past}
-use Rattle.overlap_law.proofs.RowsInTurn.{AreInTurn, in_turn-created, in_turn-written, in_turn-entered, in_turn-purged, in_turn-closed, within_at, one_is_open, one_covers}
+use Rattle.overlap_law.proofs.RowsInTurn.{AreInTurn, in_turn-created, in_turn-written, in_turn-entered, in_turn-purged, in_turn-closed}
+use Rattle.overlap_law.proofs.RowsInTurn.{within_at, one_is_open, one_covers}
 use Rattle.overlap_law.proofs.StoredRows.{AreRowsSo, KeepsRows, step-rows_so}
 
 -- ---- a step of a node
@@ -102,6 +104,7 @@ no_return (EntryIsRead entry) entries epoch is = absurd (cc (is))
 no_return (EntryIsPut entry) entries epoch is = absurd (cc (is))
 no_return RecoveryTicks entries epoch is = absurd (cc (is))
 no_return WorkIsRetried entries epoch is = absurd (cc (is))
+no_return (ClientAsks req ask) entries epoch is = absurd (cc (is))
 
 -- ---- every world
 
@@ -152,7 +155,7 @@ module _ (script : List Statement) (range : RunsAreInRange script) where
 
 -- ---- every run
 
-module _ (script : List Statement) (range : RunsAreInRange script) (events : List Event) (moment : MomentWithPast)
+module _ (script : List Statement) (range : RunsAreInRange script) (events : List Move) (moment : MomentWithPast)
     (is : run_with_past script events ≡ Some moment) where
   in_turn : (n : ℕ) (host : Host) → tree.get moment.world.hosts n ≡ Some host → HasRowsInTurn host.node
   in_turn = rows_in_turn script range moment.world (began-with_past script events moment is)

@@ -13,7 +13,8 @@ use Rattle.overlap_law.specs.Grants.{granted_in}
 use Rattle.overlap_law.specs.Traffic.{IsInTurn}
 use Rattle.overlap_law.specs.Writers.{session_holder, bound_of, IsUnderTheGrant, HasEnded, IsFencedOff, ThereIsOneWriter, IsInOwnTurn}
 
-module _ (log : List Entry) (wire : Wire) (attempts : List AttemptRecord) (attempt : AttemptRecord) (own : IsInOwnTurn log wire attempts attempt) where
+module _ (log : List Entry) (wire : Wire) (attempts : List AttemptRecord) (attempt : AttemptRecord)
+    (own : IsInOwnTurn log wire attempts attempt) where
   abbrev vid : ℕ
   vid = vid_of (object_of attempt)
 
@@ -29,10 +30,12 @@ module _ (log : List Entry) (wire : Wire) (attempts : List AttemptRecord) (attem
       record {
         epochs = omega (arith, before, since, is);
         flying = λ place target packet.
-            absurd (both_ways (is_name_in_wire wire (message_name_at other place)) (ended.quiet.none place target packet.among) packet.there);
+            absurd (both_ways (is_name_in_wire wire (message_name_at other place)) (ended.quiet.none place target packet.among)
+            packet.there);
       }
 
-  behind_fenced : (other : AttemptRecord) → IsFencedOff log other (bound_of log (vid_of (object_of attempt))) → AreInOrder wire other attempt
+  behind_fenced : (other : AttemptRecord) → IsFencedOff log other (bound_of log (vid_of (object_of attempt)))
+      → AreInOrder wire other attempt
   behind_fenced other fenced =
       let before = fenced.before in
       let later = fenced.granted_later in
@@ -46,8 +49,11 @@ module _ (log : List Entry) (wire : Wire) (attempts : List AttemptRecord) (attem
       ⊎_elim
       (λ (under : IsUnderTheGrant log other (vid_of (object_of attempt))).
       let writer : session_holder other.gateway.0 other.session ≡ session_holder attempt.gateway.0 attempt.session
-      = same_Some (session_holder other.gateway.0 other.session) (session_holder attempt.gateway.0 attempt.session) (sym under.writer ∙ own.under.writer) in
+      = same_Some (session_holder other.gateway.0 other.session) (session_holder attempt.gateway.0 attempt.session)
+      (sym under.writer ∙ own.under.writer) in
       own.behind j other got same (ap (λ (h : Holder). h.node.0) writer) (ap (λ (h : Holder). h.session) writer) under.since)
-      (λ (past : HasEnded wire other (bound_of log (vid_of (object_of attempt))) ⊎ IsFencedOff log other (bound_of log (vid_of (object_of attempt)))).
+      (λ (past : HasEnded wire other (bound_of log (vid_of (object_of attempt)))
+      ⊎ IsFencedOff log other (bound_of log (vid_of (object_of attempt)))).
       ⊎_elim (behind_ended other) (behind_fenced other) past)
-      (subst (λ (v : ℕ). IsUnderTheGrant log other v ⊎ (HasEnded wire other (bound_of log v) ⊎ IsFencedOff log other (bound_of log v))) id (one.each j other got))
+      (subst (λ (v : ℕ). IsUnderTheGrant log other v ⊎ (HasEnded wire other (bound_of log v) ⊎ IsFencedOff log other (bound_of log v))) id
+      (one.each j other got))

@@ -25,7 +25,7 @@ use Rattle.sheep_node.proofs.NumberChanges.{both_in_chain}
 use Rattle.sheep_world.specs.World.{Host, World}
 use Rattle.sheep_world.specs.NodeSteps.{wire_with_request}
 use Rattle.sheep_world.specs.NodeCauses.{NodeCause, GuestAsks, RequestComes, ReplyComes, LossIsTold, EntryIsRead, EntryIsPut, RecoveryTicks}
-use Rattle.sheep_world.specs.NodeCauses.{WorkIsRetried, input_of_cause, event_of_cause, IsCause, wire_at_cause, host_with_node}
+use Rattle.sheep_world.specs.NodeCauses.{WorkIsRetried, ClientAsks, input_of_cause, event_of_cause, IsCause, wire_at_cause, host_with_node}
 use Rattle.sheep_world.specs.Began.{Began}
 use Rattle.sheep_world.proofs.NodeConditions.{reply_numbered}
 use Rattle.sheep_world.proofs.SenderMatch.{packets_of}
@@ -96,6 +96,7 @@ module _ (script : List Statement) (world : World) (n : ℕ) (host : Host) (read
   told_left (EntryIsPut entry) so number status told below = absurd told
   told_left RecoveryTicks so number status told below = absurd told
   told_left WorkIsRetried so number status told below = absurd told
+  told_left (ClientAsks req ask) so number status told below = absurd told
 
 -- ---- the nodes that aren't lost
 

@@ -14,8 +14,8 @@ use Rattle.sheep_node.specs.declared.course.Request.{Request}
 use Rattle.sheep_node.specs.SessionQueues.{session_among}
 use Rattle.sheep_world.specs.declared.progress.StartedRequest.{StartedRequest}
 use Rattle.sheep_world.specs.World.{Host, World}
-use Rattle.sheep_world.specs.Began.{Began}
-use Rattle.sheep_world.specs.Step.{EventOutcome, step}
+use Rattle.sheep_world.specs.Began.{Began, MakesMove}
+use Rattle.sheep_world.specs.Step.{EventOutcome}
 use Rattle.sheep_node.specs.declared.event.Event.{Event}
 use Rattle.overlap_law.specs.DiskEvents.{is_anothers, ends_write_of, IsUnderWay}
 use Rattle.overlap_law.specs.MomentChanges.{RunsAreInRange}
@@ -35,7 +35,7 @@ module _ (script : List Statement) (range : RunsAreInRange script) (req : ℕ) (
 
   -- an event keeps it where the disk is the session's
   abbrev pub IsKeptOnHeld : Type 0
-  IsKeptOnHeld = (world : World) → Began script world → (event : Event) (made : EventOutcome) → step script event world ≡ Some made
+  IsKeptOnHeld = (world : World) → Began script world → (event : Event) (made : EventOutcome) → MakesMove script event world made
       → GrowsTo world.log made.world.log → (n : ℕ) (host : Host) → tree.get world.hosts n ≡ Some host → host.is_lost ≡ false
       → (request : Request)
       → tree.get host.node.requests req ≡ Some request → (disk : Disk)
@@ -47,7 +47,7 @@ module _ (script : List Statement) (range : RunsAreInRange script) (req : ℕ) (
   -- ---- one event, at a node that has the request behind it
 
   module _ (world : World) (began : Began script world) (event : Event) (made : EventOutcome)
-      (happened : step script event world ≡ Some made) (later : Began script made.world) (grows : GrowsTo world.log made.world.log)
+      (happened : MakesMove script event world made) (later : Began script made.world) (grows : GrowsTo world.log made.world.log)
       (n : ℕ) (now : Host) (there_now : tree.get made.world.hosts n ≡ Some now) (up_now : now.is_lost ≡ false) where
     -- the disk that it has open then isn't given no more
     pub not_given : (opened : Disk) → IsUnderWay now.node req opened → IsGivenNoMore world.log opened.inode.vid → ⊥

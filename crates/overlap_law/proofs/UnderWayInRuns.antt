@@ -15,8 +15,9 @@ use Rattle.sheep_world.specs.Began.{Began}
 use Rattle.sheep_world.specs.Opening.{initial_world}
 use Rattle.sheep_world.specs.NodeCauses.{GuestAsks, IsCause}
 use Rattle.sheep_world.proofs.BegunWorlds.{goes_on}
-use Rattle.sheep_world.proofs.EventInversion.{happens}
+use Rattle.sheep_world.proofs.ClientReads.{goes_by_kind}
 use Rattle.sheep_world.proofs.WireAtOpening.{opening_found}
+use Rattle.sheep_world.specs.RunsWithAsks.{Move}
 use Rattle.overlap_law.specs.MomentChanges.{RunsAreInRange}
 use Rattle.overlap_law.specs.Past.{MomentWithPast, past_after_event, first_moment, run_with_past}
 use Rattle.overlap_law.proofs.BegunWriters.{IsBegunWriter, event_begins, event_grows, still_writer}
@@ -43,7 +44,7 @@ module _ (script : List Statement) (range : RunsAreInRange script) (req : ℕ) w
   events_begun : KeptByEvents script KnownAt
   unfolding past_after_event
   events_begun event before made began is all =
-      let kind = happens script event before.world made is in (
+      let kind = goes_by_kind script event before.world made is in (
         events_known script range req event before made began is all.0,
         λ so. ⊎_elim
             (λ (old : list_any (begins_write_of req) before.past.history ≡ true).
@@ -56,12 +57,12 @@ module _ (script : List Statement) (range : RunsAreInRange script) (req : ℕ) w
       )
 
   -- who began to write is a write or a check
-  pub writer_in_run : (events : List Event) (moment : MomentWithPast) → run_with_past script events ≡ Some moment
+  pub writer_in_run : (events : List Move) (moment : MomentWithPast) → run_with_past script events ≡ Some moment
       → list_any (begins_write_of req) moment.past.history ≡ true → IsWriterAt script req
   writer_in_run events moment is so = ((run-kept_by_events script KnownAt opens_begun events_begun events moment is).1 so).writer
 
   -- and was begun
-  pub begun-in_run : (events : List Event) (moment : MomentWithPast) → run_with_past script events ≡ Some moment
+  pub begun-in_run : (events : List Move) (moment : MomentWithPast) → run_with_past script events ≡ Some moment
       → list_any (begins_write_of req) moment.past.history ≡ true → IsBegunWriter script req moment.world.guests
   begun-in_run events moment is so = (run-kept_by_events script KnownAt opens_begun events_begun events moment is).1 so
 
@@ -91,7 +92,7 @@ module _ (script : List Statement) (range : RunsAreInRange script) (req : ℕ) w
           known,
           event_so script range req writer P keeps starts before.world began before.past.history all.1 event
               (λ n host there session other ask caused same. unbegun event before began all.0 n host there session other ask caused same)
-              made (happens script event before.world made is) is (goes_on script event before.world made began is) known.0.1.0.single,
+              made (goes_by_kind script event before.world made is) is (goes_on script event before.world made began is) known.0.1.0.single,
         )
       where
         unbegun : (event : Event) (before : MomentWithPast) (began : Began script before.world) → KnownAt before → (n : ℕ) (host : Host)
@@ -110,7 +111,7 @@ module _ (script : List Statement) (range : RunsAreInRange script) (req : ℕ) w
                 (may_have_items req before.past.history) known.0.0 known.0.1.0 known.0.1.1 session other ask caused was.session was.begun
                 same)
 
-    pub holds-in_run : (events : List Event) (moment : MomentWithPast) → run_with_past script events ≡ Some moment
+    pub holds-in_run : (events : List Move) (moment : MomentWithPast) → run_with_past script events ≡ Some moment
         → (n : ℕ) (host : Host) → tree.get moment.world.hosts n ≡ Some host → host.is_lost ≡ false
         → HoldsFor script range req writer P moment.world.log moment.past.history host
     holds-in_run events moment is = (run-kept_by_events script AllAt opens_all events_all events moment is).1

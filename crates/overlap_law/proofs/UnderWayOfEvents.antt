@@ -1,6 +1,7 @@
 -- Over each event what holds of the working disk on which a write or check is under way goes on to hold, if it does so where the disk is
 -- the session's, and holds where a request begins.
-use Rattle.std.proofs.Common.{◌≡◌, ◌≢◌, ◌⊎◌, inl, inr, ⊎_elim, ℕ, Bool, true, false, List, [], ◌∷◌, ◌++◌, Contains, Option, Some, None, refl, sym, ap, subst, ◌∙◌}
+use Rattle.std.proofs.Common.{◌≡◌, ◌≢◌, ◌⊎◌, inl, inr, ⊎_elim, ℕ, Bool, true, false, List, [], ◌∷◌, ◌++◌, Contains, Option, Some, None}
+use Rattle.std.proofs.Common.{refl, sym, ap, subst, ◌∙◌}
 use Rattle.std.specs.Prelude.{unwrap_or}
 use Rattle.std.specs.List.{list_any}
 use Rattle.std.specs.Option.{option_map, option_and_then}
@@ -12,6 +13,7 @@ use Rattle.proof_tools.proofs.FiniteMaps.{get-insert_cases, get-insert_same}
 use Rattle.object_id.specs.declared.entry.Entry.{Entry}
 use Rattle.object_id.specs.declared.entry.Entry.TheVariants as entries
 use Rattle.disk_history.specs.declared.event.HistEvent.{HistEvent}
+use Rattle.cluster_script.specs.Statements.{is_check}
 use Rattle.cluster_script.specs.declared.statement.Statement.{Statement}
 use Rattle.cluster_script.specs.NumberedRequests.{session_of}
 use Rattle.cluster_script.specs.Sessions.{ScriptSession}
@@ -27,34 +29,41 @@ use Rattle.sheep_node.specs.SessionQueues.{session_among}
 use Rattle.sheep_node.specs.State.{Node}
 use Rattle.sheep_node.specs.Step.{node_step}
 use Rattle.sheep_node.proofs.StepChain.{kept_by_chain, step_chain}
+use Rattle.sheep_world.specs.HistoryAdditions.{is_write}
 use Rattle.sheep_world.specs.declared.progress.SessionProgress.{SessionProgress}
 use Rattle.sheep_world.specs.declared.progress.StartedRequest.{StartedRequest}
 use Rattle.sheep_world.specs.World.{Host, World, is_host_up, no_progress, progress_at}
 use Rattle.sheep_world.specs.Asking.{session_asking}
-use Rattle.sheep_world.specs.Began.{Began}
+use Rattle.sheep_world.specs.Began.{Began, MakesMove}
 use Rattle.sheep_world.specs.Effects.{disk_open, open_disk_at, progress_with_started}
-use Rattle.sheep_world.specs.EventKinds.{log_after_return, outcome_of_step, EventKind, NodeStep, UntoldLoss, UnreadDelivery, NodeLoss, NodeLeave, NodeReweight, NodeJoin, NodeReturn, PhaseEnd}
+use Rattle.sheep_world.specs.EventKinds.{log_after_return, outcome_of_step, EventKind, NodeStep, UntoldLoss, UnreadDelivery, NodeLoss}
+use Rattle.sheep_world.specs.EventKinds.{NodeLeave, NodeReweight, NodeJoin, NodeReturn, PhaseEnd}
 use Rattle.sheep_world.specs.HostChanges.{joined_host, host_after_return}
 use Rattle.sheep_world.specs.MembershipChanges.{lost_host, join_of, last_weight}
-use Rattle.sheep_world.specs.NodeCauses.{NodeCause, GuestAsks, RequestComes, ReplyComes, LossIsTold, EntryIsRead, EntryIsPut, RecoveryTicks, WorkIsRetried, input_of_cause, IsCause, host_with_node, progress_at_cause, world_after_cause}
-use Rattle.sheep_world.specs.Step.{EventOutcome, step}
+use Rattle.sheep_world.specs.NodeCauses.{NodeCause, GuestAsks, RequestComes, ReplyComes, LossIsTold, EntryIsRead, EntryIsPut, RecoveryTicks}
+use Rattle.sheep_world.specs.NodeCauses.{WorkIsRetried, ClientAsks, input_of_cause, IsCause, host_with_node, progress_at_cause}
+use Rattle.sheep_world.specs.NodeCauses.{world_after_cause}
+use Rattle.sheep_world.specs.Step.{EventOutcome}
 use Rattle.sheep_world.proofs.StepsByCause.{sound_step}
 use Rattle.sheep_world.proofs.WireAtEvents.{is_ready}
 use Rattle.overlap_law.specs.DiskEvents.{is_anothers, ends_write_of, IsUnderWay}
 use Rattle.overlap_law.specs.MomentChanges.{RunsAreInRange}
 use Rattle.overlap_law.specs.WriterClaims.{IsGivenNoMore}
 use Rattle.overlap_law.proofs.AnswersInMoments.{not_lost}
+use Rattle.overlap_law.proofs.AsksInCauses.{no_such}
 use Rattle.overlap_law.proofs.DisksOfWriters.{IsWriterAt, on_open_disk}
 use Rattle.overlap_law.proofs.EndsOfWrites.{step_ends_none, loss_ends_none}
 use Rattle.overlap_law.proofs.HoldersInWorlds.{begins_alone, open_here, snapshot_no_more}
+use Rattle.overlap_law.proofs.ItemsOfReplies.{is_write_at, is_check_at}
 use Rattle.overlap_law.proofs.ItemsOfRequests.{begins_write_of}
 use Rattle.overlap_law.proofs.KnownSteps.{together}
 use Rattle.overlap_law.proofs.LogsGrow.{GrowsTo, log-by_cause, same_log}
 use Rattle.overlap_law.proofs.UnderWay.{HoldsFor, IsKeptOnHeld, not_given, on_held, still_holds}
 use Rattle.overlap_law.proofs.RepliesApart.{step_apart}
 use Rattle.overlap_law.proofs.RequestsInSteps.{received_replies, KnownIn, received_none, change_known}
-use Rattle.overlap_law.proofs.SessionsOfRequests.{IsAskedIn, asked_so_far, brought, are_asked}
-use Rattle.overlap_law.proofs.UnansweredRequests.{Guests, unanswered_in, back_empty, found_unanswered, others_unreplied, stays_by}
+use Rattle.overlap_law.proofs.SessionsOfRequests.{are_asked_by_line, of_test}
+use Rattle.overlap_law.proofs.UnansweredRequests.{Guests, unanswered_in, back_empty, found_unanswered, stays_by}
+use Rattle.overlap_law.proofs.RepliesElsewhere.{unreplied_elsewhere}
 
 -- the disk whose id a session had open
 abbrev IsOpened : Option Disk → ℕ → Type 0
@@ -106,12 +115,12 @@ module _ (script : List Statement) (range : RunsAreInRange script) (req : ℕ) (
       → HoldsFor script range req writer P world.log history host) (event : Event) where
     -- what an event leaves of every node that isn't lost
     abbrev pub Leaves : EventOutcome → Type 0
-    Leaves m = step script event world ≡ Some m → Began script m.world → IsSingle m.world.guests
+    Leaves m = MakesMove script event world m → Began script m.world → IsSingle m.world.guests
         → (n : ℕ) (now : Host) → tree.get m.world.hosts n ≡ Some now → now.is_lost ≡ false
         → HoldsFor script range req writer P m.world.log (history ++ m.grown) now
 
     -- at a node that had the request
-    stays : (m : EventOutcome) → step script event world ≡ Some m → Began script m.world → IsSingle m.world.guests
+    stays : (m : EventOutcome) → MakesMove script event world m → Began script m.world → IsSingle m.world.guests
         → GrowsTo world.log m.world.log
         → ((q : ℕ) (started : StartedRequest) → Contains (unanswered_in q world.guests) started → started.req ≡ req
         → Contains (unanswered_in q m.world.guests) started)
@@ -155,18 +164,14 @@ module _ (script : List Statement) (range : RunsAreInRange script) (req : ℕ) (
           → tree.get world.hosts m ≡ Some other → (request : Request) → tree.get other.node.requests req ≡ Some request
           → (reply : ℕ × GuestRsp) → Contains (after cause).outputs.replies reply → reply.0 ≢ req
       apart_other cause caused m other apart found request got reply among same =
-          let (session, disk, here) = (asked_so_far script n host.incarnation (input_of_cause cause) host.node
-          (brought script world n host cause caused) (are_asked script world began n host there)
-          (step_chain (input_of_cause cause) host.node)).replied reply among in
-          others_unreplied script n m host.incarnation other.incarnation req session request.session apart
-          (subst (λ (k : ℕ). IsAskedIn script n host.incarnation k session) same here)
-          (are_asked script world began m other found req request got)
+          unreplied_elsewhere script range.is_script world began n m host other there found apart req request got cause caused reply among
+          same
 
       -- a guest's request begins on the disk that its session has open
       module _ (unbegun : (session : ScriptSession) (other : ℕ) (ask : Ask) → IsCause script world n host (GuestAsks session other ask)
           → other ≡ req → list_any (begins_write_of req) history ≡ false) (session : ScriptSession) (other : ℕ) (ask : Ask)
           (caused : IsCause script world n host (GuestAsks session other ask)) (own : other ≡ req)
-          (happened : step script event world ≡ Some (outcome (GuestAsks session other ask)))
+          (happened : MakesMove script event world (outcome (GuestAsks session other ask)))
           (later : Began script (after (GuestAsks session other ask))) (single : IsSingle (after (GuestAsks session other ask)).guests)
           (opened : Disk) (way : IsUnderWay (stepped (GuestAsks session other ask)).node req opened) where
         abbrev guests_cause : NodeCause
@@ -238,7 +243,7 @@ module _ (script : List Statement) (range : RunsAreInRange script) (req : ℕ) (
       module _ (unbegun : (session : ScriptSession) (other : ℕ) (ask : Ask) → IsCause script world n host (GuestAsks session other ask)
           → other ≡ req → list_any (begins_write_of req) history ≡ false) where
         begins_so : (cause : NodeCause) → IsCause script world n host cause → (number : ℕ) (ask : Ask)
-            → input_of_cause cause ≡ inputs.Guest req number ask → step script event world ≡ Some (outcome cause)
+            → input_of_cause cause ≡ inputs.Guest req number ask → MakesMove script event world (outcome cause)
             → Began script (after cause) → IsSingle (after cause).guests → (opened : Disk) → IsUnderWay (stepped cause).node req opened
             → P (after cause).log (history ++ (outcome cause).grown) opened.inode.vid
         begins_so (GuestAsks session other asks) caused number ask from = new_holds unbegun session other asks caused (cc (from))
@@ -249,8 +254,14 @@ module _ (script : List Statement) (range : RunsAreInRange script) (req : ℕ) (
         begins_so (EntryIsPut entry) caused number ask from = absurd (cc (from))
         begins_so RecoveryTicks caused number ask from = absurd (cc (from))
         begins_so WorkIsRetried caused number ask from = absurd (cc (from))
+        begins_so (ClientAsks begins what) caused number ask from =
+            let same : begins ≡ req = cc (from) in
+            absurd (⊎_elim
+            (λ (is : is_write_at script req ≡ true). no_such caused is_write req same is)
+            (λ (is : is_check_at script req ≡ true). no_such caused is_check req same is)
+            writer)
 
-        own_so : (cause : NodeCause) → IsCause script world n host cause → step script event world ≡ Some (outcome cause)
+        own_so : (cause : NodeCause) → IsCause script world n host cause → MakesMove script event world (outcome cause)
             → Began script (after cause) → IsSingle (after cause).guests
             → HoldsFor script range req writer P (after cause).log (history ++ (outcome cause).grown) (stepped cause)
         own_so cause caused happened later single opened way =
@@ -281,7 +292,7 @@ module _ (script : List Statement) (range : RunsAreInRange script) (req : ℕ) (
     -- ---- every event
 
     -- at a node that is as it was
-    still_so : (m : EventOutcome) → step script event world ≡ Some m → Began script m.world → IsSingle m.world.guests
+    still_so : (m : EventOutcome) → MakesMove script event world m → Began script m.world → IsSingle m.world.guests
         → GrowsTo world.log m.world.log
         → ((q : ℕ) (started : StartedRequest) → Contains (unanswered_in q world.guests) started → started.req ≡ req
         → Contains (unanswered_in q m.world.guests) started)
@@ -317,7 +328,8 @@ module _ (script : List Statement) (range : RunsAreInRange script) (req : ℕ) (
           let lost : now.is_lost ≡ true = ap (λ (host : Host). host.is_lost) (sym own.1) in absurd (cc (lost, up)))
           (λ (other : (n ≢ h.n) × (tree.get world.hosts n ≡ Some now)).
           λ opened way.
-          let asked = are_asked script world began n now other.1 req way.request way.there in
+          let asked = are_asked_by_line script world began n now other.1 req way.request way.there
+          (⊎_elim (of_test script is_write req) (of_test script is_check req) writer) in
           still_so _ happened later single (same_log world.log world.log refl) (λ q started among own. among)
           (loss_ends_none req script world h.n h.host n now.incarnation way.request.session other.0 asked) n now other.1 got up opened way)
           (get-insert_cases world.hosts h.n (lost_host h.host) n now got))

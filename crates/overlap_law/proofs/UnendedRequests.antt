@@ -1,6 +1,7 @@
 -- In every run a request without reply hasn't ended in the history, as long as its gateway may still reply: the gateway isn't lost in the
 -- incarnation of the request's session, or that is still to come.
-use Rattle.std.proofs.Common.{◌≡◌, ◌≢◌, ◌⊎◌, inl, inr, ⊎_elim, arith, ℕ, ◌+◌, ◌<◌, ◌==◌, ◌&&◌, ◌||◌, Bool, true, false, List, [], ◌∷◌, ◌++◌, map, filter, fold, Contains, Option, Some, None, is_some, refl, sym, ap, subst, ◌∙◌}
+use Rattle.std.proofs.Common.{◌≡◌, ◌≢◌, ◌⊎◌, inl, inr, ⊎_elim, arith, ℕ, ◌+◌, ◌<◌, ◌==◌, ◌&&◌, ◌||◌, Bool, true, false, List, [], ◌∷◌, ◌++◌}
+use Rattle.std.proofs.Common.{map, filter, fold, Contains, Option, Some, None, is_some, refl, sym, ap, subst, ◌∙◌}
 use Rattle.std.specs.List.{list_any, slice_get}
 use Rattle.std.specs.Option.{option_map_or}
 use Rattle.std.specs.FinMap as tree
@@ -8,6 +9,7 @@ use Rattle.std.proofs.lemmas.Bool.{cases_eq, and_parts, both_ways, eq-eqb, eqb-t
 use Rattle.std.proofs.lemmas.List.Folds.{list_any-append}
 use Rattle.proof_tools.proofs.FiniteMaps.{get-insert_same, get-insert_other}
 use Rattle.proof_tools.proofs.Lists.{Contains-nil, Contains-cons_cases, Contains-cons, Contains-head, filter-contains}
+use Rattle.cluster_script.specs.NumberedRequests.{request_at}
 use Rattle.cluster_script.specs.declared.statement.Statement.{Statement}
 use Rattle.cluster_script.specs.declared.statement.Statement.TheVariants as lines
 use Rattle.cluster_script.specs.NumberedRequests.{numbers_of_session, numbered_requests, session_of}
@@ -17,30 +19,37 @@ use Rattle.peer_proto.specs.declared.guest.GuestRsp.{GuestRsp}
 use Rattle.sheep_node.specs.declared.event.Event.{Event}
 use Rattle.sheep_node.specs.declared.input.Input.TheVariants as inputs
 use Rattle.sheep_node.specs.Step.{node_step}
+use Rattle.sheep_world.specs.BegunRequests.{IsOfScript}
 use Rattle.sheep_world.specs.declared.progress.StartedRequest.{StartedRequest}
 use Rattle.sheep_world.specs.World.{Host, World}
 use Rattle.sheep_world.specs.Asking.{session_asking}
 use Rattle.sheep_world.specs.Began.{Began}
 use Rattle.sheep_world.specs.BegunRequests.{begun_count, WasBegun}
 use Rattle.sheep_world.specs.Effects.{disk_open}
-use Rattle.sheep_world.specs.EventKinds.{log_after_return, outcome_of_step, EventKind, NodeStep, UntoldLoss, UnreadDelivery, NodeLoss, NodeLeave, NodeReweight, NodeJoin, NodeReturn, PhaseEnd}
+use Rattle.sheep_world.specs.EventKinds.{log_after_return, outcome_of_step, EventKind, NodeStep, UntoldLoss, UnreadDelivery, NodeLoss}
+use Rattle.sheep_world.specs.EventKinds.{NodeLeave, NodeReweight, NodeJoin, NodeReturn, PhaseEnd}
 use Rattle.sheep_world.specs.HistoryAdditions.{disk_of, is_lost_write, is_of_incarnation, is_writing_request, writers_lost}
 use Rattle.sheep_world.specs.HostChanges.{joined_host, host_after_return}
 use Rattle.sheep_world.specs.MembershipChanges.{lost_host}
-use Rattle.sheep_world.specs.NodeCauses.{NodeCause, GuestAsks, RequestComes, ReplyComes, LossIsTold, EntryIsRead, EntryIsPut, RecoveryTicks, WorkIsRetried, input_of_cause, IsCause, host_with_node, progress_at_cause, world_after_cause, history_of_cause}
+use Rattle.sheep_world.specs.NodeCauses.{NodeCause, GuestAsks, RequestComes, ReplyComes, LossIsTold, EntryIsRead, EntryIsPut, RecoveryTicks}
+use Rattle.sheep_world.specs.NodeCauses.{WorkIsRetried, ClientAsks, input_of_cause, IsCause, host_with_node, progress_at_cause}
+use Rattle.sheep_world.specs.NodeCauses.{world_after_cause, history_of_cause}
 use Rattle.sheep_world.specs.NodeSteps.{progress_after_reply}
 use Rattle.sheep_world.specs.Step.{EventOutcome}
 use Rattle.sheep_world.proofs.BegunRequestLaws.{Grows}
 use Rattle.sheep_world.proofs.ControlLaws.{next_fits}
-use Rattle.sheep_world.proofs.EventInversion.{happens}
+use Rattle.sheep_world.proofs.ClientReads.{goes_by_kind}
+use Rattle.sheep_world.specs.RunsWithAsks.{Move}
 use Rattle.overlap_law.specs.DiskEvents.{ends_write_of}
 use Rattle.overlap_law.specs.MomentChanges.{RunsAreInRange}
 use Rattle.overlap_law.specs.Past.{MomentWithPast, past_after_event, first_moment, run_with_past}
 use Rattle.overlap_law.specs.Words.{Hosts}
 use Rattle.overlap_law.proofs.AskedOnDisks.{on_disk}
 use Rattle.overlap_law.proofs.EndsOfWrites.{step_ends_none, loss_ends_none_of}
+use Rattle.overlap_law.proofs.EndsOfWrites.{unasked_ends_none}
 use Rattle.overlap_law.proofs.KnownSteps.{together}
-use Rattle.overlap_law.proofs.RefusedInRuns.{AreAnswered, AreAnsweredAt, events_answered, found_grows, left_by, new_or_was, opens_answered, replies_begun, replies_grow, still_begun}
+use Rattle.overlap_law.proofs.RefusedInRuns.{AreAnswered, AreAnsweredAt, events_answered, found_grows, left_by, new_or_was, opens_answered}
+use Rattle.overlap_law.proofs.RefusedInRuns.{replies_begun, replies_grow, still_begun}
 use Rattle.overlap_law.proofs.RunsByEvents.{KeptByEvents, run-kept_by_events}
 use Rattle.overlap_law.proofs.SessionsOfRequests.{IsAskedIn}
 use Rattle.overlap_law.proofs.StartedAttempts.{IsStarted, next_is_new}
@@ -204,6 +213,7 @@ module _ (script : List Statement) where
       old_or_new (EntryIsPut entry) caused q started among = inl among
       old_or_new RecoveryTicks caused q started among = inl among
       old_or_new WorkIsRetried caused q started among = inl among
+      old_or_new (ClientAsks req ask) caused q started among = inl among
 
       -- it hasn't ended before
       pub found_unended : (cause : NodeCause) → IsCause script world n host cause → (m incarnation req session : ℕ)
@@ -230,12 +240,24 @@ module _ (script : List Statement) where
           let later = replies_grow script (replies cause) (progress_at_cause cause world) q in
           omega (arith, found, later)
 
+      -- what ends is of a request of the script
+      ended_of_script : (req : ℕ) (cause : NodeCause) → has_ended req (history_of_cause script cause world (after cause)) ≡ true
+          → IsOfScript script req
+      ended_of_script req cause is = by_line (request_at script req) refl
+        where
+          by_line : (o : Option Statement) → request_at script req ≡ o → is_some o ≡ true
+          by_line None none =
+              absurd (both_ways (has_ended req (history_of_cause script cause world (after cause)))
+              (unasked_ends_none req script world (after cause) none cause) is)
+          by_line (Some line) at = refl
+
       step_leaves : (cause : NodeCause) → IsCause script world n host cause → Leaves (outcome_of_step script n host cause world)
       step_leaves cause caused =
           leaves (after cause).guests (after cause).hosts (history_of_cause script cause world (after cause)) (step_grows cause)
           (λ req is. ⊎_elim
           (λ (replied : (reply : ℕ × GuestRsp) × Contains (replies cause) reply × (reply.0 ≡ req)).
-          let (session, was) = replies_begun script world began n host there cause caused replied.0 replied.1 in (
+          let (session, was) = replies_begun script world began n host there cause caused replied.0 replied.1
+          (subst (IsOfScript script) (sym replied.2) (ended_of_script req cause is)) in (
             session,
             subst (WasBegun script (after cause).guests session) replied.2
                 (still_begun script (progress_at_cause cause world) (after cause).guests
@@ -357,9 +379,9 @@ module _ (script : List Statement) where
   events_unended range event before made began is both = (
     events_answered script event before made began is both.0,
     event_leaves range before.world began before.past.refused both.0 before.past.history both.1 event made
-        (happens script event before.world made is),
+        (goes_by_kind script event before.world made is),
   )
 
-  pub unended-in_run : RunsAreInRange script → (events : List Event) (moment : MomentWithPast) → run_with_past script events ≡ Some moment
+  pub unended-in_run : RunsAreInRange script → (events : List Move) (moment : MomentWithPast) → run_with_past script events ≡ Some moment
       → UnendedAt moment
   unended-in_run range events moment is = run-kept_by_events script UnendedAt opens_unended (events_unended range) events moment is

@@ -1,5 +1,6 @@
 -- What a create or write that is served makes of the units of a row: those that it covers become its own part, and the others stay.
-use Rattle.std.proofs.Common.{◌≡◌, ◌⊎◌, inl, inr, ⊎_elim, arith, ℕ, ◌+◌, ◌*◌, ◌-◌, ◌<◌, ◌≤◌, nat_lt, nat_le, Bool, true, false, ◌&&◌, cond, List, length, drop, min, get_or, refl, sym, ap, subst, ◌∙◌}
+use Rattle.std.proofs.Common.{◌≡◌, ◌⊎◌, inl, inr, ⊎_elim, arith, ℕ, ◌+◌, ◌*◌, ◌-◌, ◌<◌, ◌≤◌, nat_lt, nat_le, Bool, true, false, ◌&&◌, cond}
+use Rattle.std.proofs.Common.{List, length, drop, min, get_or, refl, sym, ap, subst, ◌∙◌}
 use Rattle.std.proofs.lemmas.Bool.{and_parts, cases_lt, le-leb, leb-true, le-ltb, lt-leb, lt-ltb, ltb-true, ltb-false}
 use Rattle.std.proofs.lemmas.List.{ext_get_or, get_or-take, get_or-drop, length-drop, length-replicate, length-take}
 use Rattle.object_id.specs.declared.oid.Kind.{Kind}

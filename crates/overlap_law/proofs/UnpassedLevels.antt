@@ -1,5 +1,6 @@
 -- No search has passed the level at which the nodes hold what was made of its object: there are rows of as many indexes as a read needs.
-use Rattle.std.proofs.Common.{◌≡◌, ⊎_elim, arith, ℕ, ◌≤◌, ◌<◌, ◌==◌, ◌&&◌, not, Bool, true, false, List, length, Option, Some, None, is_some, refl, sym, ap, subst, ◌∙◌, slice_get}
+use Rattle.std.proofs.Common.{◌≡◌, ⊎_elim, arith, ℕ, ◌≤◌, ◌<◌, ◌==◌, ◌&&◌, not, Bool, true, false, List, length, Option, Some, None}
+use Rattle.std.proofs.Common.{is_some, refl, sym, ap, subst, ◌∙◌, slice_get}
 use Rattle.std.specs.FinMap as tree
 use Rattle.std.proofs.lemmas.Bool.{and_right, cases_lt, ne_eqb, or_from}
 use Rattle.object_id.specs.Oid.{kind_of}
@@ -11,11 +12,11 @@ use Rattle.vdi_directory.specs.Decisions.{log_effects}
 use Rattle.peer_proto.specs.Work.{policy_of}
 use Rattle.recovery.specs.Shown.{first_in}
 use Rattle.recovery.specs.State.{Search, is_listed, is_finished, still_on, search_on}
-use Rattle.sheep_node.specs.declared.event.Event.{Event}
 use Rattle.sheep_node.specs.RecoveryView.{recovery_state_of}
 use Rattle.sheep_world.specs.World.{Host}
 use Rattle.sheep_world.specs.Began.{Began}
 use Rattle.sheep_world.proofs.LogAtOpening.{log-holds}
+use Rattle.sheep_world.specs.RunsWithAsks.{Move}
 use Rattle.overlap_law.specs.Attempts.{AttemptRecord, object_of}
 use Rattle.overlap_law.specs.Words.{is_made}
 use Rattle.overlap_law.specs.Holders.{targets_by}
@@ -37,7 +38,8 @@ use Rattle.overlap_law.proofs.TermsInRuns.{unsettled-on_the_way}
 
 -- ---- the log of each moment is one
 
-pub kept_log : (script : List Statement) → RunsAreInRange script → KeptByChanges script (λ (moment : MomentWithPast). IsLog moment.world.log)
+pub kept_log : (script : List Statement) → RunsAreInRange script
+    → KeptByChanges script (λ (moment : MomentWithPast). IsLog moment.world.log)
 kept_log script range = record {
   opens = (log-holds script range.is_script range.room (first_moment script).world (opening_began script range)).log;
   keeps = λ start before after began change log. ⊎_elim
@@ -46,9 +48,10 @@ kept_log script range = record {
       (ends_or_same script began change);
 }
 
-module _ (script : List Statement) (range : RunsAreInRange script) (events : List Event) (start moment : MomentWithPast)
+module _ (script : List Statement) (range : RunsAreInRange script) (events : List Move) (start moment : MomentWithPast)
     (is : run_with_past script events ≡ Some start) (trail : MomentTrail script start moment) (good : ℕ → Bool) (has : HasMade good moment)
-    (passed : PassedLevelsLackRows (targets_by moment.world.log) moment.world.log (log_effects moment.world.log) good moment.world.hosts) where
+    (passed : PassedLevelsLackRows (targets_by moment.world.log) moment.world.log (log_effects moment.world.log) good
+    moment.world.hosts) where
   abbrev terms : TermsHold moment
   terms = has.terms
 
@@ -62,7 +65,8 @@ module _ (script : List Statement) (range : RunsAreInRange script) (events : Lis
     listed true so = refl
     listed false unlisted =
         let none : search_on (recovery_state_of host.node) ≡ None
-        = ap (still_on host.node.peer.pending) ((listing-on_the_way script range events start moment is trail).search n host at up unlisted) in
+        = ap (still_on host.node.peer.pending) ((listing-on_the_way script range events start moment is trail).search n host at up
+        unlisted) in
         absurd (cc (none, on))
 
     -- and it isn't, as the object is pending
@@ -71,7 +75,8 @@ module _ (script : List Statement) (range : RunsAreInRange script) (events : Lis
         or_from (host.node.recovery.epoch == 1) (is_listed host.node.recovery && not (is_some (first_in host.node.peer.pending)))
         (ne_eqb host.node.recovery.epoch 1 (λ (same : host.node.recovery.epoch ≡ 1). omega (arith, same, later)))
         (and_right (is_listed host.node.recovery) (not (is_some (first_in host.node.peer.pending)))
-        (ap (λ (o : Option ℕ). not (is_some o)) ((search_first-on_the_way script range events start moment is trail).first n host at up search on)))
+        (ap (λ (o : Option ℕ). not (is_some o)) ((search_first-on_the_way script range events start moment is trail).first n host at up
+        search on)))
 
     module _ (j : ℕ) (attempt : AttemptRecord) (got : slice_get moment.past.attempts j ≡ Some attempt)
         (is_good : good (object_of attempt) ≡ true) (own : object_of attempt ≡ search.oid) (made : is_made attempt ≡ true)
@@ -117,14 +122,17 @@ module _ (script : List Statement) (range : RunsAreInRange script) (events : Lis
           let below = found.below in
           let most = within in
           let few : length (indexes_held (targets_by moment.world.log) moment.world.log moment.world.hosts search.oid
-          (level_of moment.world.log attempt) host.node.recovery.epoch (policy_of attempt.work)) < need_of (policy_of attempt.work) (kind_of search.oid)
+          (level_of moment.world.log attempt) host.node.recovery.epoch (policy_of attempt.work)) < need_of (policy_of attempt.work)
+          (kind_of search.oid)
           = passed.each n host at up search (policy_of attempt.work) (level_of moment.world.log attempt) on
           (ap good (sym own) ∙ is_good) at_oid lower found.below in
           let enough : need_of (policy_of attempt.work) (kind_of search.oid)
           ≤ length (indexes_held (targets_by moment.world.log) moment.world.log moment.world.hosts search.oid
           (level_of moment.world.log attempt) host.node.recovery.epoch (policy_of attempt.work))
-          = enough_indexes moment.world.log (log_effects moment.world.log) moment.world.hosts (placed-on_the_way script range events start moment is trail) search.oid
-          (level_of moment.world.log attempt) (policy_of attempt.work) at_oid is_log (omega (arith, below, most)) host.node.recovery.epoch found in
+          = enough_indexes moment.world.log (log_effects moment.world.log) moment.world.hosts
+          (placed-on_the_way script range events start moment is trail) search.oid
+          (level_of moment.world.log attempt) (policy_of attempt.work) at_oid is_log (omega (arith, below, most)) host.node.recovery.epoch
+          found in
           absurd (omega (arith, few, enough)))
           (λ (kept : level_of moment.world.log attempt ≤ search.level). kept)
           (cases_lt search.level (level_of moment.world.log attempt))

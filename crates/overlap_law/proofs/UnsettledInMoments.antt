@@ -1,5 +1,6 @@
 -- The settled epoch is below that of a node that recovers: else the node would be one of those who recovered in it.
-use Rattle.std.proofs.Common.{◌≡◌, ◌≢◌, ⊎_elim, arith, ℕ, ◌≤◌, ◌<◌, ◌==◌, ◌&&◌, ◌||◌, not, Bool, true, false, Some, is_some, refl, sym, ap, ◌∙◌}
+use Rattle.std.proofs.Common.{◌≡◌, ◌≢◌, ⊎_elim, arith, ℕ, ◌≤◌, ◌<◌, ◌==◌, ◌&&◌, ◌||◌, not, Bool, true, false, Some, is_some, refl, sym, ap}
+use Rattle.std.proofs.Common.{◌∙◌}
 use Rattle.std.specs.FinMap as tree
 use Rattle.std.proofs.lemmas.Bool.{cases_lt, eqb-false, or_parts}
 use Rattle.epoch_log.specs.Members.{is_member}
@@ -33,7 +34,8 @@ module _ (moment : MomentWithPast) (terms : TermsHold moment) (n : ℕ) (host : 
   later =
       let begun = (terms.sound.each n host there).sound.recovers.begun in
       let apart : host.node.recovery.epoch ≢ 1 = eqb-false host.node.recovery.epoch 1
-      (or_parts (host.node.recovery.epoch == 1) (is_listed host.node.recovery && not (is_some (first_in host.node.peer.pending))) unfinished).0 in
+      (or_parts (host.node.recovery.epoch == 1) (is_listed host.node.recovery && not (is_some (first_in host.node.peer.pending)))
+      unfinished).0 in
       omega (arith, begun, apart)
 
   -- it is a member since it came to its epoch

@@ -1,8 +1,8 @@
 -- In every run in range the attempts of a refused request are mute, no message of them was lost, and nothing of them is in flight.
-use Rattle.std.proofs.Common.{◌≡◌, Bool, true, false, List, Some, option_map, refl, ap}
+use Rattle.std.proofs.Common.{◌≡◌, Bool, true, false, List, Some, refl}
 use Rattle.cluster_script.specs.declared.statement.Statement.{Statement}
-use Rattle.sheep_node.specs.declared.event.Event.{Event}
 use Rattle.sheep_world.specs.Began.{Began}
+use Rattle.sheep_world.specs.RunsWithAsks.{Move}
 use Rattle.overlap_law.specs.Past.{MomentWithPast, moment_after, first_moment, run_with_past}
 use Rattle.overlap_law.specs.Headline.{RefusedMakeNothing, has_lost}
 use Rattle.overlap_law.specs.OpenWorks.{RefusedRequestsAreMute}
@@ -16,6 +16,7 @@ use Rattle.overlap_law.proofs.RefusedInRuns.{AreAnsweredAt, opens_answered, even
 use Rattle.overlap_law.proofs.RefusedMute.{RefusedAreOver, change_over}
 use Rattle.overlap_law.proofs.RunsByEvents.{KeptByEvents, run-kept_by_events}
 use Rattle.overlap_law.proofs.TouchedInRuns.{HoldsAt, along_trail, opens_so, events_keep, lost_place}
+use Rattle.overlap_law.proofs.GoingOn.{next_by}
 
 module _ (script : List Statement) (range : RunsAreInRange script) where
   -- what holds of the refused in the middle of an event
@@ -30,7 +31,8 @@ module _ (script : List Statement) (range : RunsAreInRange script) where
     pub answered : AreAnsweredAt script moment
     pub too : HoldsToo moment
 
-  along : (start : MomentWithPast) → Began script start.world → HoldsThen start → {moment : MomentWithPast} → MomentTrail script start moment → HoldsToo moment
+  along : (start : MomentWithPast) → Began script start.world → HoldsThen start → {moment : MomentWithPast}
+      → MomentTrail script start moment → HoldsToo moment
   along start began first Still = first.too
   along start began first (Then {moment} {next} trail change) =
       let too = along start began first trail in
@@ -41,8 +43,8 @@ module _ (script : List Statement) (range : RunsAreInRange script) where
         worked = change_worked script range start began moment next change first.holds.started too.worked;
         scripts = scripts;
         over = change_over script range start moment next began
-            (record { tied = first.holds.within.tied; lost = first.holds.within.lost; started = first.holds.started }) first.answered.started
-            change before.tied after.tied after.awaited before.due too.worked scripts too.over;
+            (record { tied = first.holds.within.tied; lost = first.holds.within.lost; started = first.holds.started })
+            first.answered.started change before.tied after.tied after.awaited before.due too.worked scripts too.over;
       }
 
   opens_then : HoldsThen (first_moment script)
@@ -64,22 +66,25 @@ module _ (script : List Statement) (range : RunsAreInRange script) where
   events_then event before made began is first = record {
     holds = events_keep script range event before made began is first.holds;
     answered = events_answered script event before made began is first.answered;
-    too = along before began first (event_trail script event before (moment_after script event before made) (ap (option_map (moment_after script event before)) is));
+    too = along before began first (event_trail script is.move before (moment_after script event before made)
+        (next_by script event before made is));
   }
 
-  holds_then : (events : List Event) (moment : MomentWithPast) → run_with_past script events ≡ Some moment → HoldsThen moment
+  holds_then : (events : List Move) (moment : MomentWithPast) → run_with_past script events ≡ Some moment → HoldsThen moment
   holds_then = run-kept_by_events script HoldsThen opens_then events_then
 
-  pub untouched-within : (events : List Event) (start moment : MomentWithPast) → run_with_past script events ≡ Some start → MomentTrail script start moment
+  pub untouched-within : (events : List Move) (start moment : MomentWithPast) → run_with_past script events ≡ Some start
+      → MomentTrail script start moment
       → RefusedRequestsAreMute moment.world.wire moment.past.refused moment.past.attempts
-  untouched-within events start moment is trail = (along start (began-with_past script events start is) (holds_then events start is) trail).over.mute
+  untouched-within events start moment is trail =
+      (along start (began-with_past script events start is) (holds_then events start is) trail).over.mute
 
-  pub untouched-in_run : (events : List Event) (moment : MomentWithPast) → run_with_past script events ≡ Some moment
+  pub untouched-in_run : (events : List Move) (moment : MomentWithPast) → run_with_past script events ≡ Some moment
       → RefusedRequestsAreMute moment.world.wire moment.past.refused moment.past.attempts
   untouched-in_run events moment is = (holds_then events moment is).too.over.mute
 
   -- so no message of a refused request succeeded or was lost
-  pub nothing_made-in_run : (events : List Event) (moment : MomentWithPast) → run_with_past script events ≡ Some moment
+  pub nothing_made-in_run : (events : List Move) (moment : MomentWithPast) → run_with_past script events ≡ Some moment
       → RefusedMakeNothing moment.past.refused moment.past.lost moment.past.attempts
   nothing_made-in_run events moment is j attempt got refused = record {
     none_succeeded = over.mute.mute j attempt got refused;

@@ -24,11 +24,12 @@ use Rattle.sheep_node.specs.May.{is_disk_course}
 use Rattle.sheep_node.specs.SessionQueues.{session_among}
 use Rattle.sheep_node.specs.StepState.{StepState}
 use Rattle.sheep_node.specs.Changes as changes
-use Rattle.sheep_world.specs.Began.{Began}
+use Rattle.sheep_world.specs.Began.{Began, MakesMove}
 use Rattle.sheep_world.specs.EventKinds.{outcome_of_step}
 use Rattle.sheep_world.specs.NodeCauses.{event_of_cause}
-use Rattle.sheep_world.specs.Step.{EventOutcome, step}
+use Rattle.sheep_world.specs.Step.{EventOutcome}
 use Rattle.sheep_world.specs.World.{Host}
+use Rattle.sheep_world.specs.RunsWithAsks.{Move}
 use Rattle.overlap_law.specs.AloneItems.{IsOwnItem}
 use Rattle.overlap_law.specs.Attempts.{AttemptRecord}
 use Rattle.overlap_law.specs.Headline.{ledger_of}
@@ -44,21 +45,21 @@ use Rattle.overlap_law.specs.WrittenBlocks.{blocks_per_object, items_at}
 use Rattle.overlap_law.proofs.AloneItemsInRuns.{own_items-in_run}
 use Rattle.overlap_law.proofs.AskedInMoments.{RequestsAreAsked, asked_at}
 use Rattle.overlap_law.proofs.AttemptsOfScript.{AreForRequests, kept_for}
-use Rattle.overlap_law.proofs.CoursesOfAsks.{IsPlacedIn}
-use Rattle.overlap_law.proofs.CoursesOfScript.{asked_by, BeganOn, requests_placed}
-use Rattle.overlap_law.proofs.DisksOfWriters.{AsksToWrite}
+use Rattle.overlap_law.proofs.CoursesOfScript.{asked_by}
+use Rattle.overlap_law.proofs.DisksOfWriters.{AsksToWrite, of_writer}
 use Rattle.overlap_law.proofs.ItemsStayOpen.{own_item}
 use Rattle.overlap_law.proofs.NoRecoveredDue.{began-with_past}
 use Rattle.overlap_law.proofs.RunsByChanges.{on_the_way}
 use Rattle.overlap_law.proofs.RunsWithOneMore.{run_with_one_more}
 use Rattle.overlap_law.proofs.SoundInRuns.{item_writer, open_under_way-in_run}
-use Rattle.overlap_law.proofs.SessionsOfRequests.{are_asked}
+use Rattle.overlap_law.proofs.SessionsOfRequests.{are_asked, by_line, of_asking}
 use Rattle.overlap_law.proofs.SoundWaitersInRuns.{made_none-in_run}
 use Rattle.overlap_law.proofs.StandingItems.{stands_among}
 use Rattle.overlap_law.proofs.UnwrittenItems.{open_there}
 use Rattle.overlap_law.proofs.UnwrittenMeets.{WritesAt, none_at, same_session}
 use Rattle.overlap_law.proofs.UnwrittenReplies.{asks_so}
 use Rattle.overlap_law.proofs.UnwrittenSteps.{own_block, writes_here}
+use Rattle.overlap_law.proofs.PlacedOfScript.{placed_of_script}
 
 -- a driver isn't a write's
 abbrev pub IsNoWrite : Driver → Type 0
@@ -87,7 +88,7 @@ no_driver asked writes on ask drivers.Answered of is none = is
 
 -- ---- where a moment has the request that writes
 
-module _ (script : List Statement) (range : RunsAreInRange script) (events : List Event) (start moment : MomentWithPast)
+module _ (script : List Statement) (range : RunsAreInRange script) (events : List Move) (start moment : MomentWithPast)
     (ran : run_with_past script events ≡ Some start) (trail : MomentTrail script start moment)
     (asked_there : RequestsAreAsked script moment)
     (n : ℕ) (host : Host) (there : tree.get moment.world.hosts n ≡ Some host) (up : host.is_lost ≡ false) (req unit : ℕ)
@@ -105,7 +106,8 @@ module _ (script : List Statement) (range : RunsAreInRange script) (events : Lis
   begun : (ask : DiskAsk) → w.request.course ≡ Waiting ask → ⊥
   begun ask waits =
       let of = on_the_way script (AreForRequests script) (kept_for script range) events start moment ran trail j made made_there in
-      let asked = asked_there w.n w.host w.there q w.request w.got in
+      let asked = by_line script w.n w.host.incarnation q w.request.session (asked_there w.n w.host w.there q w.request w.got)
+      (of_asking script q made.session of.asking) in
       let session : made.session ≡ w.request.session = same_Some made.session w.request.session (sym of.asking ∙ asked.asking) in
       let declared : of.session ≡ asked.of
       = same_Some of.session asked.of (sym of.declared ∙ ap (session_numbered script) session ∙ asked.declared) in
@@ -137,7 +139,7 @@ module _ (script : List Statement) (range : RunsAreInRange script) (events : Lis
 
 -- ---- at the end of an event
 
-module _ (script : List Statement) (range : RunsAreInRange script) (events : List Event) (moment : MomentWithPast)
+module _ (script : List Statement) (range : RunsAreInRange script) (events : List Move) (moment : MomentWithPast)
     (run : run_with_past script events ≡ Some moment) where
   began : Began script moment.world
   began = began-with_past script events moment run
@@ -153,8 +155,8 @@ module _ (script : List Statement) (range : RunsAreInRange script) (events : Lis
     writes_then : WritesAt script range events moment moment run Still q vid block
     writes_then =
         let writer = item_writer script range events moment run q vid block place disk item known below got its in
-        let (start_disk, at, course) = subst (IsPlacedIn (asked_by script) (BeganOn script moment.world.guests) q way.host.node.sessions)
-        way.way.there (requests_placed script range moment.world began way.n way.host way.there q) in
+        let (start_disk, at, course) = placed_of_script script range moment.world began way.n way.host way.there q way.way.request
+        way.way.there (of_writer script q writer) in
         record {
           n = way.n;
           host = way.host;
@@ -188,12 +190,12 @@ module _ (script : List Statement) (range : RunsAreInRange script) (events : Lis
 
 -- ---- on the way of one
 
-module _ (script : List Statement) (range : RunsAreInRange script) (events : List Event) (start : MomentWithPast)
+module _ (script : List Statement) (range : RunsAreInRange script) (events : List Move) (start : MomentWithPast)
     (ran : run_with_past script events ≡ Some start) where
-  ended : (event : Event) (made : EventOutcome) → step script event start.world ≡ Some made
+  ended : (event : Event) (made : EventOutcome) → MakesMove script event start.world made
       → NoneMeet (moment_after script event start made)
   ended event made happened =
-      at_end script range (events ++ event ∷ []) (moment_after script event start made)
+      at_end script range (events ++ happened.move ∷ []) (moment_after script event start made)
       (run_with_one_more script event made events start happened ran)
 
   in_step : (on : SteppingNode) → IsStepping script start.world on → StepsByChanges on.cause → (so_far : StepState)

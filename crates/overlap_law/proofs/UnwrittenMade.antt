@@ -6,12 +6,12 @@ use Rattle.proof_tools.proofs.FiniteMaps.{get-insert_cases, get-insert_other, ge
 use Rattle.cluster_script.specs.declared.statement.Statement.{Statement}
 use Rattle.peer_proto.specs.declared.guest.GuestRsp.{GuestRsp}
 use Rattle.sheep_node.specs.declared.course.Request.{Request}
-use Rattle.sheep_node.specs.declared.event.Event.{Event}
 use Rattle.sheep_node.specs.StepState.{StepState}
 use Rattle.sheep_node.proofs.OneWorkParts.{Requests}
 use Rattle.sheep_world.specs.Began.{Began}
 use Rattle.sheep_world.specs.NodeCauses.{host_with_node, input_of_cause}
 use Rattle.sheep_world.specs.World.{Host}
+use Rattle.sheep_world.specs.RunsWithAsks.{Move}
 use Rattle.overlap_law.specs.Attempts.{AttemptRecord}
 use Rattle.overlap_law.specs.MomentChanges as moments
 use Rattle.overlap_law.specs.MomentChanges.{MomentChange, MomentTrail, Still, Then, RunsAreInRange}
@@ -34,7 +34,7 @@ pub record IsAtNode (moment : MomentWithPast) (q : ℕ) : Type 0 where
 abbrev pub IsAtNodeOrTold : MomentWithPast → ℕ → Type 0
 IsAtNodeOrTold moment q = IsAtNode moment q ⊎ ((rsp : GuestRsp) × Contains moment.world.outputs.replies (q, rsp))
 
-module _ (script : List Statement) (range : RunsAreInRange script) (events : List Event) (start : MomentWithPast)
+module _ (script : List Statement) (range : RunsAreInRange script) (events : List Move) (start : MomentWithPast)
     (ran : run_with_past script events ≡ Some start) (q : ℕ) (fresh : IsStarted script start.world.guests q → ⊥) where
   began : Began script start.world
   began = began-with_past script events start ran
@@ -44,7 +44,7 @@ module _ (script : List Statement) (range : RunsAreInRange script) (events : Lis
 
   none_at_start : (j : ℕ) (was : AttemptRecord) → slice_get start.past.attempts j ≡ Some was → was.req ≡ q → ⊥
   none_at_start j was got own =
-      fresh (subst (IsStarted script start.world.guests) own (started-in_run script events start ran j was got))
+      fresh (subst (IsStarted script start.world.guests) own (started-in_run script range events start ran j was got))
 
   -- an attempt that begins is of a request that is there
   opened_there : (after : MomentWithPast) (now : AttemptRecord) → IsOpened script start after now → now.req ≡ q → IsAtNode after q

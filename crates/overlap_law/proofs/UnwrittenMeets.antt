@@ -25,13 +25,13 @@ use Rattle.sheep_node.specs.declared.ask.Ask.TheVariants as asks
 use Rattle.sheep_node.specs.declared.course.Course.{Course}
 use Rattle.sheep_node.specs.declared.course.Course.TheVariants.{Waiting, Driving, Commanding, Checking, DoingWork, AwaitingDecision}
 use Rattle.sheep_node.specs.declared.course.Request.{Request}
-use Rattle.sheep_node.specs.declared.event.Event.{Event}
 use Rattle.sheep_node.specs.declared.session.Session.{Session}
 use Rattle.sheep_node.specs.May.{is_disk_course}
 use Rattle.sheep_node.specs.SessionQueues.{session_among, queue_in, is_disk_request_of, IsQueued}
 use Rattle.sheep_node.specs.State.{Node, new_session}
 use Rattle.sheep_node.proofs.SessionViews.{IsSeen}
 use Rattle.sheep_world.specs.World.{Host}
+use Rattle.sheep_world.specs.RunsWithAsks.{Move}
 use Rattle.vdi_ops.specs.Op.{Op}
 use Rattle.overlap_law.specs.MomentChanges.{MomentTrail, RunsAreInRange}
 use Rattle.overlap_law.specs.Past.{MomentWithPast, run_with_past}
@@ -209,7 +209,7 @@ module _ (script : List Statement) (range : RunsAreInRange script) (host : Host)
 
 -- ---- at a moment on the way of an event
 
-module _ (script : List Statement) (range : RunsAreInRange script) (events : List Event) (start moment : MomentWithPast)
+module _ (script : List Statement) (range : RunsAreInRange script) (events : List Move) (start moment : MomentWithPast)
     (ran : run_with_past script events ≡ Some start) (trail : MomentTrail script start moment) where
   well_here : (n : ℕ) (host : Host) → tree.get moment.world.hosts n ≡ Some host → HasWellWorks host.node
   well_here = well_along script range start (began-with_past script events start ran) trail

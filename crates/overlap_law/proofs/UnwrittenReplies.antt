@@ -16,7 +16,6 @@ use Rattle.sheep_node.specs.declared.ask.Ask.{Ask}
 use Rattle.sheep_node.specs.declared.check_write.CheckWrite.{CheckWrite}
 use Rattle.sheep_node.specs.declared.course.Course.TheVariants.{Checking}
 use Rattle.sheep_node.specs.declared.course.Request.{Request}
-use Rattle.sheep_node.specs.declared.event.Event.{Event}
 use Rattle.sheep_node.specs.declared.input.Input.TheVariants as inputs
 use Rattle.sheep_node.specs.CheckWrites.{check_write_on, has_check_written, has_course_written}
 use Rattle.sheep_node.specs.SessionQueues.{session_among}
@@ -26,8 +25,9 @@ use Rattle.sheep_node.proofs.StepChain.{kept_by_chain}
 use Rattle.sheep_world.specs.Began.{Began}
 use Rattle.sheep_world.specs.HistoryAdditions.{gateway_of, has_begun_check_write, is_write_of}
 use Rattle.sheep_world.specs.NodeCauses.{NodeCause, GuestAsks, RequestComes, ReplyComes, LossIsTold, EntryIsRead, EntryIsPut, RecoveryTicks}
-use Rattle.sheep_world.specs.NodeCauses.{WorkIsRetried, input_of_cause, IsCause, progress_at_cause}
+use Rattle.sheep_world.specs.NodeCauses.{WorkIsRetried, ClientAsks, input_of_cause, IsCause, progress_at_cause}
 use Rattle.sheep_world.specs.World.{Host, World, node_at}
+use Rattle.sheep_world.specs.RunsWithAsks.{Move}
 use Rattle.overlap_law.specs.DiskEvents.{ends_write_of}
 use Rattle.overlap_law.specs.HistoryGrowth.{added_at_cause, added_by_reply, check_write_at, world_at_cause}
 use Rattle.overlap_law.specs.MomentChanges.{RunsAreInRange}
@@ -37,9 +37,9 @@ use Rattle.overlap_law.specs.Words.{Hosts}
 use Rattle.overlap_law.proofs.AloneOnDisks.{write_asks}
 use Rattle.overlap_law.proofs.AloneStepsOnDisks.{check_asked}
 use Rattle.overlap_law.proofs.ComingWrites.{IsComing, coming}
-use Rattle.overlap_law.proofs.CoursesOfAsks.{IsPlacedIn, id_of_disk}
-use Rattle.overlap_law.proofs.CoursesOfScript.{asked_by, BeganOn, found_began, requests_placed}
-use Rattle.overlap_law.proofs.DisksOfWriters.{AsksToWrite, IsWriterAt, plain_course}
+use Rattle.overlap_law.proofs.CoursesOfAsks.{id_of_disk}
+use Rattle.overlap_law.proofs.CoursesOfScript.{asked_by, BeganOn, found_began}
+use Rattle.overlap_law.proofs.DisksOfWriters.{AsksToWrite, IsWriterAt, plain_course, of_writer}
 use Rattle.overlap_law.proofs.HoldersInWorlds.{open_here}
 use Rattle.overlap_law.proofs.ItemsAtBegin.{check_begins, on_open_disk, request_begins}
 use Rattle.overlap_law.proofs.ItemsOfReplies.{check_does, does_write_at, is_check_at, is_write_at, write_does}
@@ -48,18 +48,20 @@ use Rattle.overlap_law.proofs.ItemsOfWriters.{Writing, gateway_here}
 use Rattle.overlap_law.proofs.NoRecoveredDue.{began-with_past}
 use Rattle.overlap_law.proofs.RefusedInRuns.{AreAnsweredAt, events_answered, opens_answered}
 use Rattle.overlap_law.proofs.RunsByEvents.{run-kept_by_events}
-use Rattle.overlap_law.proofs.SessionsOfRequests.{are_asked}
+use Rattle.overlap_law.proofs.SessionsOfRequests.{are_asked_by_line, of_test}
 use Rattle.overlap_law.proofs.SoundEnds.{replied_ends}
 use Rattle.overlap_law.proofs.SoundReplies.{ThereSoFar, change_keeps, received_there}
 use Rattle.overlap_law.proofs.StartedOnce.{UnansweredAreOnce, caused_once, disk_of_began, once-in_run}
 use Rattle.overlap_law.proofs.UnansweredRequests.{Guests}
+use Rattle.overlap_law.proofs.PlacedOfScript.{placed_of_script}
+use Rattle.cluster_script.specs.Statements.{is_check}
 
 -- a write or check asks so
 pub asks_so : (script : List Statement) (q : ℕ) → IsWriterAt script q → AsksToWrite (asked_by script q)
 asks_so script q (inl is) = let (offset, payload, asked) = write_asks (request_at script q) is in inl (offset, payload, asked)
 asks_so script q (inr is) = inr (check_asked (request_at script q) is)
 
-module _ (script : List Statement) (range : RunsAreInRange script) (events : List Event) (start : MomentWithPast)
+module _ (script : List Statement) (range : RunsAreInRange script) (events : List Move) (start : MomentWithPast)
     (ran : run_with_past script events ≡ Some start) (on : SteppingNode) (is : IsStepping script start.world on)
     (by : StepsByChanges on.cause) (so_far : StepState) (leads : LeadsInStep on (first_in_step on) so_far) where
   began : Began script start.world
@@ -85,6 +87,7 @@ module _ (script : List Statement) (range : RunsAreInRange script) (events : Lis
   guests_so (EntryIsPut entry) by = absurd by
   guests_so RecoveryTicks by = absurd by
   guests_so WorkIsRetried by = refl
+  guests_so (ClientAsks req ask) by = refl
 
   hosts_so : (cause : NodeCause) → (world_at_cause start.world cause).hosts ≡ start.world.hosts
   hosts_so (GuestAsks session req ask) = refl
@@ -95,6 +98,7 @@ module _ (script : List Statement) (range : RunsAreInRange script) (events : Lis
   hosts_so (EntryIsPut entry) = refl
   hosts_so RecoveryTicks = refl
   hosts_so WorkIsRetried = refl
+  hosts_so (ClientAsks req ask) = refl
 
   single : UnansweredAreOnce (world_at_cause start.world on.cause).guests
   single =
@@ -126,8 +130,8 @@ module _ (script : List Statement) (range : RunsAreInRange script) (events : Lis
     -- is there still
     pub stays : (now : Request) × (tree.get so_far.node.requests q ≡ Some now)
     stays =
-        let (disk, at, course) = subst (IsPlacedIn (asked_by script) (BeganOn script start.world.guests) q on.host.node.sessions) got
-        (requests_placed script range start.world began on.n on.host is.there q) in
+        let (disk, at, course) = placed_of_script script range start.world began on.n on.host is.there q request got
+        (of_writer script q writer) in
         let plain = plain_course (asked_by script q) (asks_so script q writer)
         (session_among request.session on.host.node.sessions).disk disk request.course course in
         let there : ThereSoFar q so_far
@@ -145,7 +149,7 @@ module _ (script : List Statement) (range : RunsAreInRange script) (events : Lis
       → Writing script range q start.world.hosts → Does q
   had_written q request got (inl writes_it) = write_does script (has_begun_check_write script q found write) q writes_it
   had_written q request got (inr (checks, have)) =
-      let asked = are_asked script start.world began on.n on.host is.there q request got in
+      let asked = are_asked_by_line script start.world began on.n on.host is.there q request got (of_test script is_check q checks) in
       let at_host : has_check_written q on.host.node ≡ true
       = ap (λ (o : Option Request). option_map_or (λ (r : Request). has_course_written r.course) o false) got
       ∙ have on.n on.host is.there request got in
@@ -196,3 +200,4 @@ module _ (script : List Statement) (range : RunsAreInRange script) (events : Lis
   new_writer q (EntryIsPut entry) caused so = absurd (cc (so))
   new_writer q RecoveryTicks caused so = absurd (cc (so))
   new_writer q WorkIsRetried caused so = absurd (cc (so))
+  new_writer q (ClientAsks req ask) caused so = absurd (cc (so))

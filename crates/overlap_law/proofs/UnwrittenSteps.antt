@@ -18,16 +18,17 @@ use Rattle.disk_history.specs.Ledger.{Item, Disk, Ledger, empty_ledger, has_bloc
 use Rattle.sheep_node.specs.declared.ask.Ask.{Ask}
 use Rattle.sheep_node.specs.declared.check_write.CheckWrite.{CheckWrite}
 use Rattle.sheep_node.specs.declared.course.Request.{Request}
-use Rattle.sheep_node.specs.declared.event.Event.{Event}
 use Rattle.sheep_node.specs.declared.input.Input.TheVariants as inputs
 use Rattle.sheep_node.specs.CheckWrites.{has_check_written}
 use Rattle.sheep_node.specs.SessionQueues.{session_among}
 use Rattle.sheep_node.specs.StepState.{StepState}
 use Rattle.sheep_world.specs.Began.{Began}
 use Rattle.sheep_world.specs.HistoryAdditions.{gateway_of, has_begun_check_write, is_write_of}
+use Rattle.sheep_world.specs.HistoryAdditions.{is_write}
 use Rattle.sheep_world.specs.NodeCauses.{GuestAsks}
-use Rattle.sheep_world.specs.NodeCauses.{host_with_node, input_of_cause, IsCause}
+use Rattle.sheep_world.specs.NodeCauses.{host_with_node, input_of_cause, progress_at_cause, IsCause}
 use Rattle.sheep_world.specs.World.{Host, World}
+use Rattle.sheep_world.specs.RunsWithAsks.{Move}
 use Rattle.overlap_law.specs.AloneItems.{IsOwnItem}
 use Rattle.overlap_law.specs.Attempts.{AttemptRecord}
 use Rattle.overlap_law.specs.DiskEvents.{ends_write_of}
@@ -42,9 +43,9 @@ use Rattle.overlap_law.proofs.AloneItemsInSteps.{course_in_step, own_in_step}
 use Rattle.overlap_law.proofs.AloneStepsOnDisks.{on_disk_in_step}
 use Rattle.overlap_law.proofs.AnswersInMoments.{not_lost}
 use Rattle.overlap_law.proofs.BlockItems.{blocks_along, has_alike, makes_disk}
-use Rattle.overlap_law.proofs.CoursesOfAsks.{IsPlacedIn, id_of_disk}
-use Rattle.overlap_law.proofs.CoursesOfScript.{asked_by, BeganOn, brings, requests_placed}
-use Rattle.overlap_law.proofs.DisksOfWriters.{IsWriterAt, plain_course}
+use Rattle.overlap_law.proofs.CoursesOfAsks.{id_of_disk, asked_none}
+use Rattle.overlap_law.proofs.CoursesOfScript.{asked_by, BeganOn, brings}
+use Rattle.overlap_law.proofs.DisksOfWriters.{IsWriterAt, plain_course, of_writer, some_asked}
 use Rattle.overlap_law.proofs.DiskShapes.{cause_plain, flat_plain, reply_plain}
 use Rattle.overlap_law.proofs.HistoryInMoments.{history_so}
 use Rattle.overlap_law.proofs.ItemsOfReplies as replied
@@ -53,12 +54,15 @@ use Rattle.overlap_law.proofs.ItemsOfRequests.{begins_write_of}
 use Rattle.overlap_law.proofs.ItemsOfWriters.{Writing}
 use Rattle.overlap_law.proofs.NoRecoveredDue.{began-with_past}
 use Rattle.overlap_law.proofs.RefusedInRuns.{node_begun}
+use Rattle.overlap_law.proofs.SessionsOfRequests.{of_test}
 use Rattle.overlap_law.proofs.SoundInRuns.{has_item, item_writer, open_under_way-in_run, writes}
 use Rattle.overlap_law.proofs.StartedAttempts.{IsStarted, next_is_new}
 use Rattle.overlap_law.proofs.UnwrittenItems.{HasOpenOne, is_open_of, none_behind, none_ended, one_open, plain_makes}
 use Rattle.overlap_law.proofs.UnwrittenMade.{IsAtNode, IsAtNodeOrTold, made_there}
 use Rattle.overlap_law.proofs.UnwrittenMeets.{IsOwnBlock, WritesAt}
 use Rattle.overlap_law.proofs.UnwrittenReplies.{NewWriter, AsksNow, ComesNow, asks_so, had_written, new_writer, stays, told_ends}
+use Rattle.overlap_law.proofs.PlacedOfScript.{placed_of_script}
+use Rattle.overlap_law.proofs.PlacedAnew.{brought_as}
 
 -- a disk that has a block
 disk_with : (o : Option Disk) (block : ℕ) → has_block o block ≡ true → (disk : Disk) × (o ≡ Some disk) × (block < disk.blocks)
@@ -75,7 +79,7 @@ pub own_block : (vid offset : ℕ) (payload : List ℕ) (block : ℕ) (bytes : L
     → IsOwnBlock offset payload block
 own_block vid offset payload block bytes own = record { place = own.place; inside = own.inside; at = own.at }
 
-module _ (script : List Statement) (range : RunsAreInRange script) (events : List Event) (start : MomentWithPast)
+module _ (script : List Statement) (range : RunsAreInRange script) (events : List Move) (start : MomentWithPast)
     (ran : run_with_past script events ≡ Some start) (on : SteppingNode) (is : IsStepping script start.world on)
     (by : StepsByChanges on.cause) (so_far : StepState) (leads : LeadsInStep on (first_in_step on) so_far)
     (trail : MomentTrail script start (moment_in_step script on start so_far)) where
@@ -107,7 +111,9 @@ module _ (script : List Statement) (range : RunsAreInRange script) (events : Lis
       → (w : WritesAt script range events start (moment_in_step script on start so_far) ran trail q vid block) × (w.n ≡ on.n)
   written_there q vid block place item at of now got writer =
       let asks = asks_so script q writer in
-      let (start_disk, course) = course_in_step script range events start ran on is by so_far leads q now got in
+      let (ask, asks_it) = some_asked (asked_by script q) asks in
+      let (start_disk, course) = course_in_step script range events start ran on is by so_far leads q now got
+      (asked_none (asked_by script q) ask now.course asks_it) in
       let plain = plain_course (asked_by script q) asks (session_among now.session so_far.node.sessions).disk start_disk now.course
       course in
       let same : vid ≡ plain.on.disk.inode.vid
@@ -159,8 +165,8 @@ module _ (script : List Statement) (range : RunsAreInRange script) (events : Lis
         → (ledger_of start.past.history).disks vid ≡ Some was → (place : ℕ) (item : Item) → slice_get (was.items block) place ≡ Some item
         → is_item_of q item ≡ true → Here
     elsewhere way apart writer was known_then place item got of =
-        let (start_disk, at, course) = subst (IsPlacedIn (asked_by script) (BeganOn script start.world.guests) q way.host.node.sessions)
-        way.way.there (requests_placed script range start.world began way.n way.host way.there q) in
+        let (start_disk, at, course) = placed_of_script script range start.world began way.n way.host way.there q way.way.request
+        way.way.there (of_writer script q writer) in
         let found_at : slice_get (items_in ((ledger_of start.past.history).disks vid) block) place ≡ Some item
         = ap (λ (o : Option Disk). slice_get (items_in o block) place) known_then ∙ got in
         record {
@@ -316,7 +322,7 @@ module _ (script : List Statement) (range : RunsAreInRange script) (events : Lis
               (λ (other : (at.n ≢ on.n) × (tree.get start.world.hosts at.n ≡ Some at.host)).
               absurd (fresh (
                 at.request.session,
-                node_begun script start.world began at.n at.host other.1 q at.request at.got,
+                node_begun script start.world began at.n at.host other.1 q at.request at.got (of_test script is_write q writes_it),
               )))
               (get-insert_cases start.world.hosts on.n (host_with_node on.host so_far.node) at.n at.host at.there)
 
@@ -324,7 +330,10 @@ module _ (script : List Statement) (range : RunsAreInRange script) (events : Lis
           by_place (inl at) = at_place at
           by_place (inr (rsp, among)) =
               let from : input_of_cause on.cause ≡ inputs.Guest q asking.number ask = ap input_of_cause asks_it in
-              let brought = brings script start.world on.n on.host on.cause is.there is.caused q asking.number ask from in
+              let (what, asks_what) = some_asked (asked_by script q) (asks_so script q (inl writes_it)) in
+              let brought = brought_as (asked_by script) (BeganOn script (progress_at_cause on.cause start.world)) q
+              (session_among asking.number on.host.node.sessions).disk ask what asks_what
+              (brings script start.world on.n on.host on.cause is.there is.caused q asking.number ask from) in
               absurd (both_ways (list_any (ends_write_of q) told) unended
               (told_ends script range events start ran on is by so_far leads q
               (write_does script (has_begun_check_write script q found write) q writes_it)

@@ -1,6 +1,6 @@
 -- In the middle of a step of a run in range: a request to which the next change replies, without a refusal, has no item in a block that a
 -- read was told which is open behind the change.
-use Rattle.std.proofs.Common.{◌≡◌, ◌≢◌, inl, inr, ⊎_elim, arith, ℕ, zero, suc, ◌+◌, ◌*◌, ◌<◌, ◌≤◌, ◌||◌, Bool, true, false, List, []}
+use Rattle.std.proofs.Common.{◌≡◌, ◌≢◌, inl, inr, ⊎_elim, arith, ℕ, zero, suc, ◌+◌, ◌*◌, ◌<◌, ◌≤◌, ◌||◌, Bool, true, false, List, [], None}
 use Rattle.std.proofs.Common.{◌∷◌, ◌++◌, Contains, Option, Some, slice_get, refl, sym, ap, subst, ◌∙◌}
 use Rattle.std.specs.Prelude.{flat_map}
 use Rattle.std.specs.List.{list_any}
@@ -29,7 +29,6 @@ use Rattle.sheep_node.specs.declared.ask.Ask.{Ask}
 use Rattle.sheep_node.specs.declared.ask.Ask.TheVariants as asks
 use Rattle.sheep_node.specs.declared.course.Course.TheVariants.{Driving, Commanding}
 use Rattle.sheep_node.specs.declared.course.Request.{Request}
-use Rattle.sheep_node.specs.declared.event.Event.{Event}
 use Rattle.sheep_node.specs.declared.input.Input.TheVariants as inputs
 use Rattle.sheep_node.specs.Changes as changes
 use Rattle.sheep_node.specs.May.{is_disk_course}
@@ -37,8 +36,9 @@ use Rattle.sheep_node.specs.SessionQueues.{queue_in, session_among}
 use Rattle.sheep_node.specs.StepState.{StepState}
 use Rattle.sheep_world.specs.Began.{Began}
 use Rattle.sheep_world.specs.NodeCauses.{NodeCause, GuestAsks, RequestComes, ReplyComes, LossIsTold, EntryIsRead, EntryIsPut, RecoveryTicks}
-use Rattle.sheep_world.specs.NodeCauses.{WorkIsRetried, host_with_node, input_of_cause, IsCause}
+use Rattle.sheep_world.specs.NodeCauses.{WorkIsRetried, ClientAsks, host_with_node, input_of_cause, IsCause}
 use Rattle.sheep_world.specs.World.{Host}
+use Rattle.sheep_world.specs.RunsWithAsks.{Move}
 use Rattle.vdi_ops.specs.Op.{Op}
 use Rattle.overlap_law.specs.Each.{spec_in}
 use Rattle.overlap_law.specs.Headline.{ledger_of}
@@ -53,7 +53,7 @@ use Rattle.overlap_law.specs.StepMoments.{SteppingNode, IsStepping, StepsByChang
 use Rattle.overlap_law.specs.UnwrittenReads.{IsApartFromOpenReads}
 use Rattle.overlap_law.specs.WrittenBlocks.{blocks_per_object}
 use Rattle.overlap_law.specs.Writers.{session_holder}
-use Rattle.overlap_law.proofs.AloneItemsInSteps.{asked_in_step, begins_first, course_in_step}
+use Rattle.overlap_law.proofs.AloneItemsInSteps.{asked_in_step, begins_first, client_first, course_in_step}
 use Rattle.overlap_law.proofs.AloneOnDisks.{write_asks}
 use Rattle.overlap_law.proofs.AloneStepsOnDisks.{writer_here}
 use Rattle.overlap_law.proofs.CausedWorks.{HasWellWorks}
@@ -62,7 +62,6 @@ use Rattle.overlap_law.proofs.DisksOfWriters.{AsksToWrite}
 use Rattle.overlap_law.proofs.HistoryInMoments.{history_so}
 use Rattle.overlap_law.proofs.ItemsAtBegin.{request_begins}
 use Rattle.overlap_law.proofs.ItemsOfReplies as replied
-use Rattle.overlap_law.proofs.ItemsOfReplies.{is_write_at}
 use Rattle.overlap_law.proofs.ItemsOfRequests.{begins_write_of, none_behind, none_by_history}
 use Rattle.overlap_law.proofs.NoRecoveredDue.{began-with_past}
 use Rattle.overlap_law.proofs.PiecesBehind.{at_last}
@@ -76,6 +75,7 @@ use Rattle.overlap_law.proofs.UnwrittenMeets.{writer_holds}
 use Rattle.overlap_law.proofs.UnwrittenReads.{ran_before}
 use Rattle.overlap_law.proofs.UnwrittenSteps.{written_there}
 use Rattle.overlap_law.proofs.WorksInMoments.{well_along}
+use Rattle.overlap_law.proofs.CoursesOfAsks.{asked_none, course_none}
 
 -- an item of a request among those of a block
 item_there : (q : ℕ) (items : List Item) → list_any (is_item_of q) items ≡ true
@@ -107,7 +107,7 @@ read_last asked offset size reads disk ask of bytes piece rest (from, count, ask
     (subst (λ (k : ℕ). piece.index ≤ last_index disk.inode.spec.shift k count) from_so
     (at_last disk.inode.spec.shift from count before rest piece cut))
 
-module _ (script : List Statement) (range : RunsAreInRange script) (events : List Event) (start : MomentWithPast)
+module _ (script : List Statement) (range : RunsAreInRange script) (events : List Move) (start : MomentWithPast)
     (ran : run_with_past script events ≡ Some start) (on : SteppingNode) (is : IsStepping script start.world on)
     (by : StepsByChanges on.cause) (so_far next : StepState) (within : IsWithinStep on so_far next)
     (trail : MomentTrail script start (moment_in_step script on start so_far)) (reply : ℕ × GuestRsp)
@@ -169,7 +169,8 @@ module _ (script : List Statement) (range : RunsAreInRange script) (events : Lis
           (none_by_history q here.past.history (none_behind q here.past.history false none refl) vid block) has)
 
   -- a guest that asks now for no read or write begins none
-  module _ (session : ℕ) (ask : Ask) (asked : asked_by script reply.0 ≡ Some ask) (off : is_disk_ask ask ≡ false) where
+  module _ (session : ℕ) (ask : Ask) (asked : (asked_by script reply.0 ≡ None → ⊥) → asked_by script reply.0 ≡ Some ask)
+      (off : is_disk_ask ask ≡ false) where
     asks_none : (cause : NodeCause) → IsCause script start.world on.n on.host cause
         → input_of_cause cause ≡ inputs.Guest reply.0 session ask
         → (list_any (begins_write_of reply.0) start.past.history ≡ false)
@@ -180,9 +181,10 @@ module _ (script : List Statement) (range : RunsAreInRange script) (events : Lis
           λ so.
               let begins = request_begins q other _ (request_at script other) so in
               let (offset, payload, writes) = write_asks (request_at script other) begins.2 in
+              let asks_it : asked_by script q ≡ Some (asks.Disk (disk_asks.Write offset payload))
+              = ap (asked_by script) (sym begins.0) ∙ writes in
               let write : ask ≡ asks.Disk (disk_asks.Write offset payload)
-              = same_Some ask (asks.Disk (disk_asks.Write offset payload))
-              (sym asked ∙ ap (asked_by script) (sym begins.0) ∙ writes) in
+              = same_Some ask (asks.Disk (disk_asks.Write offset payload)) (sym (asked (λ none. cc (none, asks_it))) ∙ asks_it) in
               both_ways (is_disk_ask ask) off (ap is_disk_ask write),
         )
     asks_none (RequestComes name to request) caused from = absurd (cc (from))
@@ -192,6 +194,11 @@ module _ (script : List Statement) (range : RunsAreInRange script) (events : Lis
     asks_none (EntryIsPut entry) caused from = absurd (cc (from))
     asks_none RecoveryTicks caused from = absurd (cc (from))
     asks_none WorkIsRetried caused from = absurd (cc (from))
+    asks_none (ClientAsks begins what) caused from =
+        let own : begins ≡ q = cc (from) in (
+          client_first script range events start ran on is by so_far within.leads q begins what caused own,
+          λ so. cc (so),
+        )
 
     never_begun : input_of_cause on.cause ≡ inputs.Guest reply.0 session ask
         → list_any (begins_write_of reply.0) (moment_in_step script on start so_far).past.history ≡ true → ⊥
@@ -300,7 +307,8 @@ module _ (script : List Statement) (range : RunsAreInRange script) (events : Lis
     within_read : index ≤ last_index disk.inode.spec.shift offset size
     within_read =
         let (started, is_placed) = course_in_step script range events start ran on is by next (changes.Then within.leads within.change)
-        reads (record { session = request.session; course = Driving (Reads bytes piece rest) }) got_next in
+        reads (record { session = request.session; course = Driving (Reads bytes piece rest) }) got_next
+        (course_none (asked_by script reads) (Driving (Reads bytes piece rest)) refl) in
         let there_so : (session_among request.session next.node.sessions).disk ≡ Some disk
         = ap (λ (h : Host). (session_among request.session h.node.sessions).disk) host_so ∙ opened in
         let same : is_placed.on.disk ≡ disk = same_Some is_placed.on.disk disk (sym is_placed.on.there ∙ there_so) in
@@ -314,7 +322,9 @@ module _ (script : List Statement) (range : RunsAreInRange script) (events : Lis
         (subst (λ (s : VdiSpec). first_index s.shift offset ≤ index) spec_so low)
         (subst (λ (s : VdiSpec). index ≤ last_index s.shift offset size) spec_so within_read) (input_of_cause on.cause) on.host.node so_far
         next within.change refl
-        (λ request_here got_here. course_in_step script range events start ran on is by so_far within.leads reads request_here got_here)
+        (λ request_here got_here.
+        course_in_step script range events start ran on is by so_far within.leads reads request_here got_here
+        (asked_none (asked_by script reads) (asks.Disk (disk_asks.Read offset size)) request_here.course asked))
         bytes piece rest
         (got_next ∙ (λ i. Some (record { session = sym session_so i; course = Driving (Reads bytes piece rest) })))
 

@@ -39,7 +39,9 @@ use Rattle.sheep_node.specs.Courses.{after_driver_step, disk_after, inode_open, 
 use Rattle.sheep_node.specs.May.{May, is_disk_course}
 use Rattle.sheep_node.specs.SessionQueues.{AreDiskRequests, QueuesAreDiskRequests, CommandsAreAlone}
 use Rattle.sheep_node.specs.SoundWorks.{IsSoundWork, HasSoundWorks}
-use Rattle.sheep_node.specs.Changes.{IsSoundStep, HasRequest, outcome_of_driver, outcome_of_command, outcome_of_check, without_ended_work, DiskBegins, DiskGoesOn, CommandBegins, CommandGoesOn, CommandDecided, CheckBegins, CheckGoesOn, ObjectBegins, ObjectIsDone, EntryBegins, EntryDecided, Leads, Still, Then}
+use Rattle.sheep_node.specs.Changes.{IsSoundStep, HasRequest, outcome_of_driver, outcome_of_command, outcome_of_check, without_ended_work}
+use Rattle.sheep_node.specs.Changes.{DiskBegins, DiskGoesOn, CommandBegins, CommandGoesOn, CommandDecided, CheckBegins, CheckGoesOn}
+use Rattle.sheep_node.specs.Changes.{ObjectBegins, ObjectIsDone, EntryBegins, EntryDecided, Leads, Still, Then}
 use Rattle.sheep_node.proofs.GoingOn.{bytes_for_check}
 use Rattle.sheep_node.proofs.OneWorkChanges.{HasNoWorkIn, steps_free}
 use Rattle.sheep_node.proofs.SessionViews.{same_seen, free_seen, own_seen}
@@ -54,7 +56,10 @@ use Rattle.overlap_law.proofs.CoveredCourses.{CoveredSoFar}
 use Rattle.overlap_law.proofs.DoneWorks.{bytes_long, wanted, same_disk}
 use Rattle.overlap_law.proofs.QueueOnce.{AreOnceIn}
 use Rattle.overlap_law.proofs.QueuedInSteps.{begun_at_others}
-use Rattle.overlap_law.proofs.WaitedSteps.{no_id, HasOwnDraftAt, IsOwnIn, IsOfOwn, Waits, entries_stay, awaited_alike, own_alike, IsOwnStep, driver_begins-own, driver_goes_on-own, check_begins-vid, check_goes_on-vid, IsOpWaitedAt, command_begins-waited, command_goes_on-waited, command_decided-waited, IsCheckWaitedAt, check_begins-waited, check_goes_on-waited}
+use Rattle.overlap_law.proofs.WaitedSteps.{no_id, HasOwnDraftAt, IsOwnIn, IsOfOwn, Waits, entries_stay, awaited_alike, own_alike, IsOwnStep}
+use Rattle.overlap_law.proofs.WaitedSteps.{driver_begins-own, driver_goes_on-own, check_begins-vid, check_goes_on-vid, IsOpWaitedAt}
+use Rattle.overlap_law.proofs.WaitedSteps.{command_begins-waited, command_goes_on-waited, command_decided-waited, IsCheckWaitedAt}
+use Rattle.overlap_law.proofs.WaitedSteps.{check_begins-waited, check_goes_on-waited}
 use Rattle.overlap_law.proofs.WorksAtCourses.{IsAt, AtSoFar, freed_at, moved_at, IsOutcomeAt, StepsKeepAt, change_keeps_at}
 
 -- what is known beside it in the middle of a step

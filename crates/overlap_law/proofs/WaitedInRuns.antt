@@ -1,6 +1,7 @@
 -- In each run in range each work that is open, or waits for the inode, is the one that its request's driver, command or check waits for,
 -- on the disk that the session has open.
-use Rattle.std.proofs.Common.{◌≡◌, arith, ℕ, ◌&&◌, Bool, true, false, List, [], Contains, Option, Some, None, IfSome, inl, inr, refl, sym, ap, subst, ◌∙◌}
+use Rattle.std.proofs.Common.{◌≡◌, arith, ℕ, ◌&&◌, Bool, true, false, List, [], Contains, Option, Some, None, IfSome, inl, inr, refl, sym}
+use Rattle.std.proofs.Common.{ap, subst, ◌∙◌}
 use Rattle.std.specs.Prelude.{unwrap_or}
 use Rattle.std.specs.FinMap as tree
 use Rattle.std.proofs.lemmas.Bool.{le-leb, eq-eqb}
@@ -18,7 +19,6 @@ use Rattle.guest_driver.specs.declared.disk.Disk.{Disk}
 use Rattle.vdi_ops.specs.Op as ops
 use Rattle.vdi_ops.specs.Op.{Task, Opening, WritingBack, Tagging, Copying, Making, OpStage, Asked, Working, Publishing}
 use Rattle.sheep_node.specs.declared.ask.Ask.{Ask}
-use Rattle.sheep_node.specs.declared.event.Event.{Event}
 use Rattle.sheep_node.specs.declared.input.Input.{Input}
 use Rattle.sheep_node.specs.declared.input.Input.TheVariants as inputs
 use Rattle.sheep_node.specs.declared.limits.TheConstants.{SENDS_MAX}
@@ -46,12 +46,14 @@ use Rattle.sheep_node.proofs.StepChain.{step_chain}
 use Rattle.sheep_world.specs.Began.{Began}
 use Rattle.sheep_world.specs.EventKinds.{log_after_return}
 use Rattle.sheep_world.specs.HostChanges.{HostsKeep}
-use Rattle.sheep_world.specs.NodeCauses.{NodeCause, GuestAsks, RequestComes, ReplyComes, LossIsTold, EntryIsRead, EntryIsPut, RecoveryTicks, WorkIsRetried, input_of_cause, IsCause, progress_at_cause}
+use Rattle.sheep_world.specs.NodeCauses.{NodeCause, GuestAsks, RequestComes, ReplyComes, LossIsTold, EntryIsRead, EntryIsPut, RecoveryTicks}
+use Rattle.sheep_world.specs.NodeCauses.{WorkIsRetried, ClientAsks, input_of_cause, IsCause, progress_at_cause}
 use Rattle.sheep_world.specs.Opening.{format_entry, initial_world}
 use Rattle.sheep_world.specs.World.{Host, World, is_host_up}
 use Rattle.sheep_world.proofs.BegunWorlds.{each_where}
 use Rattle.sheep_world.proofs.LogAtOpening.{opens_log}
 use Rattle.sheep_world.proofs.ValidNodes.{first_may}
+use Rattle.sheep_world.specs.RunsWithAsks.{Move}
 use Rattle.overlap_law.specs.Attempts.{AttemptRecord}
 use Rattle.overlap_law.specs.Courses.{IsOfTask, IsOfStage, WaitsFor, IsWaitedFor, WorksAreWaitedFor}
 use Rattle.overlap_law.specs.MomentChanges.{RunsAreInRange}
@@ -173,6 +175,7 @@ module _ (script : List Statement) (range : RunsAreInRange script) where
     step_waited (EntryIsPut entry) caused waited = by_step (EntryIsPut entry) tt caused waited
     step_waited RecoveryTicks caused waited = by_step RecoveryTicks tt caused waited
     step_waited WorkIsRetried caused waited = by_step WorkIsRetried tt caused waited
+    step_waited (ClientAsks req ask) caused waited = by_step (ClientAsks req ask) tt caused waited
 
   waited_kept : HostsKeep script (Began script) (λ (world : World) (n : ℕ) (host : Host). IsWaitedIn host.node)
   unfolding initial_world
@@ -294,7 +297,7 @@ module _ (node : Node) (is : IsSoundNode node) where
             (subst (λ (o : Option Session). WaitsFor [] no_id [] (unwrap_or o new_session).disk request.course work) of waits.0);
       }
 
-module _ (script : List Statement) (range : RunsAreInRange script) (events : List Event) (moment : MomentWithPast)
+module _ (script : List Statement) (range : RunsAreInRange script) (events : List Move) (moment : MomentWithPast)
     (is : run_with_past script events ≡ Some moment) where
   began : Began script moment.world
   began = began-with_past script events moment is

@@ -1,11 +1,13 @@
 -- The work that a driver, a command or a check comes to is the one that it then waits for, on the disk that its session has open.
-use Rattle.std.proofs.Common.{◌≡◌, ◌≢◌, ℕ, ◌+◌, ◌*◌, ◌^◌, ◌==◌, ◌++◌, Bool, true, false, cond, List, [], ◌∷◌, length, All, Option, Some, None, option_map, option_and_then, refl, sym, ap, subst, ◌∙◌}
+use Rattle.std.proofs.Common.{◌≡◌, ◌≢◌, ℕ, ◌+◌, ◌*◌, ◌^◌, ◌==◌, ◌++◌, Bool, true, false, cond, List, [], ◌∷◌, length, All, Option, Some}
+use Rattle.std.proofs.Common.{None, option_map, option_and_then, refl, sym, ap, subst, ◌∙◌}
 use Rattle.std.proofs.lemmas.Bool.{eqb-true}
 use Rattle.std.proofs.lemmas.List.{get_or-set_other}
 use Rattle.std.proofs.lemmas.List.Elements.{All-head, All-weaker}
 use Rattle.std.proofs.lemmas.Option.{same_Some}
 use Rattle.object_id.specs.declared.entry.Entry.{Entry}
-use Rattle.object_id.specs.declared.entry.Entry.TheVariants.{Format, Join, Leave, Reweight, Recovered, Reserve, Publish, Clone, Snapshot, Delete, Lock, Unlock}
+use Rattle.object_id.specs.declared.entry.Entry.TheVariants.{Format, Join, Leave, Reweight, Recovered, Reserve, Publish, Clone, Snapshot}
+use Rattle.object_id.specs.declared.entry.Entry.TheVariants.{Delete, Lock, Unlock}
 use Rattle.object_id.specs.declared.entry.Origin.TheVariants.{Fresh, SnapshotOf, CloneOf}
 use Rattle.object_id.specs.declared.node.NodeId.{NodeId}
 use Rattle.object_id.specs.declared.oid.Vid.{Vid}
@@ -35,13 +37,15 @@ use Rattle.guest_driver.specs.Pieces.{Piece, pieces, piece_bytes}
 use Rattle.guest_driver.specs.PieceWorks.{Hole, Own, Inherited, entry_of, read_piece, table_with_entry}
 use Rattle.guest_driver.specs.Refusals.{refusal_on}
 use Rattle.guest_driver.specs.Driver as drivers
-use Rattle.guest_driver.specs.Driver.{Driver, Reads, Writes, DriverStage, InPlace, Fetching, Creating, Entering, DriverStep, work_step, read_on, write_piece_on, write_on, begin_unless_refused, begin_driver, write_done, driver_on_done}
+use Rattle.guest_driver.specs.Driver.{Driver, Reads, Writes, DriverStage, InPlace, Fetching, Creating, Entering, DriverStep, work_step}
+use Rattle.guest_driver.specs.Driver.{read_on, write_piece_on, write_on, begin_unless_refused, begin_driver, write_done, driver_on_done}
 use Rattle.disk_check.specs.declared.act.CheckAct.{CheckAct}
 use Rattle.disk_check.specs.declared.act.CheckAct.TheVariants as check_acts
 use Rattle.disk_check.specs.Table.{own_indexes}
 use Rattle.disk_check.specs.Value.{all_bytes, pieces_in, value_of}
 use Rattle.disk_check.specs.Check as checks
-use Rattle.disk_check.specs.Check.{Check, CheckStage, CheckStep, Comparing, WritingBack as Rewriting, check_on, begun_check, begin_check, write_back_step, check_done_at, check_on_done, check_bytes_wanted, bytes_at}
+use Rattle.disk_check.specs.Check.{Check, CheckStage, CheckStep, Comparing, WritingBack as Rewriting, check_on, begun_check, begin_check}
+use Rattle.disk_check.specs.Check.{write_back_step, check_done_at, check_on_done, check_bytes_wanted, bytes_at}
 use Rattle.disk_check.proofs.WorkLemmas.{value-length}
 use Rattle.object_id.specs.Spec.{IsSpec}
 use Rattle.vdi_ops.specs.declared.act.OpAct.{OpAct}
@@ -51,7 +55,8 @@ use Rattle.vdi_ops.specs.InodeWorks.{create_inode, write_tag}
 use Rattle.vdi_ops.specs.Tables.{table_in, holes, inode_by}
 use Rattle.vdi_ops.specs.Op as ops
 use Rattle.vdi_ops.specs.Op.{Task, Opening, WritingBack, Tagging, Copying, Making, OpStage, Asked, Working, Publishing, Op, OpStep}
-use Rattle.vdi_ops.specs.Steps.{first_step, begin_command, tag_step, copy_step, step_after_grant, step_after_decision, decided_at, on_decision, task_done, done_at, op_on_done}
+use Rattle.vdi_ops.specs.Steps.{first_step, begin_command, tag_step, copy_step, step_after_grant, step_after_decision, decided_at}
+use Rattle.vdi_ops.specs.Steps.{on_decision, task_done, done_at, op_on_done}
 use Rattle.sheep_node.specs.declared.course.Course.{Course}
 use Rattle.sheep_node.specs.declared.course.Course.TheVariants.{Waiting, Driving, Commanding, Checking, DoingWork, AwaitingDecision}
 use Rattle.sheep_node.specs.Courses.{inode_open}

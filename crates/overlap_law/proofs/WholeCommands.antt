@@ -1,10 +1,12 @@
 -- Each write of a command goes to whole units of an inode: a tag lies in the header, and what is written back is the header and all
 -- entries that the disk has.
-use Rattle.std.proofs.Common.{◌≡◌, arith, ℕ, ◌+◌, ◌*◌, ◌<◌, ◌≤◌, true, false, List, length, drop, Option, Some, None, IfSome, option_map, option_and_then, sym, ◌∙◌}
+use Rattle.std.proofs.Common.{◌≡◌, arith, ℕ, ◌+◌, ◌*◌, ◌<◌, ◌≤◌, true, false, List, length, drop, Option, Some, None, IfSome, option_map}
+use Rattle.std.proofs.Common.{option_and_then, sym, ◌∙◌}
 use Rattle.std.proofs.lemmas.List.{length-append, length-drop}
 use Rattle.std.proofs.lemmas.Option.{same_Some}
 use Rattle.object_id.specs.declared.entry.Entry.{Entry}
-use Rattle.object_id.specs.declared.entry.Entry.TheVariants.{Format, Join, Leave, Reweight, Recovered, Reserve, Publish, Clone, Snapshot, Delete, Lock, Unlock}
+use Rattle.object_id.specs.declared.entry.Entry.TheVariants.{Format, Join, Leave, Reweight, Recovered, Reserve, Publish, Clone, Snapshot}
+use Rattle.object_id.specs.declared.entry.Entry.TheVariants.{Delete, Lock, Unlock}
 use Rattle.object_id.specs.declared.entry.Origin.TheVariants.{Fresh, SnapshotOf, CloneOf}
 use Rattle.object_id.specs.declared.limits.TheConstants.{OBJECTS_MAX}
 use Rattle.object_id.specs.declared.node.NodeId.{NodeId}
@@ -26,8 +28,10 @@ use Rattle.vdi_ops.specs.Entries.{first_entry}
 use Rattle.vdi_ops.specs.InodeWorks.{written_bytes, written_back, write_back, write_tag}
 use Rattle.vdi_ops.specs.Kept.{IsInodeHeader, EntryHasTag}
 use Rattle.vdi_ops.specs.Tables.{table_in, inode_by}
-use Rattle.vdi_ops.specs.Op.{Task, Opening, WritingBack, Tagging, Copying, Making, OpStage, Asked, Working, Publishing, Answered, Op, OpStep, bytes_of_task, op_stage_bytes, op_bytes_wanted}
-use Rattle.vdi_ops.specs.Steps.{first_step, begin_command, tag_step, copy_step, step_after_grant, step_after_decision, decided_at, on_decision, task_done, done_at, op_on_done}
+use Rattle.vdi_ops.specs.Op.{Task, Opening, WritingBack, Tagging, Copying, Making, OpStage, Asked, Working, Publishing, Answered, Op}
+use Rattle.vdi_ops.specs.Op.{OpStep, bytes_of_task, op_stage_bytes, op_bytes_wanted}
+use Rattle.vdi_ops.specs.Steps.{first_step, begin_command, tag_step, copy_step, step_after_grant, step_after_decision, decided_at}
+use Rattle.vdi_ops.specs.Steps.{on_decision, task_done, done_at, op_on_done}
 use Rattle.vdi_ops.proofs.TableLemmas.{header_length, blank_fills}
 use Rattle.vdi_ops.proofs.WorkLemmas.{field_text, field_tag}
 use Rattle.sheep_node.specs.Changes.{outcome_of_command}

@@ -17,7 +17,6 @@ use Rattle.gateway.specs.Work.{is_making}
 use Rattle.vdi_directory.specs.declared.effect.Effect.{Effect}
 use Rattle.vdi_directory.specs.Decisions.{log_effects}
 use Rattle.sheep_node.specs.declared.ask.Ask.TheVariants as asks
-use Rattle.sheep_node.specs.declared.event.Event.{Event}
 use Rattle.sheep_node.specs.declared.input.Input.{Input}
 use Rattle.sheep_node.specs.declared.input.Input.TheVariants as inputs
 use Rattle.sheep_node.specs.declared.limits.TheConstants.{SENDS_MAX}
@@ -33,18 +32,20 @@ use Rattle.sheep_node.proofs.NodeLaws.{IsSoundNode-initial}
 use Rattle.sheep_world.specs.World.{Host, World, is_host_up}
 use Rattle.sheep_world.specs.Began.{Began}
 use Rattle.sheep_world.specs.Opening.{format_entry, initial_world}
-use Rattle.sheep_world.specs.NodeCauses.{NodeCause, GuestAsks, RequestComes, ReplyComes, LossIsTold, EntryIsRead, EntryIsPut, RecoveryTicks, WorkIsRetried, input_of_cause, IsCause}
+use Rattle.sheep_world.specs.NodeCauses.{NodeCause, GuestAsks, RequestComes, ReplyComes, LossIsTold, EntryIsRead, EntryIsPut, RecoveryTicks}
+use Rattle.sheep_world.specs.NodeCauses.{WorkIsRetried, ClientAsks, input_of_cause, IsCause}
 use Rattle.sheep_world.specs.EventKinds.{log_after_return}
 use Rattle.sheep_world.specs.HostChanges.{HostsKeep}
 use Rattle.sheep_world.proofs.BegunWorlds.{each_where}
-use Rattle.sheep_world.proofs.LogAtOpening.{opens_log}
+use Rattle.sheep_world.proofs.LogAtOpening.{opens_log, nodes-valid}
 use Rattle.sheep_world.proofs.ValidNodes.{first_may}
+use Rattle.sheep_world.specs.RunsWithAsks.{Move}
 use Rattle.overlap_law.specs.Attempts.{AttemptRecord, object_of}
 use Rattle.overlap_law.specs.Fates.{IsWhole, AttemptsAreWhole}
 use Rattle.overlap_law.specs.Past.{MomentWithPast, run_with_past}
 use Rattle.overlap_law.specs.ShapedAttempts.{AreShaped}
 use Rattle.overlap_law.specs.MomentChanges.{MomentChange, MomentTrail, RunsAreInRange, KeptByChanges}
-use Rattle.overlap_law.proofs.CausedWorks.{IsNotServed, by_changes, no_object, not_served}
+use Rattle.overlap_law.proofs.CausedWorks.{read_whole, IsNotServed, by_changes, not_served}
 use Rattle.overlap_law.proofs.GrantedEpochs.{spec_stays}
 use Rattle.overlap_law.proofs.KnownDisks.{IsKnownWork}
 use Rattle.overlap_law.proofs.KnownDiskSteps.{AreOnKnown, IsKnownInput, effects_after, none_known, work_known}
@@ -57,7 +58,8 @@ use Rattle.overlap_law.proofs.ShapedAttempts.{front, log_so, began_after, work_s
 use Rattle.overlap_law.proofs.SoundWorlds.{IsSoundWorld, sound_worlds, asks_on_may, names_objects}
 use Rattle.overlap_law.proofs.WholeNodes.{IsWholeWork, AreWholeOn, none_whole}
 use Rattle.overlap_law.proofs.WholeSteps.{turn_whole, stepped_whole, served_whole, back_whole}
-use Rattle.overlap_law.proofs.WholeWorks.{IsWholeOn}
+use Rattle.overlap_law.proofs.WholeWorks.{IsWholeOn, WritesWhole}
+use Rattle.overlap_law.proofs.ReadWorks.{ReadsOn}
 
 -- ---- one work
 
@@ -121,8 +123,9 @@ module _ (script : List Statement) (range : RunsAreInRange script) where
         → AreWholeOn (effects_of (node_step (input_of_cause cause) host.node).node.peer) (node_step (input_of_cause cause) host.node).node
     by_step cause not caused all =
         stepped_whole (input_of_cause cause) host.node (may_change cause not caused) (named cause caused) sound_here
-        (caused_known script range.is_script (effects_after (input_of_cause cause) host.node) world n host cause caused)
-        (no_object script world n host cause caused) (nodes_know script range world began n host there)
+        (caused_known script range.is_script (effects_after (input_of_cause cause) host.node) world n host cause
+        (nodes-valid script range.is_script range.room world began n host there) caused)
+        (read_whole script world n host cause caused) (nodes_know script range world began n host there)
         (places_taken script range world began n host there up cause caused) all
 
     step_whole : (cause : NodeCause) → IsCause script world n host cause → AreWholeOn (effects_of host.node.peer) host.node
@@ -135,6 +138,7 @@ module _ (script : List Statement) (range : RunsAreInRange script) where
     step_whole (EntryIsPut entry) caused all = by_step (EntryIsPut entry) tt caused all
     step_whole RecoveryTicks caused all = by_step RecoveryTicks tt caused all
     step_whole WorkIsRetried caused all = by_step WorkIsRetried tt caused all
+    step_whole (ClientAsks req ask) caused all = by_step (ClientAsks req ask) tt caused all
 
   -- ---- every world
 
@@ -175,7 +179,8 @@ module _ (script : List Statement) (range : RunsAreInRange script) where
       → is_host_up host ≡ true → (cause : NodeCause) → IsNotServed cause → IsCause script world n host cause
       → (May (input_of_cause cause) host.node → InputNamesObjects (input_of_cause cause) → IsSoundNode host.node
       → IsKnownInput (effects_after (input_of_cause cause) host.node) (input_of_cause cause)
-      → ((req session : ℕ) (work : ObjWork) → input_of_cause cause ≡ inputs.Guest req session (asks.Object work) → ⊥)
+      → ((req session : ℕ) (work : ObjWork) → input_of_cause cause ≡ inputs.Guest req session (asks.Object work)
+      → WritesWhole (effects_after (input_of_cause cause) host.node) work × ReadsOn (effects_after (input_of_cause cause) host.node) work)
       → AreOnKnown (effects_of host.node.peer) host.node
       → ((so_far : StepState)
       → Leads (input_of_cause cause) host.node (input_received (input_of_cause cause) (at_first host.node)) so_far
@@ -184,8 +189,9 @@ module _ (script : List Statement) (range : RunsAreInRange script) where
   from_beginning world began n host there up cause not caused shows =
       shows (may_change world began n host there up cause not caused) (named world began n host there up cause caused)
       (sound_here world began n host there up)
-      (caused_known script range.is_script (effects_after (input_of_cause cause) host.node) world n host cause caused)
-      (no_object script world n host cause caused) (nodes_know script range world began n host there)
+      (caused_known script range.is_script (effects_after (input_of_cause cause) host.node) world n host cause
+      (nodes-valid script range.is_script range.room world began n host there) caused)
+      (read_whole script world n host cause caused) (nodes_know script range world began n host there)
       (places_taken script range world began n host there up cause caused) (nodes_whole world began n host there)
 
   -- ---- attempts
@@ -211,7 +217,8 @@ module _ (script : List Statement) (range : RunsAreInRange script) where
         (read_reservable script range start.world o.stepping.n o.stepping.host o.stepping.cause
         (began_after script range start began after new o))
         (caused_known script range.is_script
-        (effects_after input o.stepping.host.node) start.world o.stepping.n o.stepping.host o.stepping.cause o.is.caused)
+        (effects_after input o.stepping.host.node) start.world o.stepping.n o.stepping.host o.stepping.cause
+        (nodes-valid script range.is_script range.room start.world began o.stepping.n o.stepping.host o.is.there) o.is.caused)
         (nodes_know script range start.world began o.stepping.n o.stepping.host o.is.there)
         o.so_far o.leads o.session o.req o.asked o.lined o.comes
 
@@ -253,6 +260,6 @@ module _ (script : List Statement) (range : RunsAreInRange script) where
       let disk = (shaped-each before shaped j attempt got).disk in
       record { spec = disk.spec; made = disk.made; whole = are.each j attempt got disk.spec disk.made }))
 
-  pub whole-on_the_way : (events : List Event) (start moment : MomentWithPast) → run_with_past script events ≡ Some start
+  pub whole-on_the_way : (events : List Move) (start moment : MomentWithPast) → run_with_past script events ≡ Some start
       → MomentTrail script start moment → AttemptsAreWhole (log_effects moment.world.log) moment.past.attempts
   whole-on_the_way events start moment is trail = as_said moment (on_the_way script AreAllWhole all_kept events start moment is trail)

@@ -9,10 +9,10 @@ use Rattle.cluster_script.specs.declared.statement.Statement.{Statement}
 use Rattle.peer_service.specs.State.{Peer}
 use Rattle.peer_service.specs.Serve.{tells_refusal}
 use Rattle.recovery.specs.State.{Message, Recovery, all_unanswered}
-use Rattle.sheep_node.specs.declared.event.Event.{Event}
 use Rattle.sheep_world.specs.World.{Host, World}
 use Rattle.sheep_world.specs.Began.{Began}
 use Rattle.sheep_world.proofs.NodesByTheLog.{knows_its_number}
+use Rattle.sheep_world.specs.RunsWithAsks.{Move}
 use Rattle.overlap_law.specs.Past.{MomentWithPast, run_with_past}
 use Rattle.overlap_law.specs.MomentChanges.{MomentTrail, RunsAreInRange}
 use Rattle.overlap_law.specs.Lists.{ListsAreWhole}
@@ -29,7 +29,7 @@ use Rattle.overlap_law.proofs.ToldOfRows.{IsListedBefore, ListTells}
 abbrev IsOwn : ℕ → Recovery → Peer → Type 0
 IsOwn n recovery peer = recovery.me.0 ≡ n
 
-module _ (script : List Statement) (range : RunsAreInRange script) (events : List Event) (start moment : MomentWithPast)
+module _ (script : List Statement) (range : RunsAreInRange script) (events : List Move) (start moment : MomentWithPast)
     (is : run_with_past script events ≡ Some start) (trail : MomentTrail script start moment) where
   holds : ListsHold moment
   holds = on_the_way script ListsHold (kept_lists script range) events start moment is trail

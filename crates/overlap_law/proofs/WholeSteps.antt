@@ -1,6 +1,7 @@
 -- Each change of a node leaves its writes going to whole units inside their objects, its reads lying inside theirs, and its open disks with
 -- tables of their own chain: so it is in the middle of a step, and at its end.
-use Rattle.std.proofs.Common.{◌≡◌, ◌≢◌, ⊎_elim, arith, ℕ, ◌+◌, ◌*◌, List, [], ◌∷◌, length, All, Option, Some, IfSome, IsTrue, refl, sym, ap, subst, ◌∙◌}
+use Rattle.std.proofs.Common.{◌≡◌, ◌≢◌, ⊎_elim, arith, ℕ, ◌+◌, ◌*◌, List, [], ◌∷◌, length, All, Option, Some, IfSome, IsTrue, refl, sym, ap}
+use Rattle.std.proofs.Common.{subst, ◌∙◌}
 use Rattle.std.specs.FinMap as tree
 use Rattle.std.proofs.lemmas.Bool.{cases_eq}
 use Rattle.proof_tools.proofs.Booleans.{cond_either}
@@ -30,7 +31,7 @@ use Rattle.sheep_node.specs.declared.ask.Ask.TheVariants as asks
 use Rattle.sheep_node.specs.declared.input.Input.{Input}
 use Rattle.sheep_node.specs.declared.input.Input.TheVariants as inputs
 use Rattle.sheep_node.specs.declared.course.Request.{Request}
-use Rattle.sheep_node.specs.declared.course.Course.TheVariants.{Driving, Commanding, Checking, AwaitingDecision}
+use Rattle.sheep_node.specs.declared.course.Course.TheVariants.{Driving, Commanding, Checking, AwaitingDecision, DoingWork}
 use Rattle.sheep_node.specs.State.{Node}
 use Rattle.sheep_node.specs.StepState.{StepState, at_first, session_in, with_node}
 use Rattle.sheep_node.specs.Courses.{inode_open, after_command_step}
@@ -43,9 +44,13 @@ use Rattle.sheep_node.specs.OutsideAsks.{InputNamesObjects}
 use Rattle.sheep_node.specs.RecoveryView.{recovery_state_of}
 use Rattle.sheep_node.specs.SessionQueues.{session_among}
 use Rattle.sheep_node.specs.SoundWorks.{IsSoundWork, work_validity, HasSoundWorks}
-use Rattle.sheep_node.specs.Step.{on_request, is_due, with_recovered, recovered_put, recovery_stepped, on_put, on_recover_tick, on_input, node_step}
+use Rattle.sheep_node.specs.Step.{on_request, is_due, with_recovered, recovered_put, recovery_stepped, on_put, on_recover_tick, on_input}
+use Rattle.sheep_node.specs.Step.{node_step}
 use Rattle.sheep_node.specs.StepFacts.{read_after}
-use Rattle.sheep_node.specs.Changes.{IsSoundStep, input_received, without_ended_work, Outcome, ToWork, ToEntry, ToReply, outcome_of_driver, outcome_of_command, outcome_of_check, RequestSteps, DiskBegins, DiskGoesOn, CommandBegins, CommandGoesOn, CommandDecided, CheckBegins, CheckGoesOn, ObjectBegins, ObjectIsDone, EntryBegins, EntryDecided, WorkIsNext, Leads}
+use Rattle.sheep_node.specs.Changes.{IsSoundStep, input_received, without_ended_work, Outcome, ToWork, ToEntry, ToReply, outcome_of_driver}
+use Rattle.sheep_node.specs.Changes.{outcome_of_command, outcome_of_check, RequestSteps, DiskBegins, DiskGoesOn, CommandBegins}
+use Rattle.sheep_node.specs.Changes.{CommandGoesOn, CommandDecided, CheckBegins, CheckGoesOn, ObjectBegins, ObjectIsDone, EntryBegins}
+use Rattle.sheep_node.specs.Changes.{EntryDecided, WorkIsNext, Leads}
 use Rattle.sheep_node.proofs.GoingOn.{bytes_for_check}
 use Rattle.sheep_node.proofs.KnownChains.{headers_are_sound}
 use Rattle.sheep_node.proofs.MessageCounts.{attempt_few}
@@ -60,7 +65,8 @@ use Rattle.sheep_node.proofs.StepChain.{step_chain}
 use Rattle.sheep_node.proofs.StepResults.{step_reads}
 use Rattle.sheep_node.proofs.ValidLaws.{reservable_after, valid_input}
 use Rattle.sheep_node.proofs.ValidityChanges as walk
-use Rattle.sheep_node.proofs.ValidityChanges.{AnySent, IsValidOutcomeBy, IsValidStepBy, IsKeptBy, session_valid, disk_valid, inode_valid, course_valid, sole_put, freed_valid, driven_valid, commanded_valid}
+use Rattle.sheep_node.proofs.ValidityChanges.{AnySent, IsValidOutcomeBy, IsValidStepBy, IsKeptBy, session_valid, disk_valid, inode_valid}
+use Rattle.sheep_node.proofs.ValidityChanges.{course_valid, sole_put, freed_valid, driven_valid, commanded_valid}
 use Rattle.sheep_node.proofs.WantedSteps.{driver_begins-wanted, driver_goes_on-wanted}
 use Rattle.overlap_law.proofs.ChainTables.{above_later, HasChains, log_chains}
 use Rattle.overlap_law.proofs.DoneWorks.{bytes_long, wanted, goes_on, same_disk}
@@ -68,11 +74,13 @@ use Rattle.overlap_law.proofs.GrantedEpochs.{spec_stays}
 use Rattle.overlap_law.proofs.KnownDisks.{known_validity, driver_begins-known, driver_goes_on-known}
 use Rattle.overlap_law.proofs.KnownDiskSteps.{AreOnKnown, IsKnownSoFar, IsKnownInput, effects_after, step_known}
 use Rattle.overlap_law.proofs.WholeCommands.{command_begins-whole, command_goes_on-whole, command_decided-whole}
-use Rattle.overlap_law.proofs.ReadWorks.{IsReadOutcome, driver_begins-inside, driver_goes_on-inside, check_begins-inside, check_goes_on-inside}
-use Rattle.overlap_law.proofs.ReadCommands.{IsReadCommandStep, command_begins-inside, command_goes_on-inside, command_decided-inside, left_tabled}
+use Rattle.overlap_law.proofs.ReadWorks.{IsReadOutcome, driver_begins-inside, driver_goes_on-inside, check_begins-inside}
+use Rattle.overlap_law.proofs.ReadWorks.{check_goes_on-inside, ReadsOn}
+use Rattle.overlap_law.proofs.ReadCommands.{IsReadCommandStep, command_begins-inside, command_goes_on-inside, command_decided-inside}
+use Rattle.overlap_law.proofs.ReadCommands.{left_tabled}
 use Rattle.overlap_law.proofs.PlacesTaken.{PlacesAreTaken}
 use Rattle.overlap_law.proofs.WholeNodes.{IsWholeWork, whole_validity, AreWholeOn, IsWholeSoFar, whole_grows, none_whole}
-use Rattle.overlap_law.proofs.WholeWorks.{IsWholeOutcome, driver_whole, check_begins-whole, check_goes_on-whole, begins_on}
+use Rattle.overlap_law.proofs.WholeWorks.{IsWholeOutcome, driver_whole, check_begins-whole, check_goes_on-whole, begins_on, WritesWhole}
 
 -- what is known beside it in the middle of a step: works are those that requests wait for, what is at work is sound, and on known disks;
 -- and an id takes the place of the disk that is open
@@ -114,7 +122,8 @@ module _ (known : List Effect) where
   module _ {input : Input} {node : Node} (sound : IsSoundStep input node)
       (read : (entry : Entry) → input ≡ inputs.LogEntry entry → effects_of (entry_read entry node).peer ≡ known)
       (headers : HeadersAreSound known) (chains : HasChains known) (asked : IsSoundInput input)
-      (none : (req session : ℕ) (work : ObjWork) → input ≡ inputs.Guest req session (asks.Object work) → ⊥) where
+      (none : (req session : ℕ) (work : ObjWork) → input ≡ inputs.Guest req session (asks.Object work) → WritesWhole known work
+      × ReadsOn known work) where
     steps_whole : (most : ℕ) (so_far : StepState) (session req : ℕ) (next : Outcome) (moved : StepState)
         → RequestSteps input node so_far session req next moved → IsWellKnown known input node so_far → IsWholeSoFar known most so_far
         → IsWholeSoFar known most moved × IsValidOutcomeBy (whole_validity known) next
@@ -220,7 +229,11 @@ module _ (known : List Effect) where
           all_of (outcome_of_check step.act) so.outcome (check_goes_on-whole known bytes check step is on_disk waits)
               (check_goes_on-inside known bytes check step is on_disk),
         )
-    steps_whole most so_far session req next moved (ObjectBegins work arrival) well all = absurd (none req session work arrival.from)
+    steps_whole most so_far session req next moved (ObjectBegins work arrival) well all =
+        let whole = none req session work arrival.from in (
+          sole_put (whole_validity known) AnySent session req (DoingWork work) so_far tt all,
+          (subst IsSoundInput arrival.from asked, whole.0, whole.1),
+        )
     steps_whole most so_far session req next moved (ObjectIsDone number work attempt status bytes done ends) well all =
         (freed_valid (whole_validity known) AnySent session req work status so_far all, tt)
     steps_whole most so_far session req next moved (EntryBegins entry arrival) well all =
@@ -293,7 +306,8 @@ received_whole (inputs.Back entries) node all = none_whole (effects_after (input
 
 module _ (input : Input) (node : Node) (may : May input node) (named : InputNamesObjects input) (is : IsSoundNode node)
     (brought : IsKnownInput (effects_after input node) input)
-    (none : (req session : ℕ) (work : ObjWork) → input ≡ inputs.Guest req session (asks.Object work) → ⊥)
+    (none : (req session : ℕ) (work : ObjWork) → input ≡ inputs.Guest req session (asks.Object work)
+    → WritesWhole (effects_after input node) work × ReadsOn (effects_after input node) work)
     (on_known : AreOnKnown (effects_of node.peer) node)
     (taken : (so_far : StepState) → Leads input node (input_received input (at_first node)) so_far
     → PlacesAreTaken (effects_after input node) input node so_far)

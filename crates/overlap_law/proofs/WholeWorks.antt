@@ -1,6 +1,7 @@
 -- Each write of a read or write, or of a check, goes to whole units inside its object: blocks of a data object, and entries of an inode's
 -- table.
-use Rattle.std.proofs.Common.{◌≡◌, arith, ℕ, ◌+◌, ◌*◌, ◌-◌, ◌/◌, ◌%◌, ◌^◌, ◌<◌, ◌≤◌, nat_lt, Bool, true, false, cond, List, [], ◌∷◌, length, All, Option, Some, None, IsTrue, refl, sym, ap, subst, ◌∙◌}
+use Rattle.std.proofs.Common.{◌≡◌, arith, ℕ, ◌+◌, ◌*◌, ◌-◌, ◌/◌, ◌%◌, ◌^◌, ◌<◌, ◌≤◌, nat_lt, Bool, true, false, cond, List, [], ◌∷◌, length}
+use Rattle.std.proofs.Common.{All, Option, Some, None, IsTrue, refl, sym, ap, subst, ◌∙◌}
 use Rattle.std.proofs.lemmas.Bool.{ltb-true, ltb-false}
 use Rattle.std.proofs.lemmas.List.Elements.{All-nil, All-head}
 use Rattle.std.proofs.lemmas.Option.{same_Some}
@@ -35,7 +36,8 @@ use Rattle.guest_driver.proofs.WorkLemmas.{object-whole, length-piece_bytes}
 use Rattle.disk_check.specs.Table.{own_indexes}
 use Rattle.disk_check.specs.Value.{all_bytes, pieces_in, value_of}
 use Rattle.disk_check.specs.Check as checks
-use Rattle.disk_check.specs.Check.{Check, CheckStage, CheckStep, Comparing, WritingBack as Rewriting, check_on, begun_check, begin_check, check_done_at, check_on_done, check_bytes_wanted, bytes_at, left_of, write_value}
+use Rattle.disk_check.specs.Check.{Check, CheckStage, CheckStep, Comparing, WritingBack as Rewriting, check_on, begun_check, begin_check}
+use Rattle.disk_check.specs.Check.{check_done_at, check_on_done, check_bytes_wanted, bytes_at, left_of, write_value}
 use Rattle.disk_check.proofs.WorkLemmas.{value-length}
 use Rattle.sheep_node.specs.Changes.{Outcome, ToWork, ToEntry, ToReply, outcome_of_driver, outcome_of_check}
 use Rattle.sheep_node.specs.WantedWorks.{IsWorkOfDriver}
@@ -44,7 +46,8 @@ use Rattle.sheep_node.proofs.WantedSteps.{IsDriverActWanted, driver_begins-wante
 use Rattle.overlap_law.specs.Units.{unit_start}
 use Rattle.overlap_law.specs.Fates.{AreUnits, IsWhole}
 use Rattle.overlap_law.proofs.GrantedEpochs.{spec_known}
-use Rattle.overlap_law.proofs.KnownDisks.{Few, FewAt, IsKnownDisk, IsKnownInode, IsKnownCheck, vid-of_object, vid-of_inode, kind-of_object, kind-of_inode}
+use Rattle.overlap_law.proofs.KnownDisks.{Few, FewAt, IsKnownDisk, IsKnownInode, IsKnownCheck, vid-of_object, vid-of_inode, kind-of_object}
+use Rattle.overlap_law.proofs.KnownDisks.{kind-of_inode}
 
 -- ---- where units begin
 

@@ -18,7 +18,8 @@ use Rattle.overlap_law.specs.Attempts.{MessageFate, Flying, Served, Doomed, Atte
 use Rattle.overlap_law.specs.BegunAttempts.{attempts_begun, attempts_after}
 use Rattle.overlap_law.specs.Reached.{has_come_in}
 use Rattle.overlap_law.specs.PastWords.{is_counted}
-use Rattle.overlap_law.specs.Words.{is_made, is_mute, covers_unit, unit_start, unit_size, unit_of, base_of, own_base_of, later_on, is_quiet, has_served}
+use Rattle.overlap_law.specs.Words.{is_made, is_mute, covers_unit, unit_start, unit_size, unit_of, base_of, own_base_of, later_on, is_quiet}
+use Rattle.overlap_law.specs.Words.{has_served}
 use Rattle.overlap_law.specs.Holders.{has_enough, is_available_since, birth_of, is_available_disk, born_objects}
 
 abbrev node : ℕ → NodeId
@@ -82,12 +83,14 @@ another_sender's_number = refl
 
 -- an attempt whose request to node 4 is lost isn't made any more; what the node then begins stands behind it
 a_lost_request_dooms : (script : List Statement) (old new : World)
-    → attempts_after script (LoseRequest (node 3) 20) old new (written Flying Flying ∷ []) ≡ written Doomed Flying ∷ attempts_begun 3 old new
+    → attempts_after script (LoseRequest (node 3) 20) old new (written Flying Flying ∷ []) ≡ written Doomed Flying
+    ∷ attempts_begun 3 old new
 unfolding attempts_after attempts_with_fate
 a_lost_request_dooms script old new = refl
 
 -- only Success says that the target has served it
-what_answers_tell : (fate_of_say says.Success ≡ Served) × (fate_of_say says.NoRow ≡ Doomed) × (fate_of_say (says.Refused refusals.Recovery) ≡ Doomed)
+what_answers_tell : (fate_of_say says.Success ≡ Served) × (fate_of_say says.NoRow ≡ Doomed)
+    × (fate_of_say (says.Refused refusals.Recovery) ≡ Doomed)
 what_answers_tell = (refl, refl, refl)
 
 -- whoever is lost is beyond each epoch
@@ -104,7 +107,8 @@ before_the_birth : is_available_since (λ target epoch. false) (Format [] ∷ []
 before_the_birth = refl
 
 -- a read of disk 1 is left out where its object wasn't available, and one of disk 2 is not
-which_reads_are_left_out : (is_counted [] (object ∷ []) (acts.Read 1 0 []) ≡ false) × (is_counted [] (object ∷ []) (acts.Read 2 0 []) ≡ true)
+which_reads_are_left_out : (is_counted [] (object ∷ []) (acts.Read 1 0 []) ≡ false)
+    × (is_counted [] (object ∷ []) (acts.Read 2 0 []) ≡ true)
 unfolding is_available_disk log_effects is_above chain_of
 which_reads_are_left_out = (refl, refl)
 

@@ -13,7 +13,8 @@ use Rattle.peer_service.specs.LogReading.{decision_on}
 use Rattle.guest_driver.specs.Driver as drivers
 use Rattle.disk_check.specs.Check.{begin_check}
 use Rattle.vdi_ops.specs.Op as ops
-use Rattle.vdi_ops.specs.Op.{Op, OpStage, Asked, Working, Publishing, Answered, Task, Opening, WritingBack, Tagging, Copying, Making, entry_wanted_at}
+use Rattle.vdi_ops.specs.Op.{Op, OpStage, Asked, Working, Publishing, Answered, Task, Opening, WritingBack, Tagging, Copying, Making}
+use Rattle.vdi_ops.specs.Op.{entry_wanted_at}
 use Rattle.vdi_ops.specs.Steps.{done_at, task_done, decided_at, op_on_done, on_decision}
 use Rattle.sheep_node.specs.declared.ask.Ask.{Ask}
 use Rattle.sheep_node.specs.declared.ask.Ask.TheVariants as asks
@@ -27,7 +28,8 @@ use Rattle.sheep_node.specs.StepState.{StepState, session_in}
 use Rattle.sheep_node.specs.Courses.{inode_open}
 use Rattle.sheep_node.specs.OneWork.{may_work}
 use Rattle.sheep_node.specs.Changes as changes
-use Rattle.sheep_node.specs.Changes.{Outcome, RequestSteps, DiskBegins, DiskGoesOn, CommandBegins, CommandGoesOn, CommandDecided, CheckBegins, CheckGoesOn, ObjectBegins, ObjectIsDone, EntryBegins, EntryDecided, Change}
+use Rattle.sheep_node.specs.Changes.{Outcome, RequestSteps, DiskBegins, DiskGoesOn, CommandBegins, CommandGoesOn, CommandDecided}
+use Rattle.sheep_node.specs.Changes.{CheckBegins, CheckGoesOn, ObjectBegins, ObjectIsDone, EntryBegins, EntryDecided, Change}
 use Rattle.sheep_node.proofs.OneWorkParts.{Requests}
 use Rattle.overlap_law.proofs.TouchedStay.{Arrives}
 use Rattle.overlap_law.proofs.RequestWalk.{IsWhereThere, put_there, change_there}
@@ -74,7 +76,8 @@ task_past op vid bytes (Copying ids header) = refl
 task_past op vid bytes (Making entry opened) = refl
 
 -- a command whose work is done is past its first entry
-done_past : (bytes : List ℕ) (op : Op) (stage : OpStage) (step : ops.OpStep) → done_at bytes op stage ≡ Some step → is_past_first step.op.stage ≡ true
+done_past : (bytes : List ℕ) (op : Op) (stage : OpStage) (step : ops.OpStep) → done_at bytes op stage ≡ Some step
+    → is_past_first step.op.stage ≡ true
 done_past bytes op (Asked entry) step is = absurd (cc (is))
 done_past bytes op (Working vid task) step is =
     ap (λ (s : ops.OpStep). is_past_first s.op.stage) (sym (same_Some (task_done op vid bytes task) step is)) ∙ task_past op vid bytes task
@@ -99,7 +102,8 @@ decided_past known disk decision op (Publishing entry opened) step is before =
     past_of (Some step) = is_past_first step.op.stage
 decided_past known disk decision op (Answered change) step is before = absurd (cc (is))
 
-pub went_on_past : (known : List Effect) (disk : Option Content) (decision : Decision) (op : Op) (step : ops.OpStep) → on_decision known disk decision op ≡ Some step
+pub went_on_past : (known : List Effect) (disk : Option Content) (decision : Decision) (op : Op) (step : ops.OpStep)
+    → on_decision known disk decision op ≡ Some step
     → is_past_first step.op.stage ≡ false → is_past_first op.stage ≡ false
 unfolding on_decision
 went_on_past known disk decision op step is before = decided_past known disk decision op op.stage step is before
@@ -135,15 +139,23 @@ module _ (q : ℕ) (input : Input) (node : Node) where
   from_itself : (so_far : StepState) → From so_far so_far
   from_itself so_far r got unworked = inl (record { request = r; there = got; unworked = unworked })
 
-  new_from : (so_far : StepState) (session req : ℕ) (ask : Ask) (refusal : Option Cause) → changes.Arrival input node so_far session req ask refusal → q ≡ req
+  new_from : (so_far : StepState) (session req : ℕ) (ask : Ask) (refusal : Option Cause)
+      → changes.Arrival input node so_far session req ask refusal → q ≡ req
       → Arrives q input node so_far
   new_from so_far session req ask refusal arrival own =
-      record { session = session; ask = ask; from = subst (λ (k : ℕ). input ≡ inputs.Guest k session ask) (sym own) arrival.from; first = arrival.first }
+      record {
+        session = session;
+        ask = ask;
+        from = subst (λ (k : ℕ). input ≡ inputs.Guest k session ask) (sym own) arrival.from;
+        first = arrival.first;
+      }
 
-  put_new : (so_far : StepState) (session req : ℕ) (course : Course) (ask : Ask) (refusal : Option Cause) → changes.Arrival input node so_far session req ask refusal
+  put_new : (so_far : StepState) (session req : ℕ) (course : Course) (ask : Ask) (refusal : Option Cause)
+      → changes.Arrival input node so_far session req ask refusal
       → AreFrom so_far (tree.insert so_far.node.requests req (record { session = session; course = course }))
   put_new so_far session req course ask refusal arrival =
-      put_from so_far so_far.node.requests session req course (λ own unworked. inr (new_from so_far session req ask refusal arrival own)) (from_itself so_far)
+      put_from so_far so_far.node.requests session req course (λ own unworked. inr (new_from so_far session req ask refusal arrival own))
+      (from_itself so_far)
 
   -- one that has worked
   put_worked : (so_far : StepState) (session req : ℕ) (course : Course) → may_have_worked course ≡ true
@@ -151,12 +163,14 @@ module _ (q : ℕ) (input : Input) (node : Node) where
   put_worked so_far session req course worked =
       put_from so_far so_far.node.requests session req course (λ own unworked. absurd (cc (worked, unworked))) (from_itself so_far)
 
-  steps_from : (so_far : StepState) (session req : ℕ) (next : Outcome) (moved : StepState) → RequestSteps input node so_far session req next moved → From so_far moved
+  steps_from : (so_far : StepState) (session req : ℕ) (next : Outcome) (moved : StepState)
+      → RequestSteps input node so_far session req next moved → From so_far moved
   steps_from so_far session req next moved (DiskBegins ask disk there on may) =
       put_worked so_far session req (Driving (drivers.begin_driver disk ask).driver) refl
   steps_from so_far session req next moved (DiskGoesOn number work attempt status bytes driver disk step ends on is) =
       put_worked so_far session req (Driving step.driver) refl
-  steps_from so_far session req next moved (CommandBegins ask step arrival is) = put_new so_far session req (Commanding step.op) (asks.Vdi ask) None arrival
+  steps_from so_far session req next moved (CommandBegins ask step arrival is) =
+      put_new so_far session req (Commanding step.op) (asks.Vdi ask) None arrival
   steps_from so_far session req next moved (CommandGoesOn number work attempt status bytes op step ends is) =
       put_worked so_far session req (Commanding step.op) (went_past bytes op step is)
   steps_from so_far session req next moved (CommandDecided entry op step from read there waits is) =
@@ -164,15 +178,18 @@ module _ (q : ℕ) (input : Input) (node : Node) where
       (λ own unworked. inl (record {
         request = record { session = session; course = Commanding op };
         there = ap (tree.get so_far.node.requests) own ∙ there;
-        unworked = went_on_past (effects_of so_far.node.peer) (inode_open (session_in session so_far).disk) (decision_on entry node.peer) op step is unworked;
+        unworked = went_on_past (effects_of so_far.node.peer) (inode_open (session_in session so_far).disk) (decision_on entry node.peer) op
+            step is unworked;
       })) (from_itself so_far)
   steps_from so_far session req next moved (CheckBegins inode arrival on) =
       put_new so_far session req (Checking (begin_check inode).check) (asks.Vdi disk_commands.Check) None arrival
   steps_from so_far session req next moved (CheckGoesOn number work attempt status bytes check step ends is) =
       put_worked so_far session req (Checking step.check) refl
-  steps_from so_far session req next moved (ObjectBegins asked arrival) = put_new so_far session req (DoingWork asked) (asks.Object asked) None arrival
+  steps_from so_far session req next moved (ObjectBegins asked arrival) =
+      put_new so_far session req (DoingWork asked) (asks.Object asked) None arrival
   steps_from so_far session req next moved (ObjectIsDone number work attempt status bytes asked ends) = from_itself so_far
-  steps_from so_far session req next moved (EntryBegins entry arrival) = put_new so_far session req (AwaitingDecision entry) (asks.Entry entry) None arrival
+  steps_from so_far session req next moved (EntryBegins entry arrival) =
+      put_new so_far session req (AwaitingDecision entry) (asks.Entry entry) None arrival
   steps_from so_far session req next moved (EntryDecided entry wanted from read there waits) = from_itself so_far
 
   pub change_from : (so_far next : StepState) → Change input node so_far next → From so_far next

@@ -1,6 +1,7 @@
--- A step of a node keeps that what is known of the messages of open creates and writes fits their fates: what it tells of a message fits, and the
--- rest is as it was.
-use Rattle.std.proofs.Common.{◌≡◌, ◌≢◌, ◌⊎◌, ⊎_elim, arith, ℕ, ◌+◌, ◌≤◌, ◌<◌, not, true, false, List, fold, All, Some, option_map, slice_get, refl, sym, ap, subst, ◌∙◌}
+-- A step of a node keeps that what is known of the messages of open creates and writes fits their fates: what it tells of a message fits,
+-- and the rest is as it was.
+use Rattle.std.proofs.Common.{◌≡◌, ◌≢◌, ◌⊎◌, ⊎_elim, arith, ℕ, ◌+◌, ◌≤◌, ◌<◌, not, true, false, List, fold, All, Some, option_map}
+use Rattle.std.proofs.Common.{slice_get, refl, sym, ap, subst, ◌∙◌}
 use Rattle.std.specs.Ordering.{nat_cmp}
 use Rattle.std.specs.FinMap as tree
 use Rattle.std.proofs.lemmas.Bool.{and_parts, not-true}
@@ -39,7 +40,8 @@ use Rattle.sheep_world.specs.Opening.{format_entry}
 use Rattle.sheep_world.specs.NodeSteps.{wire_with_request}
 use Rattle.sheep_world.specs.Began.{Began}
 use Rattle.sheep_world.specs.HostChanges.{HostsKeep}
-use Rattle.sheep_world.specs.NodeCauses.{NodeCause, GuestAsks, RequestComes, ReplyComes, LossIsTold, EntryIsRead, EntryIsPut, RecoveryTicks, WorkIsRetried, input_of_cause, IsCause, host_with_node, world_after_cause}
+use Rattle.sheep_world.specs.NodeCauses.{NodeCause, GuestAsks, RequestComes, ReplyComes, LossIsTold, EntryIsRead, EntryIsPut, RecoveryTicks}
+use Rattle.sheep_world.specs.NodeCauses.{WorkIsRetried, ClientAsks, input_of_cause, IsCause, host_with_node, world_after_cause}
 use Rattle.sheep_world.specs.EventKinds.{log_after_return}
 use Rattle.sheep_world.proofs.BegunWorlds.{each_where}
 use Rattle.sheep_world.proofs.NodeConditions.{reply_numbered}
@@ -68,8 +70,11 @@ use Rattle.overlap_law.proofs.ToldFates.{no_piece, reply_fits}
 given_after : (input : Input) (node : Node) → IsSoundStep input node → NumbersWereGiven node → NumbersWereGiven (node_step input node).node
 given_after input node sound all =
     (kept_by_chain GivenWithOneWork
-    (λ so_far next change both. (change_keeps_one_work so_far next change sound both.0, change_keeps_given so_far next change both.0 both.1))
-    (step_chain input node)
+    (λ so_far next change both. (
+      change_keeps_one_work so_far next change sound both.0,
+      change_keeps_given so_far next change both.0
+          both.1,
+    )) (step_chain input node)
     (received_one_work input node sound.1.driven, received_given input node all)).1
 
 module _ (script : List Statement) (range : RunsAreInRange script) where
@@ -94,9 +99,11 @@ module _ (script : List Statement) (range : RunsAreInRange script) where
   pub numbers_given : (world : World) → Began script world → (n : ℕ) (host : Host) → tree.get world.hosts n ≡ Some host
       → NumbersWereGiven host.node
   numbers_given world began n host there =
-      each_where script (Began script) (λ (world : World) (n : ℕ) (host : Host). NumbersWereGiven host.node) (λ world begun. begun) numbers_kept world began n host there
+      each_where script (Began script) (λ (world : World) (n : ℕ) (host : Host). NumbersWereGiven host.node) (λ world begun. begun)
+      numbers_kept world began n host there
 
-  module _ (start : MomentWithPast) (began : Began script start.world) (tied : IsTied start) (fit : KnownFatesFit start.world.hosts start.past.attempts) where
+  module _ (start : MomentWithPast) (began : Began script start.world) (tied : IsTied start)
+      (fit : KnownFatesFit start.world.hosts start.past.attempts) where
     abbrev world : World
     world = start.world
 
@@ -125,7 +132,8 @@ module _ (script : List Statement) (range : RunsAreInRange script) where
         ∙ slice_get-map (λ (message : Message). message.node) had.before.messages had.place
         ∙ ap (option_map (λ (message : Message). message.node)) had.m_at
 
-    had_name : (n : ℕ) (host : Host) (number : ℕ) (had : IsHad n host number) (name : MessageName) → host.node.me.0 ≡ n → name.sender.0 ≡ n → name.number ≡ number
+    had_name : (n : ℕ) (host : Host) (number : ℕ) (had : IsHad n host number) (name : MessageName) → host.node.me.0 ≡ n → name.sender.0 ≡ n
+        → name.number ≡ number
         → message_name_at had.was had.place ≡ name
     had_name n host number had name numbered here same =
         let sender : had.was.gateway.0 ≡ name.sender.0 = ap (λ (id : NodeId). id.0) had.opened.same.gateway ∙ numbered ∙ sym here in
@@ -134,7 +142,8 @@ module _ (script : List Statement) (range : RunsAreInRange script) where
         λ i. record { sender = record { 0 = sender i }; number = at i }
 
     module _ (n : ℕ) (host : Host) (cause : NodeCause) (there : tree.get world.hosts n ≡ Some host) (up : is_host_up host ≡ true)
-        (caused : IsCause script world n host cause) (next : Began script (world_after_cause script n host cause world)) (after : List AttemptRecord)
+        (caused : IsCause script world n host cause) (next : Began script (world_after_cause script n host cause world))
+        (after : List AttemptRecord)
         (fates : FatesAreOfTheWire (world_after_cause script n host cause world).wire after) where
       abbrev then : Node
       then = (node_step (input_of_cause cause) host.node).node
@@ -149,16 +158,21 @@ module _ (script : List Statement) (range : RunsAreInRange script) where
       not_lost = not-true host.is_lost (and_parts (not host.is_lost) (has_numbers host.node) up).0
 
       then_numbered : then.me.0 ≡ n
-      then_numbered = (together script range later next).wired.numbered n (host_with_node host then) (get-insert_same world.hosts n (host_with_node host then))
+      then_numbered =
+          (together script range later next).wired.numbered n (host_with_node host then)
+          (get-insert_same world.hosts n (host_with_node host then))
 
       me_so : then.me ≡ host.node.me
       me_so = let same = then_numbered ∙ sym known.numbered in λ i. record { 0 = same i }
 
       -- what is told of a message fits its fate once it is told
       abbrev TellsSo : NodeCause → Type 0
-      TellsSo cause = (number : ℕ) (status : Status) → IsTold (input_of_cause cause) number status → (had : IsHad n host number) (now : AttemptRecord) (j : ℕ) (fate : MessageFate)
+      TellsSo cause =
+          (number : ℕ) (status : Status) → IsTold (input_of_cause cause) number status
+          → (had : IsHad n host number) (now : AttemptRecord) (j : ℕ) (fate : MessageFate)
           → slice_get after j ≡ Some now → now.targets ≡ had.was.targets → message_name_at now had.place ≡ message_name_at had.was had.place
-          → slice_get now.fates had.place ≡ Some fate → ((status : Status) → FitsFate status had.fate → FitsFate status fate) → FitsFate status fate
+          → slice_get now.fates had.place ≡ Some fate → ((status : Status) → FitsFate status had.fate → FitsFate status fate)
+          → FitsFate status fate
 
       -- a reply tells what fits the fate already
       pub reply_fits_had : (name : MessageName) (from : NodeId) (rsp : PeerRsp) → cause ≡ ReplyComes name from rsp
@@ -166,19 +180,22 @@ module _ (script : List Statement) (range : RunsAreInRange script) where
           → IsTold (input_of_cause (ReplyComes name from rsp)) number status → (had : IsHad n host number) → FitsFate status had.fate
       reply_fits_had name from rsp is number status told had =
           let so : IsCause script world n host (ReplyComes name from rsp) = subst (IsCause script world n host) is caused in
-          let sound : IsSoundStep (inputs.Reply rsp) host.node = subst (λ (cause : NodeCause). IsSoundStep (input_of_cause cause) host.node) is known.sound in
+          let sound : IsSoundStep (inputs.Reply rsp) host.node = subst (λ (cause : NodeCause). IsSoundStep (input_of_cause cause) host.node)
+          is known.sound in
           let got = ap (λ (k : ℕ). packets_of world.wire k name.number) (sym so.here) ∙ so.there in
-          let numbered : rsp.number ≡ name.number = reply_numbered n name.number host (packets_of world.wire n) from so.bytes rsp known.ready.matches got so.read in
+          let numbered : rsp.number ≡ name.number = reply_numbered n name.number host (packets_of world.wire n) from so.bytes rsp
+          known.ready.matches got so.read in
           let named = had_name n host number had name known.numbered so.here (sym numbered ∙ told.0) in
           let answering : IsAnswering world.wire (message_name_at had.was had.place) from rsp
           = record { bytes = so.bytes; there = ap (tree.get world.wire) named ∙ so.there; spelled = so.read } in
           subst (λ (s : Status). FitsFate s had.fate) told.1
-          (reply_fits world.wire start.past.attempts tied.told tied.fates had.j had.was had.at had.place had.m.node had.fate (had_target n host number had) had.has from rsp answering
-          (λ bytes say.
+          (reply_fits world.wire start.past.attempts tied.told tied.fates had.j had.was had.at had.place had.m.node had.fate
+          (had_target n host number had) had.has from rsp answering (λ bytes say.
           no_piece host.node rsp bytes sound.1 sound.0 had.req had.work had.opened.there had.opened.making
           (subst (λ (k : ℕ). is_awaited_in k had.work ≡ true) (sym told.0) had.waits) say))
 
-      reply_tells : (name : MessageName) (from : NodeId) (rsp : PeerRsp) → cause ≡ ReplyComes name from rsp → TellsSo (ReplyComes name from rsp)
+      reply_tells : (name : MessageName) (from : NodeId) (rsp : PeerRsp) → cause ≡ ReplyComes name from rsp
+          → TellsSo (ReplyComes name from rsp)
       reply_tells name from rsp is number status told had now j fate at targets_so name_so has goes =
           goes status (reply_fits_had name from rsp is number status told had)
 
@@ -187,7 +204,8 @@ module _ (script : List Statement) (range : RunsAreInRange script) where
           let so : IsCause script world n host (LossIsTold name packet) = subst (IsCause script world n host) is caused in
           let named : message_name_at now had.place ≡ name = name_so ∙ had_name n host number had name known.numbered so.here told.0 in
           let in_wire : IsFateIn later.wire now had.place had.m.node fate
-          = fates.each j now at had.place had.m.node fate (ap (λ (nodes : List NodeId). slice_get nodes had.place) targets_so ∙ had_target n host number had) has in
+          = fates.each j now at had.place had.m.node fate (ap (λ (nodes : List NodeId). slice_get nodes had.place) targets_so
+          ∙ had_target n host number had) has in
           subst (λ (s : Status). FitsFate s fate) told.1 (λ (flies : fate ≡ Flying).
           let asking = subst (IsFateIn later.wire now had.place had.m.node) flies in_wire in
           gone (Request had.m.node asking.bytes) (sym (ap (tree.get later.wire) named) ∙ asking.there))
@@ -219,12 +237,14 @@ module _ (script : List Statement) (range : RunsAreInRange script) where
       tells (EntryIsPut entry) is number status told = absurd told
       tells RecoveryTicks is number status told = absurd told
       tells WorkIsRetried is number status told = absurd told
+      tells (ClientAsks req ask) is number status told = absurd told
 
       -- an attempt after the step was one before, or began in it
       abbrev IsBegun : AttemptRecord → Type 0
       IsBegun now = (host.node.sends ≤ now.first) × (now.gateway ≡ then.me)
 
-      module _ (origin : (j : ℕ) (now : AttemptRecord) → slice_get after j ≡ Some now → WasMarked start.past.attempts j now ⊎ IsBegun now) where
+      module _ (origin : (j : ℕ) (now : AttemptRecord) → slice_get after j ≡ Some now → WasMarked start.past.attempts j now
+          ⊎ IsBegun now) where
         own_fits : NodeFits then after
         own_fits j now at req work current place message fate opened got has = ⊎_elim
             (λ (w : WasMessage (input_of_cause cause) host.node req work current place message). ⊎_elim
@@ -240,10 +260,12 @@ module _ (script : List Statement) (range : RunsAreInRange script) where
             (contains_at w.open_so.before.messages place w.m w.at) in
             absurd (omega (arith, number, number_so, above, below)))
             (origin j now at))
-            (λ (new : IsNewMessage (input_of_cause cause) host.node message). subst (λ (s : Status). FitsFate s fate) (sym new.unanswered) tt)
-            (knows_after (input_of_cause cause) host.node known.given known.sound req work current place message opened.there opened.stage got)
+            (λ (new : IsNewMessage (input_of_cause cause) host.node message). subst (λ (s : Status). FitsFate s fate) (sym new.unanswered)
+            tt) (knows_after (input_of_cause cause) host.node known.given known.sound req work current place message opened.there
+            opened.stage got)
           where
-            of_old : WasMessage (input_of_cause cause) host.node req work current place message → WasMarked start.past.attempts j now → FitsFate message.status fate
+            of_old : WasMessage (input_of_cause cause) host.node req work current place message → WasMarked start.past.attempts j now
+                → FitsFate message.status fate
             of_old w v =
                 let opened_so : IsOpenAs host.node req w.open_so.was w.open_so.before v.was
                 = record {
@@ -251,7 +273,8 @@ module _ (script : List Statement) (range : RunsAreInRange script) where
                   making = subst (λ (o : ObjWork). is_making o ≡ true) w.open_so.work_so opened.making;
                   stage = w.open_so.stage;
                   same = was_same host.node then host.node.gateway.works req work current v.was me_so w.open_so
-                      (refated_same then req work.work current v.was v.fates (subst (IsTheSame then req work.work current) (sym v.same) opened.same));
+                      (refated_same then req work.work current v.was v.fates (subst (IsTheSame then req work.work current) (sym v.same)
+                      opened.same));
                 } in
                 let (f, f_at, either) = v.fates_so place fate (ap (λ (a : AttemptRecord). slice_get a.fates place) v.same ∙ has) in
                 ⊎_elim
@@ -259,8 +282,8 @@ module _ (script : List Statement) (range : RunsAreInRange script) where
                 subst (λ (s : Status). FitsFate s fate) (sym same)
                 (fits_later w.m.status v.told f fate either
                 (fit n host there not_lost j v.was v.at req w.open_so.was w.open_so.before place w.m f opened_so w.at f_at)))
-                (λ (told : IsTold (input_of_cause cause) message.number message.status × (is_awaited_in message.number w.open_so.was ≡ true)).
-                tells cause refl message.number message.status told.0
+                (λ (told : IsTold (input_of_cause cause) message.number message.status
+                × (is_awaited_in message.number w.open_so.was ≡ true)). tells cause refl message.number message.status told.0
                 (record {
                   j = j;
                   was = v.was;
@@ -276,17 +299,19 @@ module _ (script : List Statement) (range : RunsAreInRange script) where
                   fate = f;
                   has = f_at;
                   waits = told.1;
-                }) now j fate at (sym (ap (λ (a : AttemptRecord). a.targets) v.same)) (sym (ap (λ (a : AttemptRecord). message_name_at a place) v.same)) has
+                }) now j fate at (sym (ap (λ (a : AttemptRecord). a.targets) v.same))
+                (sym (ap (λ (a : AttemptRecord). message_name_at a place) v.same)) has
                 (λ status fits. fits_later status v.told f fate either fits))
                 w.status_so
 
-        other_fits : (k : ℕ) (other : Host) → k ≢ n → tree.get world.hosts k ≡ Some other → other.is_lost ≡ false → NodeFits other.node after
+        other_fits : (k : ℕ) (other : Host) → k ≢ n → tree.get world.hosts k ≡ Some other → other.is_lost ≡ false
+            → NodeFits other.node after
         other_fits k other apart was other_up j now at req work current place message fate opened got has = ⊎_elim
             (λ (v : WasMarked start.past.attempts j now).
             one_fits other.node start.past.attempts j now v (fit k other was other_up) req work current place message fate opened got has)
             (λ (begun : IsBegun now).
-            absurd (apart (sym (known_number k other was) ∙ ap (λ (id : NodeId). id.0) (sym opened.same.gateway ∙ begun.1) ∙ then_numbered)))
-            (origin j now at)
+            absurd (apart (sym (known_number k other was) ∙ ap (λ (id : NodeId). id.0) (sym opened.same.gateway ∙ begun.1)
+            ∙ then_numbered))) (origin j now at)
           where
             known_number : (k : ℕ) (other : Host) → tree.get world.hosts k ≡ Some other → other.node.me.0 ≡ k
             known_number k other was = (together script range world began).wired.numbered k other was

@@ -5,8 +5,8 @@ use Rattle.cluster_script.specs.declared.statement.Statement.{Statement}
 use Rattle.gateway.specs.Work.{is_making}
 use Rattle.gateway.specs.State.{Work}
 use Rattle.peer_proto.specs.Work.{oid_of}
-use Rattle.sheep_node.specs.declared.event.Event.{Event}
 use Rattle.sheep_world.specs.World.{Host}
+use Rattle.sheep_world.specs.RunsWithAsks.{Move}
 use Rattle.overlap_law.specs.LastReads.{ReadsAreKnown, ReadsAreApart}
 use Rattle.overlap_law.specs.MomentChanges as moments
 use Rattle.overlap_law.specs.MomentChanges.{RunsAreInRange}
@@ -21,7 +21,7 @@ use Rattle.overlap_law.proofs.ReadsApart.{reads_apart}
 use Rattle.overlap_law.proofs.ReadsInMoments.{reads_known-in_run}
 use Rattle.overlap_law.proofs.WritersOfWorks.{works_may-in_run}
 
-module _ (script : List Statement) (range : RunsAreInRange script) (events : List Event) (moment : MomentWithPast)
+module _ (script : List Statement) (range : RunsAreInRange script) (events : List Move) (moment : MomentWithPast)
     (is : run_with_past script events ≡ Some moment) where
   known : ReadsAreKnown moment.world.log moment.world.hosts
   known = reads_known-in_run script range events moment moment is moments.Still
@@ -35,8 +35,10 @@ module _ (script : List Statement) (range : RunsAreInRange script) (events : Lis
       (works_may-in_run script range events moment moment is moments.Still)
       (sessions_apart-in_run script range events moment moment is moments.Still) known
 
-  module _ (n : ℕ) (host : Host) (there : tree.get moment.world.hosts n ≡ Some host) (up : host.is_lost ≡ false) (req other : ℕ) (work second : Work)
-      (are : AreOpen host.node req work other second) (same : oid_of work.work ≡ oid_of second.work) (making : is_making work.work ≡ true) where
+  module _ (n : ℕ) (host : Host) (there : tree.get moment.world.hosts n ≡ Some host) (up : host.is_lost ≡ false) (req other : ℕ)
+      (work second : Work)
+      (are : AreOpen host.node req work other second) (same : oid_of work.work ≡ oid_of second.work)
+      (making : is_making work.work ≡ true) where
     by_client : is_making second.work ≡ false → (b : Bool) → is_of_client_at other host.node ≡ b
         → (is_making second.work ≡ false) × (is_of_client_at other host.node ≡ true)
     by_client none true client = (none, client)

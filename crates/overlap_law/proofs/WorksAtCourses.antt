@@ -20,7 +20,9 @@ use Rattle.sheep_node.proofs.RefusedCourses.{course_refused-keeps, request_refus
 use Rattle.sheep_node.proofs.SessionViews.{IsSeen, same_seen}
 use Rattle.sheep_node.proofs.SoleCommands.{free}
 use Rattle.sheep_node.proofs.WantedParts.{stage_had, gone_had, line_had}
-use Rattle.sheep_node.specs.Changes.{IsApart, without_ended_work, IsSoundStep, Outcome, ToWork, ToEntry, ToReply, without_denied_work, zones_of_members, attempt_in, RequestSteps, WorkIsNext, AtOnce, InTurn, Again, AgainAlone, input_received, Change}
+use Rattle.sheep_node.specs.Changes.{IsApart, without_ended_work, IsSoundStep, Outcome, ToWork, ToEntry, ToReply, without_denied_work}
+use Rattle.sheep_node.specs.Changes.{zones_of_members, attempt_in, RequestSteps, WorkIsNext, AtOnce, InTurn, Again, AgainAlone}
+use Rattle.sheep_node.specs.Changes.{input_received, Change}
 use Rattle.sheep_node.specs.Guests.{queued_as}
 use Rattle.sheep_node.specs.OneWork.{may_work_at, waiting_in, HasNoWork}
 use Rattle.sheep_node.specs.SessionQueues.{session_among}

@@ -111,7 +111,7 @@ module _ (script : List Statement) (range : RunsAreInRange script) where
         goes_on script (event_of_cause stepping.n stepping.cause) start.world
         (outcome_of_step script stepping.n stepping.host stepping.cause start.world) began is.made
 
-    in_step : (stepping : SteppingNode) → IsStepping script start.world stepping → StepsByChanges stepping.cause → (so_far : StepState)
+    pub in_step : (stepping : SteppingNode) → IsStepping script start.world stepping → StepsByChanges stepping.cause → (so_far : StepState)
         → LeadsInStep stepping (first_in_step stepping) so_far → HasWellWorks so_far.node
     in_step stepping is by so_far leads =
         let before = well_in_world start.world began stepping.n stepping.host is.there in

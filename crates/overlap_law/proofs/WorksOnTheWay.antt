@@ -13,32 +13,25 @@ use Rattle.sheep_node.specs.State.{Node}
 use Rattle.sheep_node.specs.StepState.{StepState}
 use Rattle.sheep_world.specs.World.{Host, World}
 use Rattle.sheep_world.specs.Began.{Began}
-use Rattle.sheep_world.specs.NodeCauses.{input_of_cause, host_with_node, progress_at_cause}
+use Rattle.sheep_world.specs.NodeCauses.{host_with_node}
 use Rattle.overlap_law.specs.MomentChanges.{MomentChange, RunsAreInRange}
 use Rattle.overlap_law.specs.Past.{MomentWithPast}
-use Rattle.overlap_law.specs.RequestsOfScript.{IsCourseOfAsk}
 use Rattle.overlap_law.specs.StepMoments.{SteppingNode, IsStepping, StepsByChanges, LeadsInStep, first_in_step}
 use Rattle.overlap_law.specs.Words.{Hosts}
 use Rattle.overlap_law.proofs.CausedWorks.{by_changes}
-use Rattle.overlap_law.proofs.CoursesAtChanges.{placed_in_chain}
-use Rattle.overlap_law.proofs.CoursesOfAsks.{ArePlaced, IsPlacedIn}
-use Rattle.overlap_law.proofs.CoursesOfScript.{asked_by, BeganOn, brings, placed_found, requests_placed}
 use Rattle.overlap_law.proofs.KnownSteps.{together}
 use Rattle.overlap_law.proofs.DrivenInMoments.{driven_at}
 use Rattle.overlap_law.proofs.WaitedInRuns.{works_wait, works_waited}
 use Rattle.overlap_law.proofs.WaitedSteps.{Waits}
-use Rattle.overlap_law.proofs.WholeInRuns.{may_change, sound_here}
 use Rattle.overlap_law.proofs.WorksAtCourses.{HaveAt}
 use Rattle.overlap_law.proofs.ClosedWorlds.{hosts_after}
 
 module _ (script : List Statement) where
-  -- a request of a node waits for this work, at a place that its statement allows
+  -- a request of a node waits for this work
   pub record IsOpenFor (node : Node) (req : ℕ) (work : ObjWork) : Type 0 where
     pub request : Request
     pub there : tree.get node.requests req ≡ Some request
     pub waits : Waits (session_among request.session node.sessions).disk request.course work
-    pub began : Option ℕ
-    pub course : IsCourseOfAsk (asked_by script req) (session_among request.session node.sessions).disk began request.course
 
   -- so it is of each work that a node has open
   abbrev pub OpenWorksAreSo : Node → Type 0
@@ -48,11 +41,10 @@ module _ (script : List Statement) where
   AllWorksAreSo hosts = (n : ℕ) (host : Host) → tree.get hosts n ≡ Some host → OpenWorksAreSo host.node
 
   -- by what is known of works and of requests
-  works_so : (node : Node) (Began : ℕ → Option ℕ → Type 0)
+  works_so : (node : Node)
       → ((req : ℕ) (work : Work) → tree.get node.gateway.works req ≡ Some work → may_work_at (tree.get node.requests req) ≡ true)
-      → HaveAt Waits node.gateway.works node.requests node.sessions → ArePlaced (asked_by script) Began node.requests node.sessions
-      → OpenWorksAreSo node
-  works_so node Began driven wait placed req work got = by_request (tree.get node.requests req) refl
+      → HaveAt Waits node.gateway.works node.requests node.sessions → OpenWorksAreSo node
+  works_so node driven wait req work got = by_request (tree.get node.requests req) refl
     where
       by_request : (o : Option Request) → tree.get node.requests req ≡ o → IsOpenFor node req work.work
       by_request None none =
@@ -60,46 +52,33 @@ module _ (script : List Statement) where
           let never = ap may_work_at none in
           absurd (cc (may, never))
       by_request (Some request) there =
-          let (start, at, course) = subst (IsPlacedIn (asked_by script) Began req node.sessions) there (placed req) in
           record {
             request = request;
             there = there;
             waits = subst (λ (o : Option Request). IfSome o
                 (λ (request : Request). Waits (session_among request.session node.sessions).disk request.course work.work)) there
                 (wait req work.work (inl (work, got, refl)));
-            began = start;
-            course = course;
           }
 
   module _ (range : RunsAreInRange script) where
     -- in each world of a run
     pub works_in_world : (world : World) → Began script world → AllWorksAreSo world.hosts
     works_in_world world began n host there =
-        works_so host.node (BeganOn script world.guests)
+        works_so host.node
         (λ req work got. ((together script range world began).driven n host there).driven.open_works req work got)
-        (works_waited script range world began n host there).1 (requests_placed script range world began n host there)
+        (works_waited script range world began n host there).1
 
     module _ (start : MomentWithPast) (began : Began script start.world) where
       -- in the middle of a step
       works_in_step : (stepping : SteppingNode) → IsStepping script start.world stepping → StepsByChanges stepping.cause
           → (so_far : StepState) → LeadsInStep stepping (first_in_step stepping) so_far → OpenWorksAreSo so_far.node
       works_in_step stepping is by so_far leads =
-          works_so so_far.node (BeganOn script (progress_at_cause stepping.cause start.world))
+          works_so so_far.node
           (λ req work got.
           (driven_at script range start began stepping is so_far leads stepping.n (host_with_node stepping.host so_far.node)
           (get-insert_same start.world.hosts stepping.n (host_with_node stepping.host so_far.node))).open_works req work got)
           (works_wait script range start.world began stepping.n stepping.host is.there is.up stepping.cause (by_changes stepping.cause by)
           is.caused so_far leads)
-          (placed_in_chain (asked_by script) (BeganOn script (progress_at_cause stepping.cause start.world)) (input_of_cause stepping.cause)
-          stepping.host.node
-          (may_change script range start.world began stepping.n stepping.host is.there is.up stepping.cause (by_changes stepping.cause by)
-          is.caused)
-          (sound_here script range start.world began stepping.n stepping.host is.there is.up).queues
-          (sound_here script range start.world began stepping.n stepping.host is.there is.up).sole_commands
-          (brings script start.world stepping.n stepping.host stepping.cause is.there is.caused)
-          (placed_found script range start.world began stepping.n stepping.host stepping.cause stepping.host.node
-          (requests_placed script range start.world began stepping.n stepping.host is.there))
-          so_far leads)
 
       -- behind each change
       pub works_after : {before after : MomentWithPast} → MomentChange script start before after → AllWorksAreSo after.world.hosts

@@ -1,6 +1,7 @@
 -- What open works would make of blocks may be read of them, whichever requests are refused: of a write's piece and of a check's value by
 -- their items; of the objects that are created, where that is given.
-use Rattle.std.proofs.Common.{◌≡◌, inl, arith, ℕ, ◌+◌, ◌-◌, ◌*◌, ◌<◌, ◌≤◌, nat_le, nat_lt, ◌&&◌, Bool, true, false, All, List, [], length, drop, slice_get, Some, refl, sym, ap, subst, ◌∙◌}
+use Rattle.std.proofs.Common.{◌≡◌, inl, arith, ℕ, ◌+◌, ◌-◌, ◌*◌, ◌<◌, ◌≤◌, nat_le, nat_lt, ◌&&◌, Bool, true, false, All, List, [], length}
+use Rattle.std.proofs.Common.{drop, slice_get, Some, refl, sym, ap, subst, ◌∙◌}
 use Rattle.std.specs.Prelude.{min}
 use Rattle.std.specs.Str.{bytes_eq}
 use Rattle.std.specs.FinMap as tree
@@ -24,6 +25,7 @@ use Rattle.vdi_directory.specs.declared.effect.Effect.{Effect}
 use Rattle.vdi_directory.specs.Decisions.{log_effects}
 use Rattle.peer_proto.specs.declared.work.ObjWork.{ObjWork}
 use Rattle.peer_proto.specs.Work.{oid_of}
+use Rattle.gateway.specs.Work.{is_making}
 use Rattle.gateway.specs.State.{Work}
 use Rattle.guest_driver.specs.declared.act.DriverAct.TheVariants as driver_acts
 use Rattle.guest_driver.specs.declared.disk.Disk.{Disk}
@@ -41,11 +43,11 @@ use Rattle.disk_check.specs.Check.{Check, CheckStage, Comparing, read_copies, wr
 use Rattle.disk_check.specs.Check as checks
 use Rattle.sheep_node.specs.declared.course.Course.{Course}
 use Rattle.sheep_node.specs.declared.course.Course.TheVariants.{Waiting, Driving, Commanding, Checking, DoingWork, AwaitingDecision}
-use Rattle.sheep_node.specs.declared.event.Event.{Event}
 use Rattle.sheep_node.specs.SessionQueues.{session_among}
 use Rattle.sheep_node.specs.SoundWorks.{IsSoundCourse}
 use Rattle.sheep_world.specs.World.{Host}
 use Rattle.sheep_world.specs.Began.{Began}
+use Rattle.sheep_world.specs.RunsWithAsks.{Move}
 use Rattle.overlap_law.specs.CreatedPieces.{anything, CreatesPiece}
 use Rattle.overlap_law.specs.Courses.{IsOfTask, IsOfStage, IsOfCheckStage}
 use Rattle.overlap_law.specs.Each.{spec_in}
@@ -54,12 +56,10 @@ use Rattle.overlap_law.specs.KeptHistory.{CheckedValuesHaveItems, CreatesMayStay
 use Rattle.overlap_law.specs.MomentChanges.{MomentChange, MomentTrail, Then, RunsAreInRange}
 use Rattle.overlap_law.specs.Past.{MomentWithPast, run_with_past}
 use Rattle.overlap_law.specs.Pieces.{IsInPiece, HasItem, WritesHaveItems, bytes_for, left_to_write, payload_at}
-use Rattle.overlap_law.specs.RequestsOfScript.{IsCourseOfAsk}
 use Rattle.overlap_law.specs.StayingBlocks.{IsBlockOfAnyDisk, MayStay, WorksMayStay}
 use Rattle.overlap_law.specs.Units.{unit_start, unit_size, unit_end, covers_by, bytes_by}
 use Rattle.overlap_law.specs.WrittenBlocks.{blocks_per_object, items_at, is_torn_here}
 use Rattle.overlap_law.proofs.BytesOfCreates.{piece-of_piece, created_has}
-use Rattle.overlap_law.proofs.CoursesOfScript.{asked_by}
 use Rattle.overlap_law.proofs.CreatesFirst.{inside}
 use Rattle.overlap_law.proofs.DisksOnTheWay.{disks_after}
 use Rattle.overlap_law.proofs.DriverEntries.{no_inode}
@@ -76,6 +76,9 @@ use Rattle.overlap_law.proofs.WaitedSteps.{no_id, Waits}
 use Rattle.overlap_law.proofs.WorksInMoments.{well_after}
 use Rattle.overlap_law.proofs.WorksOnTheWay.{IsOpenFor, works_after}
 use Rattle.overlap_law.proofs.WriteObjects.{own_there}
+use Rattle.overlap_law.proofs.AllowedCourses.{opened_by, IsAllowed}
+use Rattle.sheep_node.proofs.SessionViews.{IsSeen}
+use Rattle.peer_proto.specs.declared.work.ObjWork.TheVariants as works
 
 -- ---- pieces
 
@@ -117,7 +120,14 @@ module _ (inode : Content) (payload : List ℕ) (piece : Piece) (unit : ℕ) (bl
 
 -- ---- at a moment behind a change
 
-module _ (script : List Statement) (range : RunsAreInRange script) (events : List Event) (start before after : MomentWithPast)
+-- what makes nothing covers nothing
+covers_none : (unit : ℕ) (work : ObjWork) → is_making work ≡ false → covers_by unit work ≡ false
+covers_none unit (works.Create oid policy size offset bytes) none = absurd (cc (none))
+covers_none unit (works.Write oid policy offset bytes) none = absurd (cc (none))
+covers_none unit (works.Read oid policy offset size) none = refl
+covers_none unit (works.ReadAll oid policy size) none = refl
+
+module _ (script : List Statement) (range : RunsAreInRange script) (events : List Move) (start before after : MomentWithPast)
     (is_run : run_with_past script events ≡ Some start) (trail : MomentTrail script start before)
     (change : MomentChange script start before after) (good_id : ℕ → Bool) where
   abbrev ledger : Ledger
@@ -324,23 +334,27 @@ module _ (script : List Statement) (range : RunsAreInRange script) (events : Lis
     check_stays check course opened on own checks.Answered is = absurd is
 
     work_stays : Stays work.work
-    work_stays = by_course so.request.course refl so.waits so.course
+    work_stays = by_course so.request.course refl so.waits
       where
         by_course : (course : Course) → so.request.course ≡ course
             → Waits (session_among so.request.session host.node.sessions).disk course work.work
-            → IsCourseOfAsk (asked_by script req) (session_among so.request.session host.node.sessions).disk so.began course
             → Stays work.work
-        by_course (Waiting ask) same waits placed = absurd waits.0
-        by_course (Driving driver) same (is, own) placed =
+        by_course (Waiting ask) same waits = absurd waits.0
+        by_course (Driving driver) same (is, own) =
             let well = well_after script range start began change n host there in
             driver_stays driver same is.disk is.there is.awaited
             (subst (IsKnownCourse well.known) same (well.on_known.courses req so.request so.there))
-        by_course (Commanding op) same waits placed = stage_stays op.stage waits.0
-        by_course (Checking check) same (is, (disk, opened, own)) placed =
+        by_course (Commanding op) same waits = stage_stays op.stage waits.0
+        by_course (Checking check) same (is, (disk, opened, own)) =
             let here : is.disk ≡ disk = same_Some is.disk disk (sym is.there ∙ opened) in
             check_stays check same is.disk is.there (own ∙ ap (λ (d : Disk). d.inode.vid) (sym here)) check.stage is.is
-        by_course (DoingWork asked) same waits placed = absurd placed
-        by_course (AwaitingDecision entry) same waits placed = absurd waits.0
+        by_course (DoingWork asked) same waits =
+            let allowed : IsAllowed (opened_by (session_among so.request.session host.node.sessions)) so.request.course
+            = subst (IsSeen opened_by IsAllowed host.node.sessions) so.there
+            ((well_after script range start began change n host there).allowed req) in
+            no_cover asked waits.0
+            (covers_none unit asked (subst (IsAllowed (opened_by (session_among so.request.session host.node.sessions))) same allowed))
+        by_course (AwaitingDecision entry) same waits = absurd waits.0
 
   pub works_to_stay : WritesHaveItems (ledger_of after.past.history) after.world.hosts
       → CheckedValuesHaveItems (ledger_of after.past.history) after.world.hosts

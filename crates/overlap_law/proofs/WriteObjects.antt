@@ -1,6 +1,7 @@
 -- To which object a write goes that a node comes to: the own one of an open disk, by its table or by the entry that was just written, or an
 -- inode.
-use Rattle.std.proofs.Common.{◌≡◌, ◌≢◌, ◌⊎◌, inl, inr, ⊎_elim, ℕ, ◌==◌, Bool, true, false, cond, List, [], ◌∷◌, ◌++◌, All, Contains, length, filter, Option, Some, None, IfSome, unwrap_or, slice_index, refl, sym, ap, subst, ◌∙◌}
+use Rattle.std.proofs.Common.{◌≡◌, ◌≢◌, ◌⊎◌, inl, inr, ⊎_elim, ℕ, ◌==◌, Bool, true, false, cond, List, [], ◌∷◌, ◌++◌, All, Contains, length}
+use Rattle.std.proofs.Common.{filter, Option, Some, None, IfSome, unwrap_or, slice_index, refl, sym, ap, subst, ◌∙◌}
 use Rattle.std.specs.List.{range_with_len}
 use Rattle.std.specs.FinMap as tree
 use Rattle.std.proofs.lemmas.Bool.{cases_eq, eqb-true}
@@ -50,7 +51,10 @@ use Rattle.sheep_node.specs.declared.course.Request.{Request}
 use Rattle.sheep_node.specs.declared.input.Input.{Input}
 use Rattle.sheep_node.specs.declared.input.Input.TheVariants as inputs
 use Rattle.sheep_node.specs.declared.session.Session.{Session}
-use Rattle.sheep_node.specs.Changes.{HasRequest, Outcome, ToWork, ToEntry, ToReply, outcome_of_driver, outcome_of_command, outcome_of_check, without_ended_work, RequestSteps, DiskBegins, DiskGoesOn, CommandBegins, CommandGoesOn, CommandDecided, CheckBegins, CheckGoesOn, ObjectBegins, ObjectIsDone, EntryBegins, EntryDecided, WorkIsNext, AtOnce, InTurn, Again, AgainAlone}
+use Rattle.sheep_node.specs.Changes.{HasRequest, Outcome, ToWork, ToEntry, ToReply, outcome_of_driver, outcome_of_command, outcome_of_check}
+use Rattle.sheep_node.specs.Changes.{without_ended_work, RequestSteps, DiskBegins, DiskGoesOn, CommandBegins, CommandGoesOn, CommandDecided}
+use Rattle.sheep_node.specs.Changes.{CheckBegins, CheckGoesOn, ObjectBegins, ObjectIsDone, EntryBegins, EntryDecided, WorkIsNext, AtOnce}
+use Rattle.sheep_node.specs.Changes.{InTurn, Again, AgainAlone}
 use Rattle.sheep_node.specs.Courses.{inode_open}
 use Rattle.sheep_node.specs.SessionQueues.{session_among}
 use Rattle.sheep_node.specs.State.{Node, new_session}
@@ -66,7 +70,8 @@ use Rattle.overlap_law.proofs.AllowedCourses.{IsAllowed, AreAllowed, opened_by}
 use Rattle.overlap_law.proofs.CoursesOfAsks.{disk_in}
 use Rattle.overlap_law.proofs.KnownDisks.{FewAt, IsKnownInode, IsKnownCourse, IsKnownStage, IsKnownTask}
 use Rattle.overlap_law.proofs.KnownDiskSteps.{AreOnKnown}
-use Rattle.overlap_law.proofs.WaitedSteps.{no_id, HasOwnDraftAt, IsOwnIn, Waits, IsOwnStep, IsOpWaitedAt, driver_begins-own, driver_goes_on-own, command_begins-waited, command_goes_on-waited, command_decided-waited}
+use Rattle.overlap_law.proofs.WaitedSteps.{no_id, HasOwnDraftAt, IsOwnIn, Waits, IsOwnStep, IsOpWaitedAt, driver_begins-own}
+use Rattle.overlap_law.proofs.WaitedSteps.{driver_goes_on-own, command_begins-waited, command_goes_on-waited, command_decided-waited}
 use Rattle.overlap_law.proofs.WorksAtCourses.{IsAt, HaveAt, AtSoFar, IsOutcomeAt}
 
 -- a work writes, and creates nothing
@@ -93,14 +98,16 @@ IsInodeOf work = (vid : ℕ) × IsVid vid × (oid_of work ≡ inode_number vid)
 
 -- a write goes to an own object of an open disk, to the one of which the entry is being written, or to an inode
 pub data WriteGoes (node : Node) (work : ObjWork) : Type 0 where
-  ToOwn : (number : ℕ) (disk : Disk) → (session_among number node.sessions).disk ≡ Some disk → IsOwnObject disk.inode work → WriteGoes node work
+  ToOwn : (number : ℕ) (disk : Disk) → (session_among number node.sessions).disk ≡ Some disk → IsOwnObject disk.inode work
+      → WriteGoes node work
   ToEntered : (inode : Content) (piece : Piece) → IsVid inode.vid → FewAt piece → IsOpen node (write_entry inode piece)
       → oid_of work ≡ object_number inode.vid piece.index → WriteGoes node work
   ToInode : IsInodeOf work → WriteGoes node work
 
 -- ---- by what a request waits for
 
-driver_goes : (inode : Content) (driver : Driver) (work : ObjWork) → IsAwaitedByDriver inode driver (driver_acts.Work work) → IsOwnIn inode driver
+driver_goes : (inode : Content) (driver : Driver) (work : ObjWork) → IsAwaitedByDriver inode driver (driver_acts.Work work)
+    → IsOwnIn inode driver
     → IsWrite work → IsOwnObject inode work ⊎ (oid_of work ≡ inode_number inode.vid)
 driver_goes inode (Reads told piece rest) work is own write =
     absurd (reads_not work (read_piece inode piece (entry_of inode piece)) (cc (is)) refl write)
@@ -111,7 +118,8 @@ driver_goes inode (Writes payload Fetching piece rest) work is own write =
     absurd (reads_not work (read_object inode piece (entry_of inode piece)) (cc (is)) refl write)
 driver_goes inode (Writes payload Creating piece rest) work (offset, bytes, is) own write =
     absurd
-    (creates_not work (works.Create (object_number inode.vid piece.index) inode.spec.policy (object_bytes inode) offset bytes) (cc (is)) refl write)
+    (creates_not work (works.Create (object_number inode.vid piece.index) inode.spec.policy (object_bytes inode) offset bytes) (cc (is))
+    refl write)
 driver_goes inode (Writes payload Entering piece rest) work is own write =
     let same : work ≡ write_entry inode piece = cc (is) in inr (ap oid_of same)
 driver_goes inode drivers.Answered work (reply, is) own write = absurd (cc (is))
@@ -119,7 +127,8 @@ driver_goes inode drivers.Answered work (reply, is) own write = absurd (cc (is))
 module _ (known now : List Effect) where
   task_goes : (opened : Option Disk) → ((disk : Disk) → opened ≡ Some disk → IsKnownInode known disk.inode) → (vid : Vid) (task : Task)
       (work : ObjWork) → IsOfTask [] no_id [] opened vid task work → IsKnownTask now vid task → IsWrite work → IsInodeOf work
-  task_goes opened on vid (Opening snapshot ids header) work is knows write = absurd (reads_not work (read_inode vid.0 header.spec) is refl write)
+  task_goes opened on vid (Opening snapshot ids header) work is knows write =
+      absurd (reads_not work (read_inode vid.0 header.spec) is refl write)
   task_goes opened on vid (WritingBack inode) work is knows write = (inode.vid, knows.disk.id, ap oid_of is.work_of)
   task_goes opened on vid (Tagging old inode) work is knows write =
       (is.disk.inode.vid, (on is.disk is.there).disk.id, ap oid_of is.work_of)
@@ -140,7 +149,8 @@ filter_passes : (p : ℕ → Bool) (xs : List ℕ) (x : ℕ) → Contains (filte
 filter_passes p [] x there = absurd (Contains-nil x there)
 filter_passes p (y ∷ ys) x there = by_test (λ (later : Contains (filter p ys) x). filter_passes p ys x later) (p y) refl there
   where
-    by_test : (Contains (filter p ys) x → p x ≡ true) → (b : Bool) → p y ≡ b → Contains (cond b (y ∷ filter p ys) (filter p ys)) x → p x ≡ true
+    by_test : (Contains (filter p ys) x → p x ≡ true) → (b : Bool) → p y ≡ b → Contains (cond b (y ∷ filter p ys) (filter p ys)) x
+        → p x ≡ true
     by_test rest true is there = ⊎_elim
         (λ (same : y ≡ x). ap p (sym same) ∙ is)
         (λ (later : Contains (filter p ys) x). rest later)
@@ -177,28 +187,33 @@ module _ (known : List Effect) (node : Node) (on_known : AreOnKnown known node) 
           → IsKnownInode known disk.inode
       by_session None none opened = absurd (cc (opened))
       by_session (Some session) there opened =
-          subst (λ (o : Option Disk). IfSome o (λ (d : Disk). IsKnownInode known d.inode)) opened (on_known.each_session number session there).disk
+          subst (λ (o : Option Disk). IfSome o (λ (d : Disk). IsKnownInode known d.inode)) opened
+          (on_known.each_session number session there).disk
 
   course_goes : (number : ℕ) (course : Course) (work : ObjWork) → Waits (session_among number node.sessions).disk course work
-      → IsKnownCourse known course → IsAllowed (opened_as (session_among number node.sessions).disk) course → IsWrite work → WriteGoes node work
+      → IsKnownCourse known course → IsAllowed (opened_as (session_among number node.sessions).disk) course → IsWrite work
+      → WriteGoes node work
   course_goes number (Waiting ask) work waits knows allowed write = absurd waits.0
   course_goes number (Driving driver) work (is, (disk, opened, own)) knows allowed write =
       let same : is.disk ≡ disk = same_Some is.disk disk (sym is.there ∙ opened) in
       ⊎_elim
       (λ (object : IsOwnObject disk.inode work). ToOwn number disk opened object)
       (λ (inode : oid_of work ≡ inode_number disk.inode.vid). ToInode (disk.inode.vid, (known_open number disk opened).disk.id, inode))
-      (driver_goes disk.inode driver work (subst (λ (d : Disk). IsAwaitedByDriver d.inode driver (driver_acts.Work work)) same is.awaited) own write)
+      (driver_goes disk.inode driver work (subst (λ (d : Disk). IsAwaitedByDriver d.inode driver (driver_acts.Work work)) same is.awaited)
+      own write)
   course_goes number (Commanding op) work waits knows allowed write =
       ToInode (stage_goes known known (session_among number node.sessions).disk (known_open number) op.stage work waits.0 knows write)
   course_goes number (Checking check) work (is, (disk, opened, vid)) knows allowed write =
       let same : is.disk ≡ disk = same_Some is.disk disk (sym is.there ∙ opened) in
       ToOwn number disk opened
       (check_goes disk check check.stage work (subst (λ (d : Disk). IsOfCheckStage d check check.stage work) same is.is) vid write)
-  course_goes number (DoingWork asked) work waits knows allowed write = absurd allowed
+  course_goes number (DoingWork asked) work waits knows allowed write =
+      absurd (reads_not work asked waits.0 allowed write)
   course_goes number (AwaitingDecision entry) work waits knows allowed write = absurd waits.0
 
   -- a work that a request has
-  pub work_goes : AreAllowed node.requests node.sessions → HaveAt Waits node.gateway.works node.requests node.sessions → (req : ℕ) (work : ObjWork)
+  pub work_goes : AreAllowed node.requests node.sessions → HaveAt Waits node.gateway.works node.requests node.sessions
+      → (req : ℕ) (work : ObjWork)
       → HasWork req work node.gateway.works node.sessions → (request : Request) → tree.get node.requests req ≡ Some request → IsWrite work
       → WriteGoes node work
   work_goes allowed waits req work has request there write =
@@ -226,7 +241,8 @@ freed_disk session req work status so_far =
 -- the request that is now in this course
 seen_then : (Q : Option Disk → Course → Type 0) (sessions : Sessions) (number : ℕ) (session : Session) (req : ℕ) (course : Course)
     (requests : Requests)
-    → IsSeen disk_in Q (tree.insert sessions number session) (tree.get (tree.insert requests req (record { session = number; course = course })) req)
+    → IsSeen disk_in Q (tree.insert sessions number session) (tree.get
+    (tree.insert requests req (record { session = number; course = course })) req)
     → Q session.disk course
 seen_then Q sessions number session req course requests is =
     subst (λ (o : Option Session). Q (disk_in (unwrap_or o new_session)) course) (get-insert_same sessions number session)
@@ -275,10 +291,12 @@ entering_is inode drivers.Answered index work is awaited few = absurd is
 
 module _ (known now : List Effect) (input : Input) (node : Node) (so_far : StepState) (on_known : AreOnKnown known so_far.node)
     (waits : AtSoFar Waits so_far)
-    (none : (req session : ℕ) (work : ObjWork) → input ≡ inputs.Guest req session (asks.Object work) → ⊥) where
+    (none : (req session : ℕ) (work : ObjWork) → input ≡ inputs.Guest req session (asks.Object work) → is_making work ≡ false) where
   -- a read or write
-  acted_goes : (session : ℕ) (disk : Disk) (step : DriverStep) → (session_in session so_far).disk ≡ Some disk → step.inode.vid ≡ disk.inode.vid
-      → ((index : ℕ) (work : ObjWork) → slice_index step.inode.table index ≡ disk.inode.vid → oid_of work ≡ object_number disk.inode.vid index
+  acted_goes : (session : ℕ) (disk : Disk) (step : DriverStep) → (session_in session so_far).disk ≡ Some disk
+      → step.inode.vid ≡ disk.inode.vid
+      → ((index : ℕ) (work : ObjWork) → slice_index step.inode.table index ≡ disk.inode.vid → oid_of work
+      ≡ object_number disk.inode.vid index
       → WriteGoes so_far.node work)
       → (act : DriverAct) → IsAwaitedByDriver step.inode step.driver act → IsOwnStep step → OutcomeGoes so_far (outcome_of_driver act)
   acted_goes session disk step on same own_so (driver_acts.Work work) told own = λ write. ⊎_elim
@@ -309,12 +327,13 @@ module _ (known now : List Effect) (input : Input) (node : Node) (so_far : StepS
       → (act : OpAct) → IsOpWaitedAt (session_in session so_far).disk step.op act → OutcomeGoes so_far (outcome_of_command act)
   commanded_goes session req step knows (op_acts.Append entry) is = tt
   commanded_goes session req step knows (op_acts.Work work) is =
-      λ write. ToInode (stage_goes known now (session_in session so_far).disk (known_open known so_far.node on_known session) step.op.stage work is.0
-      knows write)
+      λ write. ToInode (stage_goes known now (session_in session so_far).disk (known_open known so_far.node on_known session) step.op.stage
+      work is.0 knows write)
   commanded_goes session req step knows (op_acts.Reply reply) is = tt
 
   -- a check
-  checked_goes : (session req : ℕ) (check : Check) (before : StepState) → (session_in session before).disk ≡ (session_in session so_far).disk
+  checked_goes : (session req : ℕ) (check : Check) (before : StepState)
+      → (session_in session before).disk ≡ (session_in session so_far).disk
       → (act : CheckAct) → IsOutcomeAt Waits req (outcome_of_check act) (with_sole_request session req (Checking check) before)
       → OutcomeGoes so_far (outcome_of_check act)
   checked_goes session req check before same (check_acts.Work work) is =
@@ -354,7 +373,8 @@ module _ (known now : List Effect) (input : Input) (node : Node) (so_far : StepS
         commanded_goes session req step
         (later (record { session = session; course = Commanding step.op })
         (get-insert_same so_far.node.requests req (record { session = session; course = Commanding step.op }))) step.act
-        (command_begins-waited (session_in session so_far).disk so_far.node.me session ask (inode_open (session_in session so_far).disk) step is)
+        (command_begins-waited (session_in session so_far).disk so_far.node.me session ask (inode_open (session_in session so_far).disk)
+        step is)
     steps_go session req next moved later (CommandGoesOn number work attempt status bytes op step ends is) =
         let draft : HasOwnDraftAt op.stage
         = (subst (λ (o : Option Request). IsAt Waits so_far.node.sessions o work.work) ends.ends.request
@@ -372,9 +392,10 @@ module _ (known now : List Effect) (input : Input) (node : Node) (so_far : StepS
         checked_goes session req (begin_check inode).check so_far refl (begin_check inode).act
         (outcome session req next moved (CheckBegins inode arrival on))
     steps_go session req next moved later (CheckGoesOn number work attempt status bytes check step ends is) =
-        checked_goes session req step.check (without_ended_work session req work status so_far) (freed_disk session req work status so_far) step.act
-        (outcome session req next moved (CheckGoesOn number work attempt status bytes check step ends is))
-    steps_go session req next moved later (ObjectBegins asked arrival) = absurd (none req session asked arrival.from)
+        checked_goes session req step.check (without_ended_work session req work status so_far) (freed_disk session req work status so_far)
+        step.act (outcome session req next moved (CheckGoesOn number work attempt status bytes check step ends is))
+    steps_go session req next moved later (ObjectBegins asked arrival) =
+        λ write. absurd (reads_not asked asked refl (none req session asked arrival.from) write)
     steps_go session req next moved later (ObjectIsDone number work attempt status bytes asked ends) = tt
     steps_go session req next moved later (EntryBegins entry arrival) = tt
     steps_go session req next moved later (EntryDecided entry wanted from reading there awaits) = tt

@@ -1,5 +1,6 @@
 -- The writer of an id stays while no effect takes the id from it; and who becomes its writer is given the id by an effect.
-use Rattle.std.proofs.Common.{◌≡◌, ◌⊎◌, inl, inr, ℕ, ◌==◌, Bool, true, false, not, cond, List, [], ◌∷◌, ◌++◌, filter, Option, Some, None, refl, sym, ap, ◌∙◌}
+use Rattle.std.proofs.Common.{◌≡◌, ◌⊎◌, inl, inr, ℕ, ◌==◌, Bool, true, false, not, cond, List, [], ◌∷◌, ◌++◌, filter, Option, Some, None}
+use Rattle.std.proofs.Common.{refl, sym, ap, ◌∙◌}
 use Rattle.std.specs.List.{find}
 use Rattle.std.specs.Option.{option_or, option_map_or}
 use Rattle.std.proofs.lemmas.Bool.{eqb-true, eq-eqb, both_ways, or_parts, or_right}
@@ -90,9 +91,11 @@ unfolding writer_of
 writer-by effects vid = refl
 
 pub writer-after : (before : List Effect) (effect : Effect) (vid : ℕ) → writer_of (before ++ effect ∷ []) vid
-    ≡ writer_by (reservation_on (id_of vid) (reservations_after (reservations_of before) effect)) (holder_after vid (holder_of before vid) effect)
+    ≡ writer_by (reservation_on (id_of vid) (reservations_after (reservations_of before) effect))
+    (holder_after vid (holder_of before vid) effect)
 unfolding writer_of
-writer-after before effect vid = λ i. writer_by (reservation_on (id_of vid) (reservations_of-push before effect i)) (holder_of-push before effect vid i)
+writer-after before effect vid =
+    λ i. writer_by (reservation_on (id_of vid) (reservations_of-push before effect i)) (holder_of-push before effect vid i)
 
 pub takes_less : (vid : ℕ) (node : NodeId) (effect : Effect) → takes_writer vid node effect ≡ false → takes_disk vid node effect ≡ false
 takes_less vid node effects.Nothing is = refl
@@ -127,7 +130,8 @@ module _ (before : List Effect) (sound : IsSound before) (vid : ℕ) where
   abbrev now : Option Reservation
   now = find (is_on vid) all
 
-  state_reserved : (reservation : Reservation) → In reservation all → is_on vid reservation ≡ true → state_of before vid ≡ Reserved reservation.by
+  state_reserved : (reservation : Reservation) → In reservation all → is_on vid reservation ≡ true
+      → state_of before vid ≡ Reserved reservation.by
   state_reserved reservation there on =
       ap (state_of before) (sym (eqb-true reservation.vid.0 vid on)) ∙ (sound.reservations reservation there).state
 
@@ -152,7 +156,8 @@ module _ (before : List Effect) (sound : IsSound before) (vid : ℕ) where
 
   -- ---- the writer stays
 
-  pub reservation_stays : (reservation : Reservation) (effect : Effect) → now ≡ Some reservation → takes_writer vid reservation.by effect ≡ false
+  pub reservation_stays : (reservation : Reservation) (effect : Effect) → now ≡ Some reservation
+      → takes_writer vid reservation.by effect ≡ false
       → find (is_on vid) (reservations_after all effect) ≡ Some reservation
   reservation_stays reservation effects.Nothing found is = found
   reservation_stays reservation (effects.Reserved grant) found is =
@@ -163,7 +168,8 @@ module _ (before : List Effect) (sound : IsSound before) (vid : ℕ) where
       (kept_apart reservation.vid.0 vid of.0 (in-find (is_on vid) reservation all found).1 is)
   reservation_stays reservation (effects.Snapped snap) found is =
       find-kept (is_on vid) (λ (r : Reservation). not (r.vid.0 == snap.vid.0)) reservation all found
-      (kept_apart reservation.vid.0 vid snap.vid.0 (in-find (is_on vid) reservation all found).1 (or_parts (snap.old.0 == vid) (snap.vid.0 == vid) is).1)
+      (kept_apart reservation.vid.0 vid snap.vid.0 (in-find (is_on vid) reservation all found).1
+      (or_parts (snap.old.0 == vid) (snap.vid.0 == vid) is).1)
   reservation_stays reservation (effects.Deleted of name) found is = found
   reservation_stays reservation (effects.Held of holder) found is = found
   reservation_stays reservation (effects.Freed of) found is = found
@@ -174,20 +180,25 @@ module _ (before : List Effect) (sound : IsSound before) (vid : ℕ) where
       find-kept (is_on vid) (λ (r : Reservation). not (r.by.0 == node.0)) reservation all found (ap not is)
 
   -- no reservation comes on a working disk
-  none_comes : (effect : Effect) → IsLawful before effect → state_of before vid ≡ Working → find (is_on vid) (reservations_after all effect) ≡ None
+  none_comes : (effect : Effect) → IsLawful before effect → state_of before vid ≡ Working
+      → find (is_on vid) (reservations_after all effect) ≡ None
   none_comes effects.Nothing lawful works = working_free works
   none_comes (effects.Reserved grant) lawful works =
       find-append (is_on vid) all (grant.reservation ∷ [])
       ∙ ap (λ (o : Option Reservation). option_or o (find (is_on vid) (grant.reservation ∷ []))) (working_free works)
       ∙ ap (λ b. cond b (Some grant.reservation) None)
       (other-id before sound grant.reservation.vid.0 vid Unused Working (sound.unused grant.reservation.vid.0 lawful.1) works (λ e. cc))
-  none_comes (effects.Published of name) lawful works = find-kept_none (is_on vid) (λ (r : Reservation). not (r.vid.0 == of.0)) all (working_free works)
-  none_comes (effects.Snapped snap) lawful works = find-kept_none (is_on vid) (λ (r : Reservation). not (r.vid.0 == snap.vid.0)) all (working_free works)
+  none_comes (effects.Published of name) lawful works =
+      find-kept_none (is_on vid) (λ (r : Reservation). not (r.vid.0 == of.0)) all (working_free works)
+  none_comes (effects.Snapped snap) lawful works =
+      find-kept_none (is_on vid) (λ (r : Reservation). not (r.vid.0 == snap.vid.0)) all (working_free works)
   none_comes (effects.Deleted of name) lawful works = working_free works
   none_comes (effects.Held of holder) lawful works = working_free works
   none_comes (effects.Freed of) lawful works = working_free works
-  none_comes (effects.Withdrawn of) lawful works = find-kept_none (is_on vid) (λ (r : Reservation). not (r.vid.0 == of.0)) all (working_free works)
-  none_comes (effects.Left node) lawful works = find-kept_none (is_on vid) (λ (r : Reservation). not (r.by.0 == node.0)) all (working_free works)
+  none_comes (effects.Withdrawn of) lawful works =
+      find-kept_none (is_on vid) (λ (r : Reservation). not (r.vid.0 == of.0)) all (working_free works)
+  none_comes (effects.Left node) lawful works =
+      find-kept_none (is_on vid) (λ (r : Reservation). not (r.by.0 == node.0)) all (working_free works)
 
   module _ (effect : Effect) (lawful : IsLawful before effect) where
     abbrev later : Option Reservation
@@ -240,14 +251,17 @@ module _ (before : List Effect) (sound : IsSound before) (vid : ℕ) where
   stays_with node r = not (r.by.0 == node.0)
 
   -- a node leaves
-  left_was : (writer : Holder) (node : NodeId) → writer_by (find (is_on vid) (filter (λ (r : Reservation). not (r.by.0 == node.0)) all)) (without_node node.0 (holder_of before vid)) ≡ Some writer
+  left_was : (writer : Holder) (node : NodeId)
+      → writer_by (find (is_on vid) (filter (λ (r : Reservation). not (r.by.0 == node.0)) all)) (without_node node.0 (holder_of before vid))
+      ≡ Some writer
       → writer_by now (holder_of before vid) ≡ Some writer
   left_was writer node is = by_found now refl
     where
       by_found : (o : Option Reservation) → now ≡ o → writer_by o (holder_of before vid) ≡ Some writer
       by_found None none =
           without_some_of node.0 (holder_of before vid) writer
-          (sym (ap (λ (o : Option Reservation). writer_by o (without_node node.0 (holder_of before vid))) (find-kept_none (is_on vid) (stays_with node) all none)) ∙ is)
+          (sym (ap (λ (o : Option Reservation). writer_by o (without_node node.0 (holder_of before vid)))
+          (find-kept_none (is_on vid) (stays_with node) all none)) ∙ is)
         where
           without_some_of : (node : ℕ) (held : Option Holder) (holder : Holder) → without_node node held ≡ Some holder → held ≡ Some holder
           without_some_of node None holder is = absurd (cc (is))
@@ -268,7 +282,8 @@ module _ (before : List Effect) (sound : IsSound before) (vid : ℕ) where
               let unheld = reserved_unheld reservation.by reserved in
               nothing_left writer (sym (λ i. writer_by (none i) (without_node node.0 (unheld i))) ∙ is)
           by_test false keeps =
-              sym (ap (λ (o : Option Reservation). writer_by o (without_node node.0 (holder_of before vid))) (find-kept (is_on vid) (stays_with node) reservation all found (ap not keeps))) ∙ is
+              sym (ap (λ (o : Option Reservation). writer_by o (without_node node.0 (holder_of before vid)))
+              (find-kept (is_on vid) (stays_with node) reservation all found (ap not keeps))) ∙ is
 
   -- who may write an id after an effect might before, or is given it by the effect
   pub writer_given : (effect : Effect) → IsLawful before effect → (writer : Holder) → writer_of (before ++ effect ∷ []) vid ≡ Some writer
@@ -276,7 +291,8 @@ module _ (before : List Effect) (sound : IsSound before) (vid : ℕ) where
   unfolding writer_of
   writer_given effect lawful writer is = by_effect effect lawful (sym (writer-after before effect vid) ∙ is)
     where
-      held_apart : (of : ℕ) (other : Option Holder) → (of == vid) ≡ false → writer_by now (cond (of == vid) other (holder_of before vid)) ≡ Some writer
+      held_apart : (of : ℕ) (other : Option Holder) → (of == vid) ≡ false
+          → writer_by now (cond (of == vid) other (holder_of before vid)) ≡ Some writer
           → writer_by now (holder_of before vid) ≡ Some writer
       held_apart of other apart is = sym (ap (λ b. writer_by now (cond b other (holder_of before vid))) apart) ∙ is
 
@@ -307,9 +323,11 @@ module _ (before : List Effect) (sound : IsSound before) (vid : ℕ) where
           by_test false true apart old =
               let free = working_free (ap (state_of before) (sym (eqb-true snap.old.0 vid old)) ∙ works.state) in
               let none = kept_there snap.vid apart ∙ free in
-              nothing_left writer (sym (λ i. writer_by (none i) (cond (old i) None (cond (snap.vid.0 == vid) (Some snap.holder) (holder_of before vid)))) ∙ is)
+              nothing_left writer (sym (λ i. writer_by (none i) (cond (old i) None
+              (cond (snap.vid.0 == vid) (Some snap.holder) (holder_of before vid)))) ∙ is)
           by_test false false apart other =
-              inl (sym (λ i. writer_by (kept_there snap.vid apart i) (cond (other i) None (cond (apart i) (Some snap.holder) (holder_of before vid)))) ∙ is)
+              inl (sym (λ i. writer_by (kept_there snap.vid apart i) (cond (other i) None
+              (cond (apart i) (Some snap.holder) (holder_of before vid)))) ∙ is)
       by_effect (effects.Deleted of name) lawful is = inl is
       by_effect (effects.Held of holder) lawful is = by_test (of.0 == vid) refl
         where
@@ -321,7 +339,8 @@ module _ (before : List Effect) (sound : IsSound before) (vid : ℕ) where
           by_test : (b : Bool) → (of.0 == vid) ≡ b → (writer_by now (holder_of before vid) ≡ Some writer) ⊎ (false ≡ true)
           by_test true same = inl (by_found now refl (sym (ap (λ b. writer_by now (cond b None (holder_of before vid))) same) ∙ is))
             where
-              by_found : (o : Option Reservation) → now ≡ o → writer_by o None ≡ Some writer → writer_by o (holder_of before vid) ≡ Some writer
+              by_found : (o : Option Reservation) → now ≡ o → writer_by o None ≡ Some writer
+                  → writer_by o (holder_of before vid) ≡ Some writer
               by_found None none is = nothing_left writer is
               by_found (Some reservation) found is = is
           by_test false apart = inl (held_apart of.0 None apart is)
@@ -348,7 +367,8 @@ module _ (before : List Effect) (sound : IsSound before) (vid : ℕ) where
       by_holder None none = none
       by_holder (Some holder) held = let works = sound.held vid holder held in absurd (cc (works, unused))
 
-  pub given_writer : (effect : Effect) → IsLawful before effect → gives vid effect ≡ true → writer_of (before ++ effect ∷ []) vid ≡ given_to effect
+  pub given_writer : (effect : Effect) → IsLawful before effect → gives vid effect ≡ true
+      → writer_of (before ++ effect ∷ []) vid ≡ given_to effect
   given_writer effects.Nothing lawful is = absurd (cc (is))
   given_writer (effects.Reserved grant) lawful is =
       let unused = ap (state_of before) (sym (eqb-true grant.reservation.vid.0 vid is)) ∙ sound.unused grant.reservation.vid.0 lawful.1 in
@@ -359,7 +379,8 @@ module _ (before : List Effect) (sound : IsSound before) (vid : ℕ) where
   given_writer (effects.Published of name) lawful is = absurd (cc (is))
   given_writer (effects.Snapped snap) (works, (by, reserved), owner, holds) is =
       let none : find (is_on vid) (filter (λ (r : Reservation). not (r.vid.0 == snap.vid.0)) all) ≡ None
-      = find-lost (is_on vid) (λ (r : Reservation). not (r.vid.0 == snap.vid.0)) all (λ r there on. lost_same r.vid.0 vid snap.vid.0 on is) in
+      = find-lost (is_on vid) (λ (r : Reservation). not (r.vid.0 == snap.vid.0)) all
+      (λ r there on. lost_same r.vid.0 vid snap.vid.0 on is) in
       let own = ap (state_of before) (sym (eqb-true snap.vid.0 vid is)) ∙ reserved in
       let apart = other-id before sound snap.old.0 vid Working (Reserved by) works.state own (λ e. cc) in
       writer-after before (effects.Snapped snap) vid
@@ -373,12 +394,14 @@ module _ (before : List Effect) (sound : IsSound before) (vid : ℕ) where
   given_writer (effects.Left node) lawful is = absurd (cc (is))
 
   -- what somebody may write is given to nobody, unless it is taken
-  pub given_takes : (effect : Effect) → IsLawful before effect → gives vid effect ≡ true → (writer : Holder) → writer_of before vid ≡ Some writer
+  pub given_takes : (effect : Effect) → IsLawful before effect → gives vid effect ≡ true → (writer : Holder)
+      → writer_of before vid ≡ Some writer
       → takes_writer vid writer.node effect ≡ true
   unfolding writer_of
   given_takes effects.Nothing lawful given writer is = absurd (cc (given))
   given_takes (effects.Reserved grant) lawful given writer is =
-      let unused = ap (state_of before) (sym (eqb-true grant.reservation.vid.0 vid given)) ∙ sound.unused grant.reservation.vid.0 lawful.1 in
+      let unused = ap (state_of before) (sym (eqb-true grant.reservation.vid.0 vid given))
+      ∙ sound.unused grant.reservation.vid.0 lawful.1 in
       nothing_left writer (sym (λ i. writer_by (unused_free unused i) (unused_unheld unused i)) ∙ is)
   given_takes (effects.Published of name) lawful given writer is = absurd (cc (given))
   given_takes (effects.Snapped snap) lawful given writer is = or_right (snap.old.0 == vid) (snap.vid.0 == vid) given
@@ -400,11 +423,13 @@ module _ (log : List Entry) (entry : Entry) (vid : ℕ) where
   abbrev effect : Effect
   effect = (outcome (log_effects log) entry).effect
 
-  pushed : writer_of (log_effects (log ++ entry ∷ [])) vid ≡ writer_of (log_effects log ++ (outcome (log_effects log) entry).effect ∷ []) vid
+  pushed : writer_of (log_effects (log ++ entry ∷ [])) vid ≡ writer_of (log_effects log ++ (outcome (log_effects log) entry).effect ∷ [])
+      vid
   pushed = ap (λ (all : List Effect). writer_of all vid) (log_effects-push log entry)
 
   pub entry_keeps_writer : (writer : Holder) → writer_of (log_effects log) vid ≡ Some writer
-      → takes_writer vid writer.node (outcome (log_effects log) entry).effect ≡ false → writer_of (log_effects (log ++ entry ∷ [])) vid ≡ Some writer
+      → takes_writer vid writer.node (outcome (log_effects log) entry).effect ≡ false
+      → writer_of (log_effects (log ++ entry ∷ [])) vid ≡ Some writer
   entry_keeps_writer writer is other =
       pushed ∙ writer_stays before (sound-log_effects log) vid effect (lawful-outcome before (sound-log_effects log) entry) writer is other
 
@@ -415,9 +440,11 @@ module _ (log : List Entry) (entry : Entry) (vid : ℕ) where
 
   pub entry_gives_to : gives vid (outcome (log_effects log) entry).effect ≡ true
       → writer_of (log_effects (log ++ entry ∷ [])) vid ≡ given_to (outcome (log_effects log) entry).effect
-  entry_gives_to is = pushed ∙ given_writer before (sound-log_effects log) vid effect (lawful-outcome before (sound-log_effects log) entry) is
+  entry_gives_to is =
+      pushed ∙ given_writer before (sound-log_effects log) vid effect (lawful-outcome before (sound-log_effects log) entry) is
 
-  pub entry_gives_taken : gives vid (outcome (log_effects log) entry).effect ≡ true → (writer : Holder) → writer_of (log_effects log) vid ≡ Some writer
+  pub entry_gives_taken : gives vid (outcome (log_effects log) entry).effect ≡ true → (writer : Holder)
+      → writer_of (log_effects log) vid ≡ Some writer
       → takes_writer vid writer.node (outcome (log_effects log) entry).effect ≡ true
   entry_gives_taken given writer is =
       given_takes before (sound-log_effects log) vid effect (lawful-outcome before (sound-log_effects log) entry) given writer is

@@ -1,12 +1,14 @@
 -- An entry by which a session loses an id finds nothing in flight of the session's attempts on it, or is the leave of its node.
-use Rattle.std.proofs.Common.{◌≡◌, ◌≢◌, inl, ⊎_elim, ℕ, ◌≤◌, ◌==◌, Bool, true, false, ◌&&◌, ◌||◌, List, ◌∷◌, All, length, Option, Some, None, refl, sym, ap, subst, ◌∙◌}
+use Rattle.std.proofs.Common.{◌≡◌, ◌≢◌, inl, ⊎_elim, ℕ, ◌≤◌, ◌==◌, Bool, true, false, ◌&&◌, ◌||◌, List, ◌∷◌, All, length, Option, Some}
+use Rattle.std.proofs.Common.{None, refl, sym, ap, subst, ◌∙◌}
 use Rattle.std.specs.List.{list_any, slice_get}
 use Rattle.std.specs.FinMap as tree
 use Rattle.std.proofs.lemmas.Bool.{and_from, and_parts, both_ways, cases_eq, eq-eqb, eqb-true, or_parts}
 use Rattle.std.proofs.lemmas.List.Elements.{All-head}
 use Rattle.std.proofs.lemmas.Option.{same_Some}
 use Rattle.object_id.specs.declared.entry.Entry.{Entry}
-use Rattle.object_id.specs.declared.entry.Entry.TheVariants.{Format, Join, Leave, Reweight, Recovered, Reserve, Publish, Clone, Snapshot, Delete, Lock, Unlock}
+use Rattle.object_id.specs.declared.entry.Entry.TheVariants.{Format, Join, Leave, Reweight, Recovered, Reserve, Publish, Clone, Snapshot}
+use Rattle.object_id.specs.declared.entry.Entry.TheVariants.{Delete, Lock, Unlock}
 use Rattle.object_id.specs.declared.node.NodeId.{NodeId}
 use Rattle.object_id.specs.Oid.{vid_of}
 use Rattle.cluster_script.specs.declared.statement.Statement.{Statement}
@@ -54,7 +56,8 @@ use Rattle.overlap_law.proofs.WritersOfWorks.{works_may-at_start}
 
 -- ---- an entry that a node puts
 
-module _ (script : List Statement) (range : RunsAreInRange script) (start : MomentWithPast) (began : Began script start.world) (n : ℕ) (host : Host)
+module _ (script : List Statement) (range : RunsAreInRange script) (start : MomentWithPast) (began : Began script start.world) (n : ℕ)
+    (host : Host)
     (there : tree.get start.world.hosts n ≡ Some host) (up : is_host_up host ≡ true) (up_so : host.is_lost ≡ false) (entry : Entry)
     (so : IsCause script start.world n host (EntryIsPut entry)) where
   abbrev log : List Entry
@@ -69,12 +72,14 @@ module _ (script : List Statement) (range : RunsAreInRange script) (start : Mome
   first_own : All (IsEntryOf host.node.me) (entry ∷ so.0)
   first_own = subst (All (IsEntryOf host.node.me)) so.1 (own_entries script start.world began n host there).entries
 
-  has : HasClaims start.world.log (entry ∷ so.0) host.node.peer.entries (length host.node.peer.entries) host.node.me host.node.requests host.node.sessions
+  has : HasClaims start.world.log (entry ∷ so.0) host.node.peer.entries (length host.node.peer.entries) host.node.me host.node.requests
+      host.node.sessions
   has =
-      subst (λ (outbox : List Entry). HasClaims log outbox host.node.peer.entries (length host.node.peer.entries) me host.node.requests host.node.sessions) so.1
-      (claimed_in_worlds script range start.world began n host there up_so)
+      subst (λ (outbox : List Entry). HasClaims log outbox host.node.peer.entries (length host.node.peer.entries) me host.node.requests
+      host.node.sessions) so.1 (claimed_in_worlds script range start.world began n host there up_so)
 
-  awaits : AreAwaited host.node.peer.entries host.node.me (unread_of start.world.log host.node) None host.node.me host.node.requests (entry ∷ so.0)
+  awaits : AreAwaited host.node.peer.entries host.node.me (unread_of start.world.log host.node) None host.node.me host.node.requests
+      (entry ∷ so.0)
   awaits =
       subst (λ (outbox : List Entry). AreAwaited host.node.peer.entries me (unread_of log host.node) None me host.node.requests outbox) so.1
       ((awaited_in_worlds script range start.world began).each n host there up_so)
@@ -88,7 +93,8 @@ module _ (script : List Statement) (range : RunsAreInRange script) (start : Mome
       → may_take_writer vid (holder_at other session) entry ≡ false
   spares_others other session vid apart writer =
       other_spares log other me (λ same. apart (same ∙ number)) entry (All-head (IsEntryOf me) entry so.0 first_own)
-      (snaps script range start.world began n host there up up_so (claimed_in_worlds script range start.world began) entry so) session vid writer
+      (snaps script range start.world began n host there up up_so (claimed_in_worlds script range start.world began) entry so) session vid
+      writer
 
   module _ (req : ℕ) (work : Work) (got : tree.get host.node.gateway.works req ≡ Some work) (request : Request)
       (asked : tree.get host.node.requests req ≡ Some request) (vid : ℕ)
@@ -103,14 +109,17 @@ module _ (script : List Statement) (range : RunsAreInRange script) (start : Mome
         → writer_of (log_effects start.world.log) vid ≡ Some (holder_at host.node.me p.request.session) → ⊥
     no_publisher p theirs =
         let session : p.request.session ≡ request.session
-        = ap (λ (h : Holder). h.session) (same_Some (holder_at me p.request.session) (holder_at me request.session) (sym theirs ∙ writer)) in
+        = ap (λ (h : Holder). h.session) (same_Some (holder_at me p.request.session) (holder_at me request.session)
+        (sym theirs ∙ writer)) in
         let named : command_in request.session host.node.sessions ≡ Some p.req
         = subst (λ (k : ℕ). command_in k host.node.sessions ≡ Some p.req) session
         (well.alone.named p.req p.request p.there (ap is_disk_course p.command)) in
         let same : req ≡ p.req = well.alone.alone request.session p.req req request named asked refl in
-        let wanted = subst (λ (o : Option Request). IsWantedAt host.node.sessions o work.work) (ap (tree.get host.node.requests) same ∙ p.there)
+        let wanted = subst (λ (o : Option Request). IsWantedAt host.node.sessions o work.work)
+        (ap (tree.get host.node.requests) same ∙ p.there)
         (well.wanted req work.work (inl (work, got, refl))) in
-        let staged = subst (λ (course : Course). IsWorkWanted (inode_open (session_among p.request.session host.node.sessions).disk) course work.work)
+        let staged = subst (λ (course : Course). IsWorkWanted (inode_open (session_among p.request.session host.node.sessions).disk) course
+        work.work)
         p.command wanted in
         let put = subst (IsAwaitedAtOpStage (op_acts.Work work.work)) p.at staged in
         never entry put
@@ -125,12 +134,14 @@ module _ (script : List Statement) (range : RunsAreInRange script) (start : Mome
     here : (put : Entry) → entry ≡ put → 1 ≤ times put (entry ∷ so.0)
     here put same =
         subst (λ (e : Entry). 1 ≤ times e (entry ∷ so.0)) same
-        (here_once log entry so.0 host.node.peer.entries (length host.node.peer.entries) me host.node.requests host.node.sessions first_own has)
+        (here_once log entry so.0 host.node.peer.entries (length host.node.peer.entries) me host.node.requests host.node.sessions first_own
+        has)
 
     who_puts : (put : Entry) → entry ≡ put → (IsFirstEntry put → ⊥) → IsCommandEntry host.node.me put → Put
     who_puts put same not_first is =
-        publisher log entry so.0 host.node.peer.entries (length host.node.peer.entries) me (unread_of log host.node) host.node.requests host.node.sessions
-        first_own awaits has (λ first. not_first (subst IsFirstEntry same first)) (subst (IsCommandEntry me) (sym same) is)
+        publisher log entry so.0 host.node.peer.entries (length host.node.peer.entries) me (unread_of log host.node) host.node.requests
+        host.node.sessions first_own awaits has (λ first. not_first (subst IsFirstEntry same first))
+        (subst (IsCommandEntry me) (sym same) is)
 
     kept_by : (put : Entry) → entry ≡ put → (p : Put)
         → IsStageKept start.world.log (entry ∷ so.0) host.node.peer.entries (length host.node.peer.entries) host.node.me p.request.session
@@ -163,33 +174,40 @@ module _ (script : List Statement) (range : RunsAreInRange script) (start : Mome
     spares_own (Publish by of) same = untaken (may_take_writer vid (holder_at me request.session) (Publish by of)) (λ takes.
         let mine : by ≡ me = subst (IsEntryOf me) same (All-head (IsEntryOf me) entry so.0 first_own) in
         let p = who_puts (Publish by of) same (λ first. first) mine in
-        reserved_writes p of.0 (kept_by (Publish by of) same p (here (Publish by of) same)) (eqb-true of.0 vid (and_parts (of.0 == vid) (by.0 == me.0) takes).0))
+        reserved_writes p of.0 (kept_by (Publish by of) same p (here (Publish by of) same))
+        (eqb-true of.0 vid (and_parts (of.0 == vid) (by.0 == me.0) takes).0))
     spares_own (Clone by of) same = untaken (may_take_writer vid (holder_at me request.session) (Clone by of)) (λ takes.
         let mine : by ≡ me = subst (IsEntryOf me) same (All-head (IsEntryOf me) entry so.0 first_own) in
         let p = who_puts (Clone by of) same (λ first. first) mine in
-        reserved_writes p of.0 (kept_by (Clone by of) same p (here (Clone by of) same)) (eqb-true of.0 vid (and_parts (of.0 == vid) (by.0 == me.0) takes).0))
-    spares_own (Snapshot by old of) same = untaken (may_take_writer vid (holder_at me request.session) (Snapshot by old of)) (λ takes. by_parts (old.0 == vid) refl takes)
+        reserved_writes p of.0 (kept_by (Clone by of) same p (here (Clone by of) same))
+        (eqb-true of.0 vid (and_parts (of.0 == vid) (by.0 == me.0) takes).0))
+    spares_own (Snapshot by old of) same =
+        untaken (may_take_writer vid (holder_at me request.session) (Snapshot by old of)) (λ takes. by_parts (old.0 == vid) refl takes)
       where
         p : Put
         p = who_puts (Snapshot by old of) same (λ first. first) (subst (IsEntryOf me) same (All-head (IsEntryOf me) entry so.0 first_own))
 
-        kept_so : IsReplacing start.world.log (entry ∷ so.0) host.node.peer.entries (length host.node.peer.entries) host.node.me p.request.session
+        kept_so : IsReplacing start.world.log (entry ∷ so.0) host.node.peer.entries (length host.node.peer.entries) host.node.me
+            p.request.session
             (opened_in p.request.session host.node.sessions) old of (Snapshot by old of) p.made
         kept_so = kept_by (Snapshot by old of) same p
 
         by_parts : (b : Bool) → (old.0 == vid) ≡ b → (b || (of.0 == vid && by.0 == me.0)) ≡ true → ⊥
         by_parts true is takes =
             no_publisher p (ap (writer_of (log_effects log)) (sym (eqb-true old.0 vid is))
-            ∙ lock-writer log (entry ∷ so.0) me p.request.session (epoch_of host.node.peer.entries) old.0 (kept_so.of_disk (here (Snapshot by old of) same)))
+            ∙ lock-writer log (entry ∷ so.0) me p.request.session (epoch_of host.node.peer.entries) old.0
+            (kept_so.of_disk (here (Snapshot by old of) same)))
         by_parts false is takes =
-            reserved_writes p of.0 (kept_so.to_put (here (Snapshot by old of) same)).has (eqb-true of.0 vid (and_parts (of.0 == vid) (by.0 == me.0) takes).0)
+            reserved_writes p of.0 (kept_so.to_put (here (Snapshot by old of) same)).has
+            (eqb-true of.0 vid (and_parts (of.0 == vid) (by.0 == me.0) takes).0)
     spares_own (Delete by of name tag) same = refl
     spares_own (Lock by of name tag) same = refl
     spares_own (Unlock by of id) same = untaken (may_take_writer vid (holder_at me request.session) (Unlock by of id)) (λ takes.
         let (id_so, whose) = and_parts (id.0 == vid) (me.0 == by.0 && request.session == of) takes in
         let session_so : request.session ≡ of = eqb-true request.session of (and_parts (me.0 == by.0) (request.session == of) whose).1 in
         let is : unlocks request.session vid entry ≡ true
-        = ap (unlocks request.session vid) same ∙ and_from (of == request.session) (id.0 == vid) (eq-eqb of request.session (sym session_so)) id_so in
+        = ap (unlocks request.session vid) same ∙ and_from (of == request.session) (id.0 == vid)
+        (eq-eqb of request.session (sym session_so)) id_so in
         let none = (or_parts (unlocks request.session vid entry) (list_any (unlocks request.session vid) so.0)
         (ap (list_any (unlocks request.session vid)) (sym so.1) ∙ kept)).0 in
         both_ways (unlocks request.session vid entry) none is)
@@ -206,14 +224,19 @@ module _ (script : List Statement) (range : RunsAreInRange script) (start : Mome
     may_take = taken_by_entry log entry id (session_holder attempt.gateway.0 attempt.session) under.writer takes
 
     quiet : attempt.gateway.0 ≡ n → IsQuiet start.world.wire attempt
-    quiet gateway = record { none = λ place target among. by_test place target among (is_name_in_wire start.world.wire (message_name_at attempt place)) refl }
+    quiet gateway =
+        record {
+          none = λ place target among. by_test place target among (is_name_in_wire start.world.wire (message_name_at attempt place)) refl;
+        }
       where
         by_test : (place : ℕ) (target : NodeId) → slice_get attempt.targets place ≡ Some target → (b : Bool)
-            → is_name_in_wire start.world.wire (message_name_at attempt place) ≡ b → is_name_in_wire start.world.wire (message_name_at attempt place) ≡ false
+            → is_name_in_wire start.world.wire (message_name_at attempt place) ≡ b
+            → is_name_in_wire start.world.wire (message_name_at attempt place) ≡ false
         by_test place target among false none = none
         by_test place target among true flies =
             let a = awaited.each n host there up_so j attempt got gateway place target (record { among = among; there = flies }) in
-            let w = (works_may-at_start script range start began).each n host there up_so attempt.req a.work a.opened.there a.opened.making in
+            let w = (works_may-at_start script range start began).each n host there up_so attempt.req a.work a.opened.there
+            a.opened.making in
             let same : vid_of (oid_of a.work.work) ≡ id = ap (λ work. vid_of (oid_of work)) (sym a.opened.same.work) in
             let writer : writer_of (log_effects log) id ≡ Some (holder_at me w.request.session)
             = ap (writer_of (log_effects log)) (sym same) ∙ w.may.writer

@@ -1,14 +1,16 @@
--- Each open create or write of a node is on an id that its request's session may write: in each world of a run in range, and at each moment on the
--- way of its events.
+-- Each open create or write of a node is on an id that its request's session may write: in each world of a run in range, and at each moment
+-- on the way of its events.
 use Rattle.std.proofs.Common.{arith, ◌<◌}
 use Rattle.object_id.specs.declared.limits.TheConstants.{OBJECTS_MAX}
-use Rattle.std.proofs.Common.{◌≡◌, ◌⊎◌, inl, inr, ⊎_elim, ℕ, Bool, true, false, List, [], ◌∷◌, ◌++◌, All, Contains, length, Option, Some, None, IfSome, unwrap_or, refl, sym, ap, subst, ◌∙◌}
+use Rattle.std.proofs.Common.{◌≡◌, ◌⊎◌, inl, inr, ⊎_elim, ℕ, Bool, true, false, List, [], ◌∷◌, ◌++◌, All, Contains, length, Option, Some}
+use Rattle.std.proofs.Common.{None, IfSome, unwrap_or, refl, sym, ap, subst, ◌∙◌}
 use Rattle.std.specs.FinMap as tree
 use Rattle.std.proofs.lemmas.List.Elements.{All-head, Contains-append_cases}
 use Rattle.std.proofs.lemmas.Option.{same_Some}
 use Rattle.proof_tools.proofs.Lists.{Contains-nil, Contains-cons_cases}
 use Rattle.object_id.specs.declared.entry.Entry.{Entry}
-use Rattle.object_id.specs.declared.entry.Entry.TheVariants.{Format, Join, Leave, Reweight, Recovered, Reserve, Publish, Clone, Snapshot, Delete, Lock, Unlock}
+use Rattle.object_id.specs.declared.entry.Entry.TheVariants.{Format, Join, Leave, Reweight, Recovered, Reserve, Publish, Clone, Snapshot}
+use Rattle.object_id.specs.declared.entry.Entry.TheVariants.{Delete, Lock, Unlock}
 use Rattle.object_id.specs.declared.oid.Vid.{Vid}
 use Rattle.object_id.specs.Oid.{IsVid, vid_of, inode_number, object_number}
 use Rattle.cluster_script.specs.declared.statement.Statement.{Statement}
@@ -33,11 +35,11 @@ use Rattle.guest_driver.specs.Driver.{Driver, Reads, Writes, DriverStage, InPlac
 use Rattle.guest_driver.specs.PieceWorks.{object_bytes}
 use Rattle.guest_driver.specs.Pieces.{Piece}
 use Rattle.vdi_ops.specs.declared.act.OpAct.TheVariants as op_acts
-use Rattle.vdi_ops.specs.Op.{Task, Opening, WritingBack, Tagging, Copying, Making, OpStage, Asked, Working, Publishing, Answered, Op, IsAwaitedAtOpStage, IsWorkOfTask}
+use Rattle.vdi_ops.specs.Op.{Task, Opening, WritingBack, Tagging, Copying, Making, OpStage, Asked, Working, Publishing, Answered, Op}
+use Rattle.vdi_ops.specs.Op.{IsAwaitedAtOpStage, IsWorkOfTask}
 use Rattle.sheep_node.specs.declared.course.Course.{Course}
 use Rattle.sheep_node.specs.declared.course.Course.TheVariants.{Waiting, Driving, Commanding, Checking, DoingWork, AwaitingDecision}
 use Rattle.sheep_node.specs.declared.course.Request.{Request}
-use Rattle.sheep_node.specs.declared.event.Event.{Event}
 use Rattle.sheep_node.specs.declared.session.Session.{Session}
 use Rattle.sheep_node.specs.Courses.{inode_open}
 use Rattle.sheep_node.specs.May.{is_disk_course}
@@ -47,6 +49,7 @@ use Rattle.sheep_node.specs.State.{Node, new_session}
 use Rattle.sheep_node.specs.WantedWorks.{IsWorkWanted, IsWantedAt, IsWorkOfWrite}
 use Rattle.sheep_node.proofs.SessionViews.{IsSeen}
 use Rattle.sheep_world.specs.Began.{Began}
+use Rattle.sheep_world.specs.RunsWithAsks.{Move}
 use Rattle.overlap_law.specs.AwaitedEntries.{WasReserved, IsSessionsEntry, IsSessionsStage, IsSessionsCommand, CommandsAreTheSessions}
 use Rattle.overlap_law.specs.CommandDisks.{opened_as, opened_in, IsOpenAtStage, IsOpenAtCourse}
 use Rattle.overlap_law.specs.Courses.{granted_at}
@@ -74,8 +77,10 @@ use Rattle.overlap_law.proofs.MakingEntries.{making_vid}
 
 -- what is reserved is an id
 reserved-is_id : (log : List Entry) (grant : Grant) → Contains (log_effects log) (effects.Reserved grant) → IsVid grant.reservation.vid.0
-reserved-is_id = by_entries (λ (log : List Entry). (grant : Grant) → Contains (log_effects log) (effects.Reserved grant) → IsVid grant.reservation.vid.0)
-    (λ grant there. absurd (Contains-nil (effects.Reserved grant) (subst (λ (all : List Effect). Contains all (effects.Reserved grant)) log_effects-none there)))
+reserved-is_id =
+    by_entries (λ (log : List Entry). (grant : Grant) → Contains (log_effects log) (effects.Reserved grant) → IsVid grant.reservation.vid.0)
+    (λ grant there. absurd (Contains-nil (effects.Reserved grant)
+    (subst (λ (all : List Effect). Contains all (effects.Reserved grant)) log_effects-none there)))
     one_more
   where
     one_more : (log : List Entry) (entry : Entry)
@@ -122,14 +127,16 @@ module _ (log : List Entry) (n : ℕ) (node : Node) (own : node.me.0 ≡ n) (epo
       → opened_in request.session node.sessions ≡ Some (false, vid) → Locks vid
   locked_open none vid opened = by_disk (session_among request.session node.sessions).disk refl opened
     where
-      by_disk : (disk : Option Disk) → (session_among request.session node.sessions).disk ≡ disk → opened_as disk ≡ Some (false, vid) → Locks vid
+      by_disk : (disk : Option Disk) → (session_among request.session node.sessions).disk ≡ disk → opened_as disk ≡ Some (false, vid)
+          → Locks vid
       by_disk None got opened = absurd (cc (opened))
       by_disk (Some disk) got opened =
           let both : (disk.snapshot, disk.inode.vid) ≡ (false, vid) = same_Some (disk.snapshot, disk.inode.vid) (false, vid) opened in
           by_kind (subst (λ (b : Bool). IsDiskKept log node.outbox node.peer.entries node.me node.requests request.session b disk.inode)
           (ap (λ (p : Bool × ℕ). p.0) both) (has.disks request.session disk got)) (ap (λ (p : Bool × ℕ). p.1) both)
         where
-          by_kind : IsDiskKept log node.outbox node.peer.entries node.me node.requests request.session false disk.inode → disk.inode.vid ≡ vid → Locks vid
+          by_kind : IsDiskKept log node.outbox node.peer.entries node.me node.requests request.session false disk.inode
+              → disk.inode.vid ≡ vid → Locks vid
           by_kind (named, is) id = subst Locks id (⊎_elim
               (λ (lock : Locks disk.inode.vid). lock)
               (λ (goes : IsLetGo node.requests request.session disk.inode.vid). absurd (none disk.inode.vid goes)) is)
@@ -148,7 +155,8 @@ module _ (log : List Entry) (n : ℕ) (node : Node) (own : node.me.0 ≡ n) (epo
   pub id_open : (vid : ℕ) → opened_in request.session node.sessions ≡ Some (false, vid) → IsVid vid
   id_open vid opened = by_disk (session_among request.session node.sessions).disk refl opened
     where
-      by_disk : (disk : Option Disk) → (session_among request.session node.sessions).disk ≡ disk → opened_as disk ≡ Some (false, vid) → IsVid vid
+      by_disk : (disk : Option Disk) → (session_among request.session node.sessions).disk ≡ disk → opened_as disk ≡ Some (false, vid)
+          → IsVid vid
       by_disk None got opened = absurd (cc (opened))
       by_disk (Some disk) got opened =
           let both : (disk.snapshot, disk.inode.vid) ≡ (false, vid) = same_Some (disk.snapshot, disk.inode.vid) (false, vid) opened in
@@ -194,7 +202,8 @@ module _ (log : List Entry) (n : ℕ) (node : Node) (own : node.me.0 ≡ n) (epo
 
         on_object : oid_of work.work ≡ object_number disk.inode.vid piece.index → WritesIt
         on_object is =
-            locks_it vid (ap vid_of is ∙ vid-of_object disk.inode.vid piece.index id (All-head FewAt piece rest few) ∙ same) (locked_open none vid working)
+            locks_it vid (ap vid_of is ∙ vid-of_object disk.inode.vid piece.index id (All-head FewAt piece rest few) ∙ same)
+            (locked_open none vid working)
 
         by_stage : (stage : DriverStage) → IsWorkOfWrite disk.inode payload piece work.work stage → WritesIt
         by_stage InPlace is = on_object (ap oid_of is)
@@ -204,10 +213,12 @@ module _ (log : List Entry) (n : ℕ) (node : Node) (own : node.me.0 ≡ n) (epo
             (object_bytes disk.inode) offset bytes
             = cc (is) in
             on_object (ap oid_of created)
-        by_stage Entering is = locks_it vid (ap vid_of (ap oid_of is) ∙ vid-of_inode disk.inode.vid id ∙ same) (locked_open none vid working)
+        by_stage Entering is =
+            locks_it vid (ap vid_of (ap oid_of is) ∙ vid-of_inode disk.inode.vid id ∙ same) (locked_open none vid working)
 
     driving : (driver : Driver) → request.course ≡ Driving driver → IsAllowed (opened_in request.session node.sessions) (Driving driver)
-        → (disk : Option Disk) → (session_among request.session node.sessions).disk ≡ disk → IsWorkWanted (inode_open disk) (Driving driver) work.work
+        → (disk : Option Disk) → (session_among request.session node.sessions).disk ≡ disk
+        → IsWorkWanted (inode_open disk) (Driving driver) work.work
         → IsKnownCourse well.known (Driving driver) → WritesIt
     driving driver at allowed None opened wanted few = absurd wanted
     driving (Reads told piece rest) at allowed (Some disk) opened wanted few = reads _ wanted.1 refl
@@ -232,7 +243,8 @@ module _ (log : List Entry) (n : ℕ) (node : Node) (own : node.me.0 ≡ n) (epo
       on_granted granted creates of object same = inr (
         creates,
         subst (λ (v : ℕ). MayWrite log n request.session v node) (sym same)
-            (stage_may log n node own epoch_so request.session (opened_in request.session node.sessions) vid (Working vid task) granted kept),
+            (stage_may log n node own epoch_so request.session (opened_in request.session node.sessions) vid (Working vid task) granted
+            kept),
         (of, object),
       )
 
@@ -281,12 +293,13 @@ module _ (log : List Entry) (n : ℕ) (node : Node) (own : node.me.0 ≡ n) (epo
       made_id vid (Lock by of name tag) made kept own = absurd kept
       made_id vid (Unlock by of id) made kept own = absurd kept
 
-      tasked : (vid : Vid) (task : Task) → op.stage ≡ Working vid task → IsWorkOfTask vid task work.work → MakesOwn (Commanding op) work.work → WritesIt
+      tasked : (vid : Vid) (task : Task) → op.stage ≡ Working vid task → IsWorkOfTask vid task work.work
+          → MakesOwn (Commanding op) work.work → WritesIt
       tasked vid (Opening snapshot ids header) at is owns = reads _ is refl
       tasked vid (WritingBack inode) at is owns =
           locks_it vid.0
-          (ap vid_of (ap oid_of is.work_of) ∙ vid-of_inode inode.vid (known_at vid (WritingBack inode) at).disk.id ∙ (fits_at vid (WritingBack inode) at).1)
-          (kept op command vid (WritingBack inode) at).0
+          (ap vid_of (ap oid_of is.work_of) ∙ vid-of_inode inode.vid (known_at vid (WritingBack inode) at).disk.id
+          ∙ (fits_at vid (WritingBack inode) at).1) (kept op command vid (WritingBack inode) at).0
       tasked vid (Tagging old inode) at is owns =
           let opened = (fits_at vid (Tagging old inode) at).0 in
           locks_it old.0
@@ -308,7 +321,8 @@ module _ (log : List Entry) (n : ℕ) (node : Node) (own : node.me.0 ≡ n) (epo
           ∙ making_vid log node.outbox node.peer.entries (length node.peer.entries) node.me request.session
           (opened_in request.session node.sessions) vid entry inode kept (fits_at vid (Making entry (Some inode)) at))
 
-      staged : (stage : OpStage) → op.stage ≡ stage → IsAwaitedAtOpStage (op_acts.Work work.work) stage → MakesOwn (Commanding op) work.work → WritesIt
+      staged : (stage : OpStage) → op.stage ≡ stage → IsAwaitedAtOpStage (op_acts.Work work.work) stage → MakesOwn (Commanding op) work.work
+          → WritesIt
       staged (Asked entry) at wanted owns = absurd (cc (wanted))
       staged (Working vid task) at (other, same, is) owns =
           let one : other ≡ work.work = cc (same) in
@@ -318,8 +332,10 @@ module _ (log : List Entry) (n : ℕ) (node : Node) (own : node.me.0 ≡ n) (epo
 
     -- ---- each
 
-    by_course : (course : Course) → request.course ≡ course → IsWorkWanted (inode_open (session_among request.session node.sessions).disk) course work.work
-        → IsAllowed (opened_in request.session node.sessions) course → MakesOwn course work.work → IsKnownCourse well.known course → WritesIt
+    by_course : (course : Course) → request.course ≡ course
+        → IsWorkWanted (inode_open (session_among request.session node.sessions).disk) course work.work
+        → IsAllowed (opened_in request.session node.sessions) course → MakesOwn course work.work → IsKnownCourse well.known course
+        → WritesIt
     by_course (Waiting ask) at wanted allowed owns known = absurd wanted
     by_course (Driving driver) at wanted allowed owns known =
         driving driver at allowed (session_among request.session node.sessions).disk refl wanted known
@@ -327,13 +343,13 @@ module _ (log : List Entry) (n : ℕ) (node : Node) (own : node.me.0 ≡ n) (epo
     by_course (Checking check) at wanted allowed owns known =
         locks_it check.vid (owns making)
         (locked_open (λ vid goes. let both = sym at ∙ its_course vid goes in absurd (cc (both))) check.vid allowed)
-    by_course (DoingWork asked) at wanted allowed owns known = absurd allowed
+    by_course (DoingWork asked) at wanted allowed owns known = reads asked wanted allowed
     by_course (AwaitingDecision entry) at wanted allowed owns known = absurd wanted
 
     writes_it : WritesIt
     writes_it =
-        by_course request.course refl (subst (λ (o : Option Request). IsWantedAt node.sessions o work.work) there (well.wanted req work.work (inl (work, got, refl))))
-        (subst (IsSeen opened_by IsAllowed node.sessions) there (well.allowed req))
+        by_course request.course refl (subst (λ (o : Option Request). IsWantedAt node.sessions o work.work) there
+        (well.wanted req work.work (inl (work, got, refl)))) (subst (IsSeen opened_by IsAllowed node.sessions) there (well.allowed req))
         (subst (λ (o : Option Request). MakesOwnAt o work.work) there (well.own req work.work (inl (work, got, refl))))
         (well.on_known.courses req request there)
 
@@ -378,7 +394,8 @@ asked_for node well req work got = by_request (tree.get node.requests req) refl
     by_request (Some request) there = (request, there)
 
 -- in a moment
-works_may : (moment : MomentWithPast) → HostsAreSound moment → AreClaimedAmong moment.world.log moment.world.hosts → AreOpenAmong moment.world.hosts
+works_may : (moment : MomentWithPast) → HostsAreSound moment → AreClaimedAmong moment.world.log moment.world.hosts
+    → AreOpenAmong moment.world.hosts
     → CommandsAreTheSessions moment.world.hosts → HaveWellWorks moment.world.hosts → WorksMayWrite moment.world.log moment.world.hosts
 works_may moment sound claimed fit own well = record {
   each = λ n host there up req work got making.
@@ -388,8 +405,8 @@ works_may moment sound claimed fit own well = record {
         request = request;
         there = asked;
         may =
-            work_may moment.world.log n host.node read.own read.epoch_so (own.each n host there up) (claimed n host there up) (fit n host there)
-            (well n host there) req work got request asked making;
+            work_may moment.world.log n host.node read.own read.epoch_so (own.each n host there up) (claimed n host there up)
+            (fit n host there) (well n host there) req work got request asked making;
       };
 }
 
@@ -399,7 +416,8 @@ WritesAreOfWorking log hosts =
     EachUp hosts (λ n node. (req : ℕ) (work : Work) → tree.get node.gateway.works req ≡ Some work → is_making work.work ≡ true
     → is_create_work work.work ≡ false → state_of (log_effects log) (vid_of (oid_of work.work)) ≡ States.Working)
 
-writes_working : (moment : MomentWithPast) → HostsAreSound moment → AreClaimedAmong moment.world.log moment.world.hosts → AreOpenAmong moment.world.hosts
+writes_working : (moment : MomentWithPast) → HostsAreSound moment → AreClaimedAmong moment.world.log moment.world.hosts
+    → AreOpenAmong moment.world.hosts
     → CommandsAreTheSessions moment.world.hosts → HaveWellWorks moment.world.hosts → WritesAreOfWorking moment.world.log moment.world.hosts
 writes_working moment sound claimed fit own well n host there up req work got making writes =
     let read = (sound.each n host there).read in
@@ -428,11 +446,12 @@ module _ (script : List Statement) (range : RunsAreInRange script) where
   module _ (start : MomentWithPast) (began : Began script start.world) where
     pub works_may-at_start : WorksMayWrite start.world.log start.world.hosts
     works_may-at_start =
-        works_may start (sound_hosts script range start began) (claimed_in_worlds script range start.world began) (open_in_worlds script range start.world began)
-        (said_sessions script range start.world.log start.world.hosts (awaited_in_worlds script range start.world began))
-        (well_in_world script range start.world began)
+        works_may start (sound_hosts script range start began) (claimed_in_worlds script range start.world began)
+        (open_in_worlds script range start.world began) (said_sessions script range start.world.log start.world.hosts
+        (awaited_in_worlds script range start.world began)) (well_in_world script range start.world began)
 
-    pub works_may-after : {before after : MomentWithPast} → MomentChange script start before after → WorksMayWrite after.world.log after.world.hosts
+    pub works_may-after : {before after : MomentWithPast} → MomentChange script start before after
+        → WorksMayWrite after.world.log after.world.hosts
     works_may-after {before} {after} change =
         works_may after (hosts_after_sound script range start began change) (claimed_after script range start began change)
         (open_after script range start began change)
@@ -459,6 +478,6 @@ module _ (script : List Statement) (range : RunsAreInRange script) where
     works_may-along moments.Still = works_may-at_start
     works_may-along (moments.Then trail change) = works_may-after change
 
-  pub works_may-in_run : (events : List Event) (start moment : MomentWithPast) → run_with_past script events ≡ Some start
+  pub works_may-in_run : (events : List Move) (start moment : MomentWithPast) → run_with_past script events ≡ Some start
       → MomentTrail script start moment → WorksMayWrite moment.world.log moment.world.hosts
   works_may-in_run events start moment is trail = works_may-along start (began-with_past script events start is) trail

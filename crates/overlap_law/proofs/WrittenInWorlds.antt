@@ -1,6 +1,6 @@
 -- A check that has come to a write has come to one at each node that has it: its own node's steps keep that, no other node has it, and a
 -- node that is lost keeps what it had.
-use Rattle.std.proofs.Common.{◌≡◌, ◌≢◌, ⊎_elim, ℕ, List, Some, subst}
+use Rattle.std.proofs.Common.{refl, ◌≡◌, ◌≢◌, ⊎_elim, ℕ, List, Some, subst}
 use Rattle.std.specs.FinMap as tree
 use Rattle.proof_tools.proofs.FiniteMaps.{get-insert_cases}
 use Rattle.cluster_script.specs.declared.statement.Statement.{Statement}
@@ -17,10 +17,11 @@ use Rattle.sheep_world.specs.Began.{Began}
 use Rattle.sheep_world.specs.NodeCauses.{host_with_node}
 use Rattle.overlap_law.specs.Words.{Hosts}
 use Rattle.overlap_law.proofs.ComingWrites.{coming}
-use Rattle.overlap_law.proofs.SessionsOfRequests.{are_asked}
+use Rattle.overlap_law.proofs.SessionsOfRequests.{are_scripts, are_asked_by_line, of_asking}
 use Rattle.overlap_law.proofs.UnansweredRequests.{others_unreplied}
 use Rattle.overlap_law.proofs.WrittenChecks.{HasWritten, step-written}
 use Rattle.overlap_law.proofs.WritingChecks.{reply-written}
+use Rattle.cluster_script.specs.Language.{IsScript}
 
 module _ (req : ℕ) where
   -- the request, at each node that has it, has come to a write
@@ -49,15 +50,15 @@ module _ (req : ℕ) where
       (step-written req input host.node old (have n host there)) have
 
 -- a check that comes to a write by a reply has come to one at its node, and no other node has it
-pub reply_written : (script : List Statement) (world : World) → Began script world → (n : ℕ) (host : Host)
+pub reply_written : (script : List Statement) → IsScript script → (world : World) → Began script world → (n : ℕ) (host : Host)
     → tree.get world.hosts n ≡ Some host → (rsp : PeerRsp) (write : CheckWrite) → check_write_on (inputs.Reply rsp) host.node ≡ Some write
     → HaveWritten write.req (tree.insert world.hosts n (host_with_node host (node_step (inputs.Reply rsp) host.node).node))
-reply_written script world began n host there rsp write is =
+reply_written script is_script world began n host there rsp write is =
     let comes = coming write rsp host.node is in
-    let here = are_asked script world began n host there write.req (record { session = comes.session; course = Checking comes.check })
-    comes.there in
+    let here = are_scripts script is_script world began n host there write.req
+    (record { session = comes.session; course = Checking comes.check }) comes.there refl in
     changed_written write.req world.hosts n (host_with_node host (node_step (inputs.Reply rsp) host.node).node)
     (reply-written write rsp host.node is)
     (λ m other apart got request has.
     absurd (others_unreplied script n m host.incarnation other.incarnation write.req comes.session request.session apart here
-    (are_asked script world began m other got write.req request has)))
+    (are_asked_by_line script world began m other got write.req request has (of_asking script write.req comes.session here.asking))))

@@ -9,9 +9,9 @@ use Rattle.guest_driver.specs.Driver.{Writes, DriverStage, Entering}
 use Rattle.guest_driver.specs.Pieces.{Piece, pieces}
 use Rattle.sheep_node.specs.declared.course.Course.TheVariants.{Driving}
 use Rattle.sheep_node.specs.declared.course.Request.{Request}
-use Rattle.sheep_node.specs.declared.event.Event.{Event}
 use Rattle.sheep_node.specs.SessionQueues.{session_among}
 use Rattle.sheep_world.specs.World.{Host}
+use Rattle.sheep_world.specs.RunsWithAsks.{Move}
 use Rattle.overlap_law.specs.MomentChanges.{MomentChange, MomentTrail, RunsAreInRange}
 use Rattle.overlap_law.specs.Past.{MomentWithPast, run_with_past}
 use Rattle.overlap_law.specs.WrittenPieces.{IsWrittenAlone, HasBehind}
@@ -21,7 +21,7 @@ use Rattle.overlap_law.proofs.WrittenAlone.{alone_later}
 
 -- ---- whatever the change
 
-module _ (script : List Statement) (range : RunsAreInRange script) (events : List Event) (start before after : MomentWithPast)
+module _ (script : List Statement) (range : RunsAreInRange script) (events : List Move) (start before after : MomentWithPast)
     (ran : run_with_past script events ≡ Some start) (trail : MomentTrail script start before)
     (change : MomentChange script start before after)
     (n : ℕ) (host : Host) (at_host : tree.get after.world.hosts n ≡ Some host) (up : host.is_lost ≡ false) (req : ℕ) (request : Request)

@@ -14,8 +14,8 @@ use Rattle.guest_driver.specs.Driver.{DriverStage, Writes}
 use Rattle.guest_driver.specs.Pieces.{Piece, first_index, piece_in, pieces}
 use Rattle.sheep_node.specs.declared.course.Course.TheVariants.{Driving}
 use Rattle.sheep_node.specs.declared.course.Request.{Request}
-use Rattle.sheep_node.specs.declared.event.Event.{Event}
 use Rattle.sheep_world.specs.World.{Host}
+use Rattle.sheep_world.specs.RunsWithAsks.{Move}
 use Rattle.overlap_law.specs.Attempts.{AttemptRecord}
 use Rattle.overlap_law.specs.Headline.{ledger_of}
 use Rattle.overlap_law.specs.MomentChanges.{MomentTrail, RunsAreInRange}
@@ -54,7 +54,7 @@ is_before shift offset size before rest piece one cut among less = ⊎_elim
     absurd (omega (arith, less, far, index, own)))
     (Contains-append_cases before (piece ∷ rest) one (subst (λ (all : List Piece). Contains all one) cut among))
 
-module _ (script : List Statement) (range : RunsAreInRange script) (events : List Event) (start moment : MomentWithPast)
+module _ (script : List Statement) (range : RunsAreInRange script) (events : List Move) (start moment : MomentWithPast)
     (ran : run_with_past script events ≡ Some start) (trail : MomentTrail script start moment)
     (items : ItemsAreOfPieces (ledger_of moment.past.history) moment.world.hosts) (n : ℕ) (host : Host)
     (at_host : tree.get moment.world.hosts n ≡ Some host) (up : host.is_lost ≡ false) (req index unit place : ℕ) (request : Request)

@@ -9,10 +9,10 @@ use Rattle.guest_driver.specs.Driver.{Writes, DriverStage}
 use Rattle.guest_driver.specs.Pieces.{Piece}
 use Rattle.sheep_node.specs.declared.course.Course.TheVariants.{Driving}
 use Rattle.sheep_node.specs.declared.course.Request.{Request}
-use Rattle.sheep_node.specs.declared.event.Event.{Event}
 use Rattle.sheep_node.specs.SessionQueues.{session_among}
 use Rattle.sheep_node.proofs.OneWorkParts.{Requests, Sessions}
 use Rattle.sheep_world.specs.World.{Host}
+use Rattle.sheep_world.specs.RunsWithAsks.{Move}
 use Rattle.overlap_law.specs.MomentChanges.{MomentChange, MomentTrail, RunsAreInRange}
 use Rattle.overlap_law.specs.Past.{MomentWithPast, run_with_past}
 use Rattle.overlap_law.specs.WrittenPieces.{HasBehind, WhatIsWrittenStaysAlone, CreatesHavePieces}
@@ -28,7 +28,7 @@ use Rattle.overlap_law.proofs.WrittenInSteps.{goes_on_alone}
 abbrev StaysAlone : MomentWithPast → Type 0
 StaysAlone moment = WhatIsWrittenStaysAlone moment.world.hosts moment.past.attempts
 
-module _ (script : List Statement) (range : RunsAreInRange script) (events : List Event) (start before after : MomentWithPast)
+module _ (script : List Statement) (range : RunsAreInRange script) (events : List Move) (start before after : MomentWithPast)
     (ran : run_with_past script events ≡ Some start) (trail : MomentTrail script start before)
     (change : MomentChange script start before after)
     (all : WhatIsWrittenStaysAlone before.world.hosts before.past.attempts) where
@@ -69,7 +69,7 @@ module _ (script : List Statement) (range : RunsAreInRange script) (events : Lis
 -- ---- every run
 
 module _ (script : List Statement) (range : RunsAreInRange script) where
-  pub written-in_run : (events : List Event) (start moment : MomentWithPast) → run_with_past script events ≡ Some start
+  pub written-in_run : (events : List Move) (start moment : MomentWithPast) → run_with_past script events ≡ Some start
       → MomentTrail script start moment → WhatIsWrittenStaysAlone moment.world.hosts moment.past.attempts
   written-in_run =
       kept_on_the_way script StaysAlone

@@ -19,11 +19,11 @@ use Rattle.sheep_world.proofs.NodesByTheLog.{knows_its_number}
 use Rattle.sheep_node.specs.SessionQueues.{command_in}
 use Rattle.sheep_node.specs.declared.course.Course.TheVariants.{Commanding}
 use Rattle.sheep_node.specs.declared.course.Request.{Request}
-use Rattle.sheep_node.specs.declared.event.Event.{Event}
 use Rattle.sheep_node.specs.declared.session.Session.{Session}
 use Rattle.sheep_node.specs.State.{new_session}
 use Rattle.sheep_world.specs.Began.{Began}
 use Rattle.sheep_world.specs.World.{Host}
+use Rattle.sheep_world.specs.RunsWithAsks.{Move}
 use Rattle.overlap_law.specs.Grants.{gives, given_to, writer_of}
 use Rattle.overlap_law.specs.LastReads.{snaps, was_snapped}
 use Rattle.overlap_law.specs.MomentChanges.{MomentChange, MomentTrail, RunsAreInRange}
@@ -79,7 +79,7 @@ waited_lets vid entry (Answered change) lets waits = absurd lets
 
 -- ---- each change
 
-module _ (script : List Statement) (range : RunsAreInRange script) (events : List Event) (start : MomentWithPast)
+module _ (script : List Statement) (range : RunsAreInRange script) (events : List Move) (start : MomentWithPast)
     (is : run_with_past script events ≡ Some start) where
   -- at a put
   module _ (n : ℕ) (host : Host) (there : tree.get start.world.hosts n ≡ Some host) (number vid : ℕ)

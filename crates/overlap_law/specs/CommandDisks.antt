@@ -24,7 +24,7 @@ use Rattle.overlap_law.specs.Each.{EachUp}
 abbrev pub opened_as : Option Disk → Option (Bool × ℕ)
 opened_as disk = option_map (λ (disk : Disk). (disk.snapshot, disk.inode.vid)) disk
 
--- what a session among some has open, so
+-- the disk that a session among some has open, told so
 abbrev pub opened_in : ℕ → tree.FinMap nat_cmp Session → Option (Bool × ℕ)
 opened_in number sessions = opened_as (session_among number sessions).disk
 

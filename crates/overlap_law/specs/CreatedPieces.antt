@@ -19,7 +19,7 @@ use Rattle.overlap_law.specs.Words.{Hosts}
 abbrev pub OfFetched : Type 1
 OfFetched = ℕ → VdiSpec → ℕ → ℕ → List ℕ → Type 0
 
--- nothing is asked
+-- nothing is asked of them: any bytes may have been read
 abbrev pub anything : OfFetched
 anything vid spec home index bytes = Unit {0}
 

@@ -1,7 +1,7 @@
 -- Few losses at each moment of a run: of the members of each epoch since an object's birth, or since the settled one, few are lost.
 use Rattle.std.specs.Prelude.{◌≡◌, ℕ, true, List, ◌++◌, Some}
 use Rattle.cluster_script.specs.declared.statement.Statement.{Statement}
-use Rattle.sheep_node.specs.declared.event.Event.{Event}
+use Rattle.sheep_world.specs.RunsWithAsks.{Move}
 use Rattle.overlap_law.specs.FewLosses.{LossesStayFew}
 use Rattle.overlap_law.specs.Holders.{is_live_object}
 use Rattle.overlap_law.specs.Past.{MomentWithPast, run_with_past}
@@ -13,6 +13,6 @@ pub record LossesAreFewAt (moment : MomentWithPast) : Type 0 where
       → LossesStayFew (counts moment.past.ended moment.world) moment.world.log moment.past.attempts oid
 
 -- at each moment that a run comes by, its end among them
-pub record LossesAreFewInRun (script : List Statement) (events : List Event) : Type 0 where
-  pub at : (earlier later : List Event) (moment : MomentWithPast) → events ≡ earlier ++ later
+pub record LossesAreFewInRun (script : List Statement) (moves : List Move) : Type 0 where
+  pub at : (earlier later : List Move) (moment : MomentWithPast) → moves ≡ earlier ++ later
       → run_with_past script earlier ≡ Some moment → LossesAreFewAt moment

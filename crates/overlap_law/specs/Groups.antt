@@ -14,7 +14,8 @@ use Rattle.overlap_law.specs.Flight.{NumbersAreSent, PacketsAreAwaited, NoReplyG
 use Rattle.overlap_law.specs.Flight.{FatesAreTold, TheGoneAreFenced}
 use Rattle.overlap_law.specs.Fates.{FatesAreOfTheWire, AttemptsAreOfIncarnations, ServersReachedTheEpoch, AttemptsAreShaped}
 use Rattle.overlap_law.specs.Fates.{AttemptsAreWhole, IdsAreKnown, AttemptsAreOrdered, CreatesComeFirst}
-use Rattle.overlap_law.specs.OpenWorks.{PacketsAreOfOpenWorks, OpenAttemptsAreLatest, WorksKnowTheirFates, ServedRequestsAreTouched, LosersAreTouched}
+use Rattle.overlap_law.specs.OpenWorks.{PacketsAreOfOpenWorks, OpenAttemptsAreLatest, WorksKnowTheirFates, ServedRequestsAreTouched}
+use Rattle.overlap_law.specs.OpenWorks.{LosersAreTouched}
 use Rattle.overlap_law.specs.OpenWorks.{RefusedRequestsAreMute}
 use Rattle.overlap_law.specs.Writers.{OnlyTheWriterWrites, ThereIsOneWriter}
 use Rattle.overlap_law.specs.Sessions.{WorksAreApart, OpenDisksAreHeld, ReadsAreLast}

@@ -13,7 +13,6 @@ use Rattle.peer_proto.specs.Ask.{ask_in}
 use Rattle.peer_service.specs.Fence.{epoch_refusal}
 use Rattle.cluster_script.specs.declared.statement.Statement.{Statement}
 use Rattle.cluster_script.specs.Language.{IsScript}
-use Rattle.sheep_node.specs.declared.event.Event.{Event}
 use Rattle.sheep_node.specs.declared.event.Event.TheVariants.{Deliver}
 use Rattle.sheep_node.specs.State.{Node}
 use Rattle.message_wire.specs.declared.name.MessageName.{MessageName}
@@ -26,8 +25,6 @@ use Rattle.overlap_law.specs.Words.{is_mute}
 use Rattle.overlap_law.specs.Holders.{is_object_among}
 use Rattle.overlap_law.specs.Each.{EachAttempt}
 use Rattle.overlap_law.specs.Past.{Past, MomentWithPast, run_with_past}
-use Rattle.overlap_law.specs.RunsWithAsks.{run_with_asks_and_past}
-use Rattle.overlap_law.specs.NamedAsks.{AsksNameObjects}
 
 -- the replies are one legal history, where the reads of disks that weren't available up to there are left out. A block that is
 -- torn, since a gateway was lost within a coded write, may be read as anything until its next acknowledged write
@@ -91,13 +88,9 @@ pub record KeepsHeadline (script : List Statement) (moment : MomentWithPast) : T
 -- For every script and interleaving of requests, deliveries, losses, epoch changes and recoveries, the replies are one legal
 -- history: each block read from a disk, snapshot or clone is its last acknowledged write or a later unacknowledged one, and
 -- refused requests change nothing, peer requests of another epoch among them, while every epoch since the last finished recovery
--- keeps enough live holders and no gateway dies within a coded write.
+-- keeps enough live holders and no gateway dies within a coded write. Between the events a client without a script may read objects, by
+-- their ids: the replies to the script's requests are one legal history all the same. What the client is told is no part of the history,
+-- and nothing is said of it here.
 abbrev pub Headline : List Statement → Type 0
-Headline script = IsScript script → (events : List Event) (moment : MomentWithPast) → run_with_past script events ≡ Some moment
+Headline script = IsScript script → (moves : List Move) (moment : MomentWithPast) → run_with_past script moves ≡ Some moment
     → KeepsHeadline script moment
-
--- The headline of runs in which a client also reads objects, by their ids, between the events: all of it holds at the end of those too.
--- What the client is told is no part of the history; that it is what the disks have is another claim, of whoever asks.
-abbrev pub HeadlineWithAsks : List Statement → Type 0
-HeadlineWithAsks script = IsScript script → (moves : List Move) (moment : MomentWithPast) → AsksNameObjects moves
-    → run_with_asks_and_past script moves ≡ Some moment → KeepsHeadline script moment

@@ -13,7 +13,7 @@ use Rattle.sheep_world.specs.Effects.{request_started}
 use Rattle.sheep_world.specs.Granted.{entry_adds}
 use Rattle.sheep_world.specs.HistoryAdditions.{request_grown, check_write_grown, reply_grown, writers_lost}
 use Rattle.sheep_world.specs.NodeCauses.{NodeCause, GuestAsks, RequestComes, ReplyComes, LossIsTold, EntryIsRead, EntryIsPut, RecoveryTicks}
-use Rattle.sheep_world.specs.NodeCauses.{WorkIsRetried, input_of_cause}
+use Rattle.sheep_world.specs.NodeCauses.{WorkIsRetried, ClientAsks, input_of_cause}
 use Rattle.overlap_law.specs.StayingBlocks.{are_apart}
 
 -- the write that a check comes to by the cause of a step
@@ -27,6 +27,7 @@ check_write_at world (EntryIsRead entry) = None
 check_write_at world (EntryIsPut entry) = None
 check_write_at world RecoveryTicks = None
 check_write_at world WorkIsRetried = None
+check_write_at world (ClientAsks req ask) = None
 
 -- the world by which replies are told: a guest's request has begun
 abbrev pub world_at_cause : World → NodeCause → World
@@ -38,6 +39,7 @@ world_at_cause world (EntryIsRead entry) = world
 world_at_cause world (EntryIsPut entry) = world
 world_at_cause world RecoveryTicks = world
 world_at_cause world WorkIsRetried = world
+world_at_cause world (ClientAsks req ask) = world
 
 -- what the beginning of a step adds: the writes that a guest's request begins, or a check
 abbrev pub added_at_cause : List Statement → World → NodeCause → List HistEvent
@@ -50,6 +52,7 @@ added_at_cause script world (EntryIsRead entry) = []
 added_at_cause script world (EntryIsPut entry) = []
 added_at_cause script world RecoveryTicks = []
 added_at_cause script world WorkIsRetried = []
+added_at_cause script world (ClientAsks req ask) = []
 
 -- what a reply of a step adds, by the request and what it is told
 abbrev pub added_by_reply : List Statement → World → NodeCause → ℕ × GuestRsp → List HistEvent

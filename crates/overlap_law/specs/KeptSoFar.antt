@@ -1,4 +1,5 @@
--- What is proved of the invariant of the overlap, of each moment that a run in range leads to; and what is proved beside it.
+-- Parts of the invariant of the overlap, some of them of more objects than it says them of, and the six facts: what each moment has that a
+-- run in range leads to. The whole invariant is in specs/Overlap.
 use Rattle.std.specs.Prelude.{ℕ, Bool, false, List}
 use Rattle.cluster_script.specs.declared.statement.Statement.{Statement}
 use Rattle.vdi_directory.specs.Decisions.{log_effects}
@@ -20,14 +21,15 @@ use Rattle.overlap_law.specs.Holders.{is_live_object, is_good, is_available_disk
 use Rattle.overlap_law.specs.Rows.{RowsHaveEnds, OneRowIsOpen, RowsAreApart, ServedRowsStay, RowsAreWhole, RowsAreAtTargets, RowsAreBegun}
 use Rattle.overlap_law.specs.Lists.{ListsComeFirst, TellersHaveCome, ListsAreWhole, PendingIsLacked}
 use Rattle.overlap_law.specs.Since.{CopiesAreOfAttempts}
-use Rattle.overlap_law.specs.Searches.{SearchesAreOfTheFirst, ToldRowsAreTrue, ToldCopiesAreOfAttempts, NoRowIsTrue, LevelsAreAsked, PassedLevelsLackRows}
+use Rattle.overlap_law.specs.Searches.{SearchesAreOfTheFirst, ToldRowsAreTrue, ToldCopiesAreOfAttempts, NoRowIsTrue, LevelsAreAsked}
+use Rattle.overlap_law.specs.Searches.{PassedLevelsLackRows}
 use Rattle.overlap_law.specs.NoObjects.{NothingIsLacked}
 use Rattle.overlap_law.specs.ToDo.{WorksNameWhatIsMade}
 use Rattle.overlap_law.specs.Pieces.{WritesHaveItems, WhatIsWrittenIsAlone}
 use Rattle.overlap_law.specs.Headline.{OtherEpochsChangeNothing, RefusedHaveNoItems, RefusedMakeNothing, ledger_of}
 
--- the groups of the wire, of the writers and of epochs, what of the attempts, of commands, of rows and of recoveries, and the headline's
--- parts on refused requests and on peers of another epoch
+-- the groups of the wire, of the writers and of epochs, conjuncts on attempts, commands, rows and recoveries, and the headline's parts on
+-- refused requests and on peers of another epoch
 pub record IsKeptSoFar (script : List Statement) (moment : MomentWithPast) : Type 0 where
   pub wire : FlightIsKept moment.world.log moment.world.hosts moment.world.wire moment.past.attempts
   pub epochs : TermsAreKept moment.world.log moment.world.hosts

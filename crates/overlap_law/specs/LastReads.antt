@@ -37,11 +37,11 @@ snaps vid (Freed of) = false
 snaps vid (Withdrawn of) = false
 snaps vid (Left node) = false
 
--- whether the disk of an id became one
+-- whether the disk of an id became a snapshot
 abbrev pub was_snapped : List Entry → ℕ → Bool
 was_snapped log vid = list_any (snaps vid) (log_effects log)
 
--- the epoch in which it did
+-- the epoch in which the disk of an id became a snapshot
 abbrev pub snapped_in : List Entry → ℕ → ℕ
 snapped_in log vid = last_epoch (snaps vid) log
 

@@ -8,7 +8,6 @@ pub mod Grants
 pub mod BegunAttempts
 pub mod PastWords
 pub mod Past
-pub mod RunsWithAsks
 pub mod Contents
 pub mod Facts
 pub mod Headline
@@ -89,8 +88,6 @@ pub mod SoundUnwritten
 pub mod SoundReads
 pub mod HistoryStands
 pub mod AloneOnDisks
-pub mod NamedAsks
-pub mod RunsWithReads
 pub mod HeadlineOfRuns
 pub mod CopiedStrips
 pub mod CheckedBehind

@@ -32,7 +32,9 @@ use Rattle.sheep_world.specs.World.{World}
 use Rattle.sheep_world.specs.Asking.{session_asking}
 use Rattle.sheep_world.specs.Conditions.{is_disk_request_at}
 use Rattle.sheep_world.specs.HistoryAdditions.{disk_of}
-use Rattle.sheep_world.specs.Step.{EventOutcome, step}
+use Rattle.sheep_world.specs.Step.{EventOutcome}
+use Rattle.sheep_world.specs.RunsWithAsks.{Move}
+use Rattle.sheep_world.specs.Began.{MakesMove}
 use Rattle.overlap_law.specs.Words.{Hosts}
 use Rattle.overlap_law.specs.Each.{EachUp}
 use Rattle.overlap_law.specs.Holders.{is_available_disk}
@@ -62,11 +64,11 @@ abbrev pub NoObjectIsMissing : List Statement → MomentWithPast → EventOutcom
 NoObjectIsMissing script before made = (req oid vid : ℕ) → RefusesForAnObject made req oid
     → disk_meant script before.world req oid ≡ Some vid → is_there_and_available made.world.log before.past.unavailable vid ≡ false
 
--- No missing object. For every script and every run of it, no reply says that a node doesn't have an object, where the request is
--- on a disk that is published, isn't deleted in the whole log, and was available up to there.
+-- No missing object. For every script and every run of it, no reply to a request of the script says that a node doesn't have an object,
+-- where the request is on a disk that is published, isn't deleted in the whole log, and was available up to there.
 abbrev pub NoObjects : List Statement → Type 0
-NoObjects script = IsScript script → (events : List Event) (before : MomentWithPast) (event : Event) (made : EventOutcome)
-    → run_with_past script events ≡ Some before → step script event before.world ≡ Some made → NoObjectIsMissing script before made
+NoObjects script = IsScript script → (moves : List Move) (before : MomentWithPast) (event : Event) (made : EventOutcome)
+    → run_with_past script moves ≡ Some before → MakesMove script event before.world made → NoObjectIsMissing script before made
 
 -- the disk that a request's work is for, by its object: of a read or write the session's open one, of a command that of the inode, of
 -- a check the one that it checks; a client without a script may ask for objects that were never made

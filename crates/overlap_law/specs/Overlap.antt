@@ -3,7 +3,9 @@ use Rattle.std.specs.Prelude.{◌≡◌, ℕ, Bool, true, List, Some}
 use Rattle.vdi_directory.specs.Decisions.{log_effects}
 use Rattle.cluster_script.specs.declared.statement.Statement.{Statement}
 use Rattle.sheep_node.specs.declared.event.Event.{Event}
-use Rattle.sheep_world.specs.Step.{EventOutcome, step}
+use Rattle.sheep_world.specs.Step.{EventOutcome}
+use Rattle.sheep_world.specs.RunsWithAsks.{Move}
+use Rattle.sheep_world.specs.Began.{MakesMove}
 use Rattle.overlap_law.specs.Holders.{targets_by, is_live_object, is_good, is_available_disk}
 use Rattle.overlap_law.specs.Past.{MomentWithPast, run_with_past}
 use Rattle.overlap_law.specs.MomentChanges.{RunsAreInRange}
@@ -66,11 +68,11 @@ pub record GivesFacts (moment : MomentWithPast) : Type 0 where
 
 -- the invariant gives the facts and the legality of the replies, in each run of a script in range
 abbrev pub OverlapGivesFacts : List Statement → Type 0
-OverlapGivesFacts script = RunsAreInRange script → (events : List Event) (moment : MomentWithPast)
-    → run_with_past script events ≡ Some moment → Overlap moment → GivesFacts moment
+OverlapGivesFacts script = RunsAreInRange script → (moves : List Move) (moment : MomentWithPast)
+    → run_with_past script moves ≡ Some moment → Overlap moment → GivesFacts moment
 
--- in a run in range it gives that no object is missing, at each event that may come next
+-- in a run in range it gives that no object is missing, at each event or client's read that may come next
 abbrev pub OverlapGivesObjects : List Statement → Type 0
-OverlapGivesObjects script = RunsAreInRange script → (events : List Event) (before : MomentWithPast) (event : Event) (made : EventOutcome)
-    → run_with_past script events ≡ Some before → Overlap before → step script event before.world ≡ Some made
+OverlapGivesObjects script = RunsAreInRange script → (moves : List Move) (before : MomentWithPast) (event : Event) (made : EventOutcome)
+    → run_with_past script moves ≡ Some before → Overlap before → MakesMove script event before.world made
     → NoObjectIsMissing script before made

@@ -7,9 +7,10 @@ use Rattle.sheep_node.specs.declared.event.Event.{Event}
 use Rattle.message_wire.specs.declared.name.MessageName.{MessageName}
 use Rattle.sheep_world.specs.World.{World}
 use Rattle.sheep_world.specs.Opening.{initial_world}
-use Rattle.sheep_world.specs.Step.{EventOutcome, step}
+use Rattle.sheep_world.specs.Step.{EventOutcome}
 use Rattle.sheep_world.specs.Run as runs
 use Rattle.sheep_world.specs.Incarnations.{EndedIncarnation, incarnations_after}
+use Rattle.sheep_world.specs.RunsWithAsks.{Move, made_by, event_of_move}
 use Rattle.overlap_law.specs.BegunAttempts.{attempts_after}
 use Rattle.overlap_law.specs.PastWords.{messages_lost_by, refused_in, listed_by, is_counted, unavailable_at}
 pub use Rattle.overlap_law.specs.Attempts.{MessageFate, Flying, Served, Doomed, AttemptRecord}
@@ -61,23 +62,23 @@ abbrev pub moment_after : List Statement → Event → MomentWithPast → EventO
 moment_after script event before made =
     record { world = made.world; past = past_after_event script event before.world made before.past }
 
--- the moment after one event more, where it may happen
-abbrev pub next_moment : List Statement → Event → MomentWithPast → Option MomentWithPast
-next_moment script event before = option_map (moment_after script event before) (step script event before.world)
+-- the moment after one move more, where it may be made: an event, or a client's read, of which the past takes what it takes of a retry
+abbrev pub next_moment : List Statement → Move → MomentWithPast → Option MomentWithPast
+next_moment script move before = option_map (moment_after script (event_of_move move) before) (made_by script move before.world)
 
--- the moment after further events, where each may happen in its turn
-unfoldable pub run_on : List Statement → MomentWithPast → List Event → Option MomentWithPast
+-- the moment after further moves, where each may be made in its turn
+unfoldable pub run_on : List Statement → MomentWithPast → List Move → Option MomentWithPast
 run_on script moment [] = Some moment
-run_on script moment (event ∷ events) =
-    option_and_then (λ (next : MomentWithPast). run_on script next events) (next_moment script event moment)
+run_on script moment (move ∷ moves) =
+    option_and_then (λ (next : MomentWithPast). run_on script next moves) (next_moment script move moment)
 
 -- the moment that a script opens with
 abbrev pub first_moment : List Statement → MomentWithPast
 first_moment script = record { world = initial_world script; past = no_past }
 
--- the moment in which a run of a script ends; none where its events are no run
-unfoldable pub run_with_past : List Statement → List Event → Option MomentWithPast
-run_with_past script events = run_on script (first_moment script) events
+-- the moment in which a run of a script ends, in which a client may read between the events; none where its moves are no run
+unfoldable pub run_with_past : List Statement → List Move → Option MomentWithPast
+run_with_past script moves = run_on script (first_moment script) moves
 
 -- a moment as a run alone has it
 abbrev pub without_past : MomentWithPast → runs.Moment

@@ -18,11 +18,11 @@ use Rattle.sheep_node.specs.declared.ask.Ask.TheVariants as asks
 use Rattle.sheep_node.specs.declared.check_write.CheckWrite.{CheckWrite}
 use Rattle.sheep_node.specs.declared.course.Course.TheVariants.{Driving}
 use Rattle.sheep_node.specs.declared.course.Request.{Request}
-use Rattle.sheep_node.specs.declared.event.Event.{Event}
 use Rattle.sheep_node.specs.State.{session_at}
 use Rattle.sheep_node.specs.StepState.{StepState}
 use Rattle.sheep_world.specs.HistoryAdditions.{check_write_grown}
 use Rattle.sheep_world.specs.World.{Host}
+use Rattle.sheep_world.specs.RunsWithAsks.{Move}
 use Rattle.overlap_law.specs.DiskEvents.{ends_write_of}
 use Rattle.overlap_law.specs.Headline.{ledger_of}
 use Rattle.overlap_law.specs.HistoryGrowth.{added_by_reply, check_write_at}
@@ -63,8 +63,8 @@ pub record DoneWritesAreApart (script : List Statement) (start before after : Mo
 -- what a check reads of an object, as it comes to the write of its value by a reply, may be read of each block that the disk has, of disks
 -- that were available as the event began
 pub record ChecksReadWhatMayBeRead (script : List Statement) : Type 0 where
-  pub each : (events : List Event) (start : MomentWithPast) (stepping : SteppingNode) (write : CheckWrite)
-      → run_with_past script events ≡ Some start → IsStepping script start.world stepping
+  pub each : (moves : List Move) (start : MomentWithPast) (stepping : SteppingNode) (write : CheckWrite)
+      → run_with_past script moves ≡ Some start → IsStepping script start.world stepping
       → check_write_at start.world stepping.cause ≡ Some write
       → WhatIsToldMayBeRead (is_available_disk start.world.log start.past.unavailable) (ledger_of start.past.history)
       (check_write_grown script write)

@@ -148,10 +148,10 @@ pub record IsWithoutReply (script : List Statement) (world : World) (n : ℕ) (h
   pub unanswered : slice_get (progress_at request.session world).unanswered place ≡ Some started
   pub number : started.req ≡ req
 
--- each request of a node is
+-- each request of a node is, but for a client's
 pub record RequestsAreWithoutReply (script : List Statement) (world : World) : Type 0 where
   pub each : (n req : ℕ) (host : Host) (request : Request) → host_at n world ≡ Some host → tree.get host.node.requests req ≡ Some request
-      → IsWithoutReply script world n host req request
+      → is_of_client request.course ≡ false → IsWithoutReply script world n host req request
 
 -- and it is where its statement, the open disk and the disk on which it began allow
 pub record IsRequestOfScript (script : List Statement) (world : World) (n : ℕ) (host : Host) (req : ℕ) (request : Request) : Type 0 where

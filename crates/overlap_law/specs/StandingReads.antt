@@ -1,5 +1,6 @@
 -- Where the reads of a node stand on the disks that their sessions have open, and what a reply to a read tells.
-use Rattle.std.specs.Prelude.{◌≡◌, ◌≢◌, ℕ, ◌+◌, ◌*◌, ◌<◌, ◌≤◌, ◌++◌, Bool, true, false, Contains, List, length, Option, Some, IsTrue, IfSome}
+use Rattle.std.specs.Prelude.{◌≡◌, ◌≢◌, ◌⊎◌, ℕ, ◌+◌, ◌*◌, ◌<◌, ◌≤◌, ◌++◌, Bool, true, false, Contains, List, length, Option, Some, None}
+use Rattle.std.specs.Prelude.{IsTrue, IfSome}
 use Rattle.std.specs.List.{list_all}
 use Rattle.std.specs.Option.{option_and_then}
 use Rattle.std.specs.FinMap as tree
@@ -44,9 +45,12 @@ use Rattle.sheep_node.specs.Changes.{HasRequest, EndsWork}
 use Rattle.sheep_node.specs.State.{Node, session_at}
 use Rattle.sheep_node.specs.StepState.{StepState}
 use Rattle.sheep_world.specs.Asking.{ask_of_statement}
+use Rattle.sheep_world.specs.ClientAsks.{is_read_ask}
 use Rattle.sheep_world.specs.NodeCauses.{input_of_cause}
-use Rattle.sheep_world.specs.Step.{EventOutcome, step}
+use Rattle.sheep_world.specs.Step.{EventOutcome}
 use Rattle.sheep_world.specs.World.{Host}
+use Rattle.sheep_world.specs.RunsWithAsks.{Move}
+use Rattle.sheep_world.specs.Began.{MakesMove}
 use Rattle.overlap_law.specs.Attempts.{AttemptRecord}
 use Rattle.overlap_law.specs.Each.{spec_in}
 use Rattle.overlap_law.specs.Headline.{ledger_of}
@@ -103,13 +107,17 @@ IsToldAll May ledger effects good_id inode asked reply =
     → IsExtent (extent_on inode offset size) × (offset + size ≤ inode.spec.size)
     × IsReadUpTo May ledger effects good_id inode (extent_on inode offset size) (last_index_of (extent_on inode offset size) + 1) told
 
--- what the reads of a node need to go on, at a point of its step: that the step brings what was asked, that the disks that sessions have
--- open are sound, and that zeros are as is asked of the holes that a read comes to, as it begins or as a piece of it comes, and what comes
--- of the piece is as is asked of its blocks. Where another write enters its entry by then, a hole is none any more; but no read that has
--- begun comes to it
+-- what comes to a node is what is asked under its number, or a client's read, under whose number nothing is asked
+abbrev pub IsBroughtBy : (ℕ → Option Ask) → ℕ → Ask → Type 0
+IsBroughtBy asked req ask = (asked req ≡ Some ask) ⊎ ((asked req ≡ None) × (is_read_ask ask ≡ true))
+
+-- what the reads of a node need to go on, at a point of its step: that the step brings what was asked, or a client's read, that the disks
+-- that sessions have open are sound, and that zeros are as is asked of the holes that a read comes to, as it begins or as a piece of it
+-- comes, and what comes of the piece is as is asked of its blocks. Where another write enters its entry by then, a hole is none any more;
+-- but no read that has begun comes to it
 pub record ReadsMayGoOn (May_be : Reading) (ledger : Ledger) (effects : List Effect) (good_id : ℕ → Bool) (asked : ℕ
     → Option Ask) (input : Input) (node : Node) (so_far : StepState) : Type 0 where
-  pub brought : (req session : ℕ) (ask : Ask) → input ≡ inputs.Guest req session ask → asked req ≡ Some ask
+  pub brought : (req session : ℕ) (ask : Ask) → input ≡ inputs.Guest req session ask → IsBroughtBy asked req ask
   pub sound : (session : ℕ) (disk : Disk) → (session_at session so_far.node).disk ≡ Some disk → IsSpec disk.inode.spec
   pub begins : (session req offset size : ℕ) (disk : Disk) → HasRequest session req (Waiting (disk_asks.Read offset size)) so_far
       → (session_at session so_far.node).disk ≡ Some disk → may_run req (session_at session so_far.node).queue ≡ true
@@ -122,7 +130,7 @@ pub record ReadsMayGoOn (May_be : Reading) (ledger : Ledger) (effects : List Eff
 
 -- ---- in a moment
 
--- what the script has a request ask
+-- what the script's request of a number asks
 abbrev pub asked_in : List Statement → ℕ → Option Ask
 asked_in script req = option_and_then ask_of_statement (request_at script req)
 
@@ -245,12 +253,12 @@ pub record IsServingReads (script : List Statement) (start before after : Moment
   pub kept : AllReadsAreKept script start before after
 
 pub record EachChangeServesReads (script : List Statement) : Type 0 where
-  pub each : (events : List Event) (event : Event) (start end before after : MomentWithPast)
-      → IsOnTheWay script events event start end before after
+  pub each : (moves : List Move) (move : Move) (start end before after : MomentWithPast)
+      → IsOnTheWay script moves move start end before after
       → IsServingReads script start before after (is_available_disk start.world.log start.past.unavailable)
 
 -- each event of a run tells reads, of disks that were available up to there, what may be read
 pub record EachEventTellsWhatMayBeRead (script : List Statement) : Type 0 where
-  pub each : (events : List Event) (event : Event) (before : MomentWithPast) (made : EventOutcome)
-      → run_with_past script events ≡ Some before → step script event before.world ≡ Some made
+  pub each : (moves : List Move) (event : Event) (before : MomentWithPast) (made : EventOutcome)
+      → run_with_past script moves ≡ Some before → MakesMove script event before.world made
       → WhatIsToldMayBeRead (is_available_disk made.world.log before.past.unavailable) (ledger_of before.past.history) made.grown

@@ -17,11 +17,13 @@ use Rattle.sheep_node.specs.Changes as changes
 use Rattle.sheep_node.specs.Changes.{input_received, attempt_in, Change, Leads}
 use Rattle.sheep_world.specs.World.{Host, World, host_at, is_host_up}
 use Rattle.sheep_world.specs.NodeSteps.{wire_with_request, progress_after_reply, ask_after_replies}
-use Rattle.sheep_world.specs.Step.{EventOutcome, step}
+use Rattle.sheep_world.specs.Step.{EventOutcome}
 use Rattle.sheep_world.specs.NodeCauses.{NodeCause, GuestAsks, RequestComes, ReplyComes, LossIsTold, EntryIsRead, EntryIsPut, RecoveryTicks}
-use Rattle.sheep_world.specs.NodeCauses.{WorkIsRetried, input_of_cause, event_of_cause, IsCause, progress_at_cause, wire_at_cause}
+use Rattle.sheep_world.specs.NodeCauses.{WorkIsRetried, ClientAsks, input_of_cause, event_of_cause, IsCause, progress_at_cause}
+use Rattle.sheep_world.specs.NodeCauses.{asked_at_cause, wire_at_cause}
 use Rattle.sheep_world.specs.NodeCauses.{losses_after_cause, log_after_cause, wire_after_cause, host_with_node, history_of_cause}
 use Rattle.sheep_world.specs.EventKinds.{outcome_of_step}
+use Rattle.sheep_world.specs.Began.{MakesMove}
 use Rattle.overlap_law.specs.Attempts.{AttemptRecord, Doomed, attempts_with_fate, fate_of_say, beginning_with}
 use Rattle.overlap_law.specs.Reached.{Hosts}
 use Rattle.overlap_law.specs.Past.{MomentWithPast, moment_after}
@@ -37,8 +39,8 @@ pub record IsStepping (script : List Statement) (world : World) (stepping : Step
   pub there : host_at stepping.n world ≡ Some stepping.host
   pub up : is_host_up stepping.host ≡ true
   pub caused : IsCause script world stepping.n stepping.host stepping.cause
-  pub made : step script (event_of_cause stepping.n stepping.cause) world
-      ≡ Some (outcome_of_step script stepping.n stepping.host stepping.cause world)
+  pub made : MakesMove script (event_of_cause stepping.n stepping.cause) world
+      (outcome_of_step script stepping.n stepping.host stepping.cause world)
 
 -- whether the step goes by changes of the node, one after the other
 abbrev pub StepsByChanges : NodeCause → Type 0
@@ -50,6 +52,7 @@ StepsByChanges (EntryIsRead entry) = Unit {0}
 StepsByChanges (EntryIsPut entry) = ⊥
 StepsByChanges RecoveryTicks = ⊥
 StepsByChanges WorkIsRetried = Unit {0}
+StepsByChanges (ClientAsks req ask) = Unit {0}
 
 -- or is one change: a request is served, an entry is put, a recovery ticks
 abbrev pub StepsAtOnce : NodeCause → Type 0
@@ -61,6 +64,7 @@ StepsAtOnce (EntryIsRead entry) = ⊥
 StepsAtOnce (EntryIsPut entry) = Unit {0}
 StepsAtOnce RecoveryTicks = Unit {0}
 StepsAtOnce WorkIsRetried = ⊥
+StepsAtOnce (ClientAsks req ask) = ⊥
 
 -- ---- how far a step has come
 
@@ -100,7 +104,7 @@ world_in_step script stepping world so_far = record {
   phase = world.phase;
   controls = world.controls;
   losses = losses_after_cause stepping.cause world;
-  asked = option_map (ask_after_replies so_far.outputs.replies) world.asked;
+  asked = option_map (ask_after_replies so_far.outputs.replies) (asked_at_cause stepping.cause world.asked);
   input = Some (input_of_cause stepping.cause);
   outputs = so_far.outputs;
 }
@@ -135,6 +139,7 @@ attempts_at_cause node (EntryIsRead entry) attempts = attempts
 attempts_at_cause node (EntryIsPut entry) attempts = attempts
 attempts_at_cause node RecoveryTicks attempts = attempts
 attempts_at_cause node WorkIsRetried attempts = attempts
+attempts_at_cause node (ClientAsks req ask) attempts = attempts
 
 -- the attempts that a change of the node begins: the one that opens, if its work makes something
 abbrev pub attempts_of_change : {input : Input} {node : Node} → Host → (so_far next : StepState) → Change input node so_far next

@@ -1,4 +1,5 @@
--- What open reads were given by the messages that they have heard of: pieces that have what their nodes owed in the read's epoch.
+-- What open reads of sessions were given by the messages that they have heard of: pieces that have what their nodes owed in the read's
+-- epoch.
 use Rattle.std.specs.Prelude.{◌≡◌, ℕ, ◌≤◌, Bool, true, false, List, length, slice_get, Some}
 use Rattle.std.specs.FinMap as tree
 use Rattle.std.specs.Ordering.{nat_cmp}
@@ -17,6 +18,7 @@ use Rattle.overlap_law.specs.Each.{EachUp, policy_in}
 use Rattle.overlap_law.specs.Holders.{targets_by}
 use Rattle.overlap_law.specs.Reached.{Hosts}
 use Rattle.overlap_law.specs.ToldPieces.{offset_read, IsPieceSince}
+use Rattle.overlap_law.specs.Sessions.{is_of_client_at}
 
 -- a message of a request's open work has given a piece
 pub record HasGiven (works : tree.FinMap nat_cmp Work) (req : ℕ) (work : Work) (current : gateways.Attempt) (place : ℕ)
@@ -27,11 +29,12 @@ pub record HasGiven (works : tree.FinMap nat_cmp Work) (req : ℕ) (work : Work)
   pub given : message.status ≡ Succeeded bytes
   pub some : 1 ≤ length bytes
 
--- each piece that an open read was given of a good object is of bytes that have what a target of the object owed in the read's epoch
+-- each piece that an open read of a session was given of a good object is of bytes that have what a target of the object owed in the
+-- read's epoch. A client's read may be overtaken by attempts of a later epoch
 pub record GivenPiecesAreSince (log : List Entry) (good : ℕ → Bool) (hosts : Hosts) (attempts : List AttemptRecord) : Type 0 where
   pub each : EachUp hosts (λ n node. (req place : ℕ) (work : Work) (current : gateways.Attempt) (message : Message) (bytes : List ℕ)
-      → HasGiven node.gateway.works req work current place message bytes → is_making work.work ≡ false → good (oid_of work.work) ≡ true
-      → policy_in (log_effects log) (oid_of work.work) ≡ Some (policy_of work.work)
+      → HasGiven node.gateway.works req work current place message bytes → is_making work.work ≡ false → is_of_client_at req node ≡ false
+      → good (oid_of work.work) ≡ true → policy_in (log_effects log) (oid_of work.work) ≡ Some (policy_of work.work)
       → (from : NodeId) × (has_node from (targets_by log current.epoch.0 (oid_of work.work) (policy_of work.work)) ≡ true)
       × IsPieceSince (policy_of work.work) (oid_of work.work) hosts attempts from message.index current.epoch.0 (offset_read work.work)
       bytes)

@@ -1,4 +1,5 @@
--- What open reads were told: at each unit a piece of a copy has the bytes of some attempt, and a piece of a row has what the row owed.
+-- What open reads were told: at each unit a piece of a copy has the bytes of some attempt, and a piece of a row has what the row owed, if
+-- the read is a session's.
 use Rattle.std.specs.Prelude.{◌≡◌, ℕ, ◌+◌, ◌*◌, ◌-◌, ◌/◌, ◌≤◌, Bool, true, false, List, length, slice_get, Some}
 use Rattle.std.specs.FinMap as tree
 use Rattle.std.specs.Ordering.{nat_cmp}
@@ -28,6 +29,7 @@ use Rattle.overlap_law.specs.Packets.{Wire, IsAnswering}
 use Rattle.overlap_law.specs.Reached.{Hosts}
 use Rattle.overlap_law.specs.Since.{IsSince}
 use Rattle.overlap_law.specs.Units.{unit_start, unit_size, unit_end, covers_unit, unit_part_by}
+use Rattle.overlap_law.specs.Sessions.{is_of_client_at}
 
 -- nothing came yet of a message of a request's open work
 pub record IsUnansweredOf (works : tree.FinMap nat_cmp Work) (req : ℕ) (work : Work) (current : gateways.Attempt) (place : ℕ)
@@ -90,13 +92,14 @@ abbrev pub GaveStrip : ℕ → ℕ → ℕ → List ℕ → Message → Type 0
 GaveStrip d offset unit block message =
     piece_at (bytes_in message.status) (BLOCK_BYTES * unit / d - offset / d) (BLOCK_BYTES / d) ≡ strip d block message.index
 
--- a piece of a good object, of a copy or of strips, that is on its way back to an open read, is of bytes that have what their node owed in
--- the read's epoch
+-- a piece of a good object, of a copy or of strips, that is on its way back to an open read of a session, is of bytes that have what their
+-- node owed in the read's epoch. A client's read may be overtaken by attempts of a later epoch
 pub record ToldPiecesAreSince (effects : List Effect) (good : ℕ → Bool) (hosts : Hosts) (wire : Wire) (attempts : List AttemptRecord)
     : Type 0 where
   pub each : EachUp hosts (λ n node. (req place : ℕ) (work : Work) (current : gateways.Attempt) (message : Message) (from : NodeId)
       (rsp : PeerRsp) (bytes : List ℕ) → IsUnansweredOf node.gateway.works req work current place message
-      → IsAnswering wire (message_name n message.number) from rsp → rsp.say ≡ Piece bytes → good (oid_of work.work) ≡ true
+      → is_of_client_at req node ≡ false → IsAnswering wire (message_name n message.number) from rsp → rsp.say ≡ Piece bytes
+      → good (oid_of work.work) ≡ true
       → policy_in effects (oid_of work.work) ≡ Some (policy_of work.work)
       → IsPieceSince (policy_of work.work) (oid_of work.work) hosts attempts from message.index current.epoch.0 (offset_read work.work)
       bytes)

@@ -108,7 +108,7 @@ abbrev pub IsInTurn : Wire → List AttemptRecord → AttemptRecord → Type 0
 IsInTurn wire attempts attempt =
     EachAttempt attempts (λ j other. object_of other ≡ object_of attempt → AreInOrder wire other attempt)
 
--- an attempt that begins between two moments does so in its turn, as the group of writers gives it
+-- an attempt that begins between two moments does so in its turn, as it does where each object has one writer
 pub record BeginsInTurn (before after : MomentWithPast) : Type 0 where
   pub in_turn : (attempt : AttemptRecord) → after.past.attempts ≡ before.past.attempts ++ attempt ∷ []
       → IsInTurn before.world.wire before.past.attempts attempt

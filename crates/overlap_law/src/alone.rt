@@ -28,12 +28,12 @@ ghost use Rattle.guest_driver.specs.Pieces.{Piece, pieces};
 ghost use Rattle.sheep_node.specs.declared.ask.Ask.TheVariants as asks;
 ghost use Rattle.sheep_node.specs.declared.course.Course.TheVariants.{Checking, Driving};
 ghost use Rattle.sheep_node.specs.declared.course.Request.{Request};
-ghost use Rattle.sheep_node.specs.declared.event.Event.{Event};
 ghost use Rattle.sheep_node.specs.State.{session_at};
 ghost use Rattle.sheep_node.specs.Changes.{LearnsStatus, EndsWork};
 ghost use Rattle.sheep_node.specs.StepState.{StepState};
 ghost use Rattle.sheep_world.specs.Asking.{ask_of_statement};
 ghost use Rattle.sheep_world.specs.NodeCauses.{input_of_cause};
+ghost use Rattle.sheep_world.specs.RunsWithAsks.{Move};
 ghost use Rattle.overlap_law.specs.AloneEntries.{IsOwnByTable, OwnObjectsAreBehind};
 ghost use Rattle.overlap_law.specs.AloneItems.{HasOwnItems, WritesHaveOwnItems};
 ghost use Rattle.overlap_law.specs.AloneOnDisks.{HasItemsOn, ItemsAreOnTheirDisk};
@@ -67,8 +67,8 @@ pub fn what_is_written_alone_is_all_that_comes()
 /// Of each run in range: where a node learns in the middle of its step that a create or write is done, which has the bytes of a piece and
 /// is on its object, the last attempt on the object made the piece.
 pub fn a_piece_that_is_done_is_alone()
-    ensures { (script : List Statement) (events : List Event) (start : MomentWithPast) (stepping : SteppingNode) (so_far : StepState)
-        → RunsAreInRange script → run_with_past script events ≡ Some start → IsStepping script start.world stepping
+    ensures { (script : List Statement) (moves : List Move) (start : MomentWithPast) (stepping : SteppingNode) (so_far : StepState)
+        → RunsAreInRange script → run_with_past script moves ≡ Some start → IsStepping script start.world stepping
         → StepsByChanges stepping.cause → LeadsInStep stepping (first_in_step stepping) so_far
         → MomentTrail script start (moment_in_step script stepping start so_far)
         → (req number : ℕ) (work : Work) (current : gateways.Attempt) (status : Status)
@@ -82,8 +82,8 @@ pub fn a_piece_that_is_done_is_alone()
 /// In each run in range, behind each change: no attempt begins in the change on the disk's own object of a piece that a write has behind
 /// it, or whose entry it writes. For the write's session alone may write the disk, and what has begun of a session meets on no index.
 pub fn no_attempt_begins_behind_a_write()
-    ensures { (script : List Statement) (events : List Event) (start before after : MomentWithPast) → RunsAreInRange script
-        → run_with_past script events ≡ Some start → MomentTrail script start before → MomentChange script start before after
+    ensures { (script : List Statement) (moves : List Move) (start before after : MomentWithPast) → RunsAreInRange script
+        → run_with_past script moves ≡ Some start → MomentTrail script start before → MomentChange script start before after
         → (attempt : AttemptRecord) → after.past.attempts ≡ before.past.attempts ++ attempt ∷ []
         → EachUp after.world.hosts (λ n node. (req : ℕ) (request : Request) (opened : Disk) (payload : List ℕ) (stage : DriverStage)
         (piece one : Piece) (rest front : List Piece) (offset : ℕ) → tree.get node.requests req ≡ Some request
@@ -95,8 +95,8 @@ pub fn no_attempt_begins_behind_a_write()
 /// In each run in range, behind each change: an attempt that begins in the change on an own object of the disk that a check's session has
 /// open is the check's. For the session alone may write the disk, and has no other request.
 pub fn only_a_check_writes_its_disk()
-    ensures { (script : List Statement) (events : List Event) (start before after : MomentWithPast) → RunsAreInRange script
-        → run_with_past script events ≡ Some start → MomentTrail script start before → MomentChange script start before after
+    ensures { (script : List Statement) (moves : List Move) (start before after : MomentWithPast) → RunsAreInRange script
+        → run_with_past script moves ≡ Some start → MomentTrail script start before → MomentChange script start before after
         → (attempt : AttemptRecord) → after.past.attempts ≡ before.past.attempts ++ attempt ∷ []
         → EachUp after.world.hosts (λ n node. (req index : ℕ) (request : Request) (opened : Disk) (check : Check)
         → tree.get node.requests req ≡ Some request → (session_at request.session node).disk ≡ Some opened
@@ -108,8 +108,8 @@ pub fn only_a_check_writes_its_disk()
 /// that a check's session has open, nothing is to come but the disk's own id, of a good id that isn't dead, by each test for good ids that
 /// serves as the event begins. For the inodes of open disks may come to have what the sessions' tables have.
 pub fn what_is_checked_is_entered_alone()
-    ensures { (script : List Statement) (events : List Event) (start moment : MomentWithPast) → RunsAreInRange script
-        → run_with_past script events ≡ Some start → MomentTrail script start moment → (good_id : ℕ → Bool)
+    ensures { (script : List Statement) (moves : List Move) (start moment : MomentWithPast) → RunsAreInRange script
+        → run_with_past script moves ≡ Some start → MomentTrail script start moment → (good_id : ℕ → Bool)
         → CallsAvailable start start good_id
         → EachUp moment.world.hosts (λ n node. (req : ℕ) (request : Request) (opened : Disk) (check : Check)
         → tree.get node.requests req ≡ Some request → (session_at request.session node).disk ≡ Some opened
@@ -124,16 +124,16 @@ pub fn what_is_checked_is_entered_alone()
 /// own objects, with the write's bytes; and so was the object whose entry it writes. For a piece is so as its work is done, and no attempt
 /// begins behind it.
 pub fn what_is_written_stays_alone()
-    ensures { (script : List Statement) (events : List Event) (start moment : MomentWithPast) → RunsAreInRange script
-        → run_with_past script events ≡ Some start → MomentTrail script start moment
+    ensures { (script : List Statement) (moves : List Move) (start moment : MomentWithPast) → RunsAreInRange script
+        → run_with_past script moves ≡ Some start → MomentTrail script start moment
         → WhatIsWrittenStaysAlone moment.world.hosts moment.past.attempts }
 {}
 
 /// In each run in range, in the middle of a step: where the last work of a write is done, so that its node replies to it, each piece of the
 /// write was made by the last attempt on its object, with the write's bytes.
 pub fn what_a_write_is_replied_to_is_alone()
-    ensures { (script : List Statement) (events : List Event) (start : MomentWithPast) (stepping : SteppingNode)
-        (so_far next : StepState) → RunsAreInRange script → run_with_past script events ≡ Some start
+    ensures { (script : List Statement) (moves : List Move) (start : MomentWithPast) (stepping : SteppingNode)
+        (so_far next : StepState) → RunsAreInRange script → run_with_past script moves ≡ Some start
         → IsStepping script start.world stepping → StepsByChanges stepping.cause → IsWithinStep stepping so_far next
         → MomentTrail script start (moment_in_step script stepping start so_far)
         → (session req number : ℕ) (work : Work) (attempt : gateways.Attempt) (status : Status) (bytes payload : List ℕ)
@@ -150,8 +150,8 @@ pub fn what_a_write_is_replied_to_is_alone()
 /// In each run in range, at each moment on the way of an event: each attempt by whose bytes a block of a piece may come to be read, that
 /// the last attempt on its object made, has the bytes of the piece's request for it.
 pub fn outcomes_of_what_is_written_are_its_bytes()
-    ensures { (script : List Statement) (events : List Event) (start moment : MomentWithPast) → RunsAreInRange script
-        → run_with_past script events ≡ Some start → MomentTrail script start moment → (vid : ℕ) (payload : List ℕ) (piece : Piece)
+    ensures { (script : List Statement) (moves : List Move) (start moment : MomentWithPast) → RunsAreInRange script
+        → run_with_past script moves ≡ Some start → MomentTrail script start moment → (vid : ℕ) (payload : List ℕ) (piece : Piece)
         → IsWrittenAlone moment.past.attempts vid payload piece → (unit : ℕ) → IsInPiece piece unit
         → list_all (λ (attempt : AttemptRecord). bytes_eq (bytes_for payload piece unit) (bytes_by unit attempt.work))
         (outcomes_in moment.world.hosts moment.past.attempts vid vid piece.index unit) ≡ true }
@@ -160,8 +160,8 @@ pub fn outcomes_of_what_is_written_are_its_bytes()
 /// In each run in range, at each moment on the way of an event: of each block that a write has behind it, each attempt by which the block
 /// of the disk's own object may come to be read has the bytes of the write's item there.
 pub fn what_is_written_comes_out_as_its_items()
-    ensures { (script : List Statement) (events : List Event) (start moment : MomentWithPast) → RunsAreInRange script
-        → run_with_past script events ≡ Some start → MomentTrail script start moment
+    ensures { (script : List Statement) (moves : List Move) (start moment : MomentWithPast) → RunsAreInRange script
+        → run_with_past script moves ≡ Some start → MomentTrail script start moment
         → EachUp moment.world.hosts (λ n node. (req index unit place : ℕ) (request : Request) (opened : Disk) (disk : histories.Disk)
         (item : Item) (payload : List ℕ) (stage : DriverStage) (piece : Piece) (rest : List Piece)
         → IsOn (ledger_of moment.past.history) node req request opened disk
@@ -175,16 +175,16 @@ pub fn what_is_written_comes_out_as_its_items()
 /// each piece that the write has behind it that it is the disk's own. For a piece is written in place where the table says so, and of one
 /// that was created the table says so as its entry is written; and no entry of the disk's own is taken out of the table.
 pub fn own_objects_are_behind_writes()
-    ensures { (script : List Statement) (events : List Event) (start moment : MomentWithPast) → RunsAreInRange script
-        → run_with_past script events ≡ Some start → MomentTrail script start moment → OwnObjectsAreBehind moment.world.hosts }
+    ensures { (script : List Statement) (moves : List Move) (start moment : MomentWithPast) → RunsAreInRange script
+        → run_with_past script moves ≡ Some start → MomentTrail script start moment → OwnObjectsAreBehind moment.world.hosts }
 {}
 
 /// In each run in range, at each moment on the way of an event: of the entry of each object that a write has behind it nothing is to come
 /// but the disk's own id, of a good id that isn't dead, by each test for good ids that serves as the event begins. For the inodes of open
 /// disks may come to have what the sessions' tables have.
 pub fn what_is_written_is_entered_alone()
-    ensures { (script : List Statement) (events : List Event) (start moment : MomentWithPast) → RunsAreInRange script
-        → run_with_past script events ≡ Some start → MomentTrail script start moment → (good_id : ℕ → Bool)
+    ensures { (script : List Statement) (moves : List Move) (start moment : MomentWithPast) → RunsAreInRange script
+        → run_with_past script moves ≡ Some start → MomentTrail script start moment → (good_id : ℕ → Bool)
         → CallsAvailable start start good_id
         → EachUp moment.world.hosts (λ n node. (req : ℕ) (request : Request) (opened : Disk) (payload : List ℕ) (stage : DriverStage)
         (piece : Piece) (rest : List Piece) → tree.get node.requests req ≡ Some request
@@ -200,11 +200,11 @@ pub fn what_is_written_is_entered_alone()
 /// and nowhere else, and each has the bytes of the write's own block there. For they began there, and a disk that is copied is given no
 /// more. So it is in the middle of a step of a node too, of the writes that the node has then.
 pub fn items_of_writes_are_their_own()
-    ensures in_run { (script : List Statement) (events : List Event) (moment : MomentWithPast) → RunsAreInRange script
-        → run_with_past script events ≡ Some moment
+    ensures in_run { (script : List Statement) (moves : List Move) (moment : MomentWithPast) → RunsAreInRange script
+        → run_with_past script moves ≡ Some moment
         → WritesHaveOwnItems script (ledger_of moment.past.history) moment.world.hosts }
-    ensures in_step { (script : List Statement) (events : List Event) (start : MomentWithPast) (stepping : SteppingNode)
-        (so_far : StepState) → RunsAreInRange script → run_with_past script events ≡ Some start
+    ensures in_step { (script : List Statement) (moves : List Move) (start : MomentWithPast) (stepping : SteppingNode)
+        (so_far : StepState) → RunsAreInRange script → run_with_past script moves ≡ Some start
         → IsStepping script start.world stepping → StepsByChanges stepping.cause
         → LeadsInStep stepping (first_in_step stepping) so_far → (req : ℕ) (request : Request)
         → tree.get so_far.node.requests req ≡ Some request → (opened : Disk)
@@ -218,10 +218,10 @@ pub fn items_of_writes_are_their_own()
 /// that disk, and nowhere else: those of a check too, which begins them on the objects of its disk. So it is in the middle of a step of a
 /// node too, of the requests that the node has then, on whichever disk their sessions have open.
 pub fn items_of_requests_are_on_their_disk()
-    ensures in_run { (script : List Statement) (events : List Event) (moment : MomentWithPast) → RunsAreInRange script
-        → run_with_past script events ≡ Some moment → ItemsAreOnTheirDisk (ledger_of moment.past.history) moment.world.hosts }
-    ensures in_step { (script : List Statement) (events : List Event) (start : MomentWithPast) (stepping : SteppingNode)
-        (so_far : StepState) → RunsAreInRange script → run_with_past script events ≡ Some start
+    ensures in_run { (script : List Statement) (moves : List Move) (moment : MomentWithPast) → RunsAreInRange script
+        → run_with_past script moves ≡ Some moment → ItemsAreOnTheirDisk (ledger_of moment.past.history) moment.world.hosts }
+    ensures in_step { (script : List Statement) (moves : List Move) (start : MomentWithPast) (stepping : SteppingNode)
+        (so_far : StepState) → RunsAreInRange script → run_with_past script moves ≡ Some start
         → IsStepping script start.world stepping → StepsByChanges stepping.cause
         → LeadsInStep stepping (first_in_step stepping) so_far → (req : ℕ) (request : Request)
         → tree.get so_far.node.requests req ≡ Some request → (opened : Disk)
@@ -232,16 +232,16 @@ pub fn items_of_requests_are_on_their_disk()
 /// In each run in range, at each moment on the way of an event: the items of a write, in the blocks of the disk that it is on, are those of
 /// its pieces, at whichever node the write is.
 pub fn items_of_writes_are_of_their_pieces()
-    ensures { (script : List Statement) (events : List Event) (start moment : MomentWithPast) → RunsAreInRange script
-        → run_with_past script events ≡ Some start → MomentTrail script start moment
+    ensures { (script : List Statement) (moves : List Move) (start moment : MomentWithPast) → RunsAreInRange script
+        → run_with_past script moves ≡ Some start → MomentTrail script start moment
         → ItemsAreOfPieces (ledger_of moment.past.history) moment.world.hosts }
 {}
 
 /// So in each run in range, at the end of every event: of each block that a write has behind it, of a disk that was available, the inode
 /// has the own entry alone, and each attempt by which the block may be read has the bytes of the write's item.
 pub fn what_is_written_is_alone()
-    ensures { (script : List Statement) (events : List Event) (moment : MomentWithPast) → RunsAreInRange script
-        → run_with_past script events ≡ Some moment
+    ensures { (script : List Statement) (moves : List Move) (moment : MomentWithPast) → RunsAreInRange script
+        → run_with_past script moves ≡ Some moment
         → WhatIsWrittenIsAlone (ledger_of moment.past.history) (log_effects moment.world.log)
         (is_available_disk moment.world.log moment.past.unavailable) moment.world.hosts moment.past.attempts }
 {}
@@ -251,7 +251,7 @@ pub fn what_is_written_is_alone()
 /// once where it has none, a check once its last value is written, as the last attempt on each object wrote its value, and no other
 /// request has items.
 pub fn what_is_replied_to_is_alone()
-    ensures { (script : List Statement) (events : List Event) (event : Event) (start end before after : MomentWithPast)
-        → RunsAreInRange script → IsOnTheWay script events event start end before after → (good_id : ℕ → Bool)
+    ensures { (script : List Statement) (moves : List Move) (move : Move) (start end before after : MomentWithPast)
+        → RunsAreInRange script → IsOnTheWay script moves move start end before after → (good_id : ℕ → Bool)
         → CallsAvailable start after good_id → RepliesAreAlone script good_id start before after }
 {}

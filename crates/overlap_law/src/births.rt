@@ -3,7 +3,6 @@
 ghost use Rattle.std.specs.Prelude.{◌≡◌, ℕ, Bool, List, Some};
 ghost use Rattle.cluster_script.specs.declared.statement.Statement.{Statement};
 ghost use Rattle.vdi_directory.specs.Decisions.{log_effects};
-ghost use Rattle.sheep_node.specs.declared.event.Event.{Event};
 ghost use Rattle.overlap_law.specs.Past.{MomentWithPast, run_with_past};
 ghost use Rattle.overlap_law.specs.MomentChanges.{MomentChange, MomentTrail, IsOnTheWay, RunsAreInRange};
 ghost use Rattle.overlap_law.specs.Attempts.{AttemptRecord};
@@ -15,14 +14,15 @@ ghost use Rattle.overlap_law.specs.Holders.{targets_by, is_good};
 ghost use Rattle.overlap_law.specs.Rows.{AttemptsAreCarried};
 ghost use Rattle.overlap_law.specs.Tables.{OwnEntriesAreMade, TablesAreOfTheChain};
 ghost use Rattle.overlap_law.specs.ToDo.{WorksNameWhatIsMade};
+ghost use Rattle.sheep_world.specs.RunsWithAsks.{Move};
 
 /// In each run in range each change of a moment on the way of an event keeps that before each write of an object stands a made create of
 /// it, whether or not the object was available, if before it the own entries of tables stand for what was made, and so do those of works
 /// that are still to be made. For a write that begins goes to an inode of a working disk, which is published; or to an object of which the
 /// open disk's table says that it is the disk's own, or of which that entry has just been written.
 pub fn creates_come_first()
-    ensures { (script : List Statement) (events : List Event) (start before after : MomentWithPast) → RunsAreInRange script
-        → run_with_past script events ≡ Some start → MomentTrail script start before → MomentChange script start before after
+    ensures { (script : List Statement) (moves : List Move) (start before after : MomentWithPast) → RunsAreInRange script
+        → run_with_past script moves ≡ Some start → MomentTrail script start before → MomentChange script start before after
         → (good_id : ℕ → Bool)
         → TablesAreOfTheChain (log_effects before.world.log) before.world.hosts before.past.attempts
         → WorksNameWhatIsMade (log_effects before.world.log) good_id before.world.hosts before.past.attempts
@@ -35,15 +35,15 @@ pub fn creates_come_first()
 /// a new inode has none.
 pub fn a_made_create_always_comes_first()
     ensures creates { (script : List Statement) → RunsAreInRange script → CreatesAlwaysComeFirst script }
-    ensures own { (script : List Statement) → RunsAreInRange script → (events : List Event) (moment : MomentWithPast)
-        → run_with_past script events ≡ Some moment → (live : ℕ → Bool) → OwnEntriesAreMade live moment.past.attempts }
+    ensures own { (script : List Statement) → RunsAreInRange script → (moves : List Move) (moment : MomentWithPast)
+        → run_with_past script moves ≡ Some moment → (live : ℕ → Bool) → OwnEntriesAreMade live moment.past.attempts }
 {}
 
 /// So no attempt is of an epoch before that in which its object was born, whichever objects are good, at each moment on the way of an
 /// event: the attempts on an object are in order, and the first one is a create.
 pub fn none_is_before_birth()
-    ensures { (script : List Statement) (events : List Event) (start moment : MomentWithPast) → RunsAreInRange script
-        → run_with_past script events ≡ Some start → MomentTrail script start moment → CreatesComeFirst moment.past.attempts
+    ensures { (script : List Statement) (moves : List Move) (start moment : MomentWithPast) → RunsAreInRange script
+        → run_with_past script moves ≡ Some start → MomentTrail script start moment → CreatesComeFirst moment.past.attempts
         → (good : ℕ → Bool) → NoneIsBeforeBirth good moment.past.attempts }
 {}
 
@@ -56,16 +56,16 @@ pub fn attempts_are_of_the_born()
 /// counts, for each object that is good at the end of the event, if a made create comes before each write. For a node's step leaves the
 /// log, and the attempts that begin in it stand behind the first create of their object.
 pub fn what_is_good_at_the_end_has_targets()
-    ensures { (script : List Statement) (events : List Event) (event : Event) (start end before after : MomentWithPast)
-        → RunsAreInRange script → IsOnTheWay script events event start end before after → CreatesComeFirst after.past.attempts
+    ensures { (script : List Statement) (moves : List Move) (move : Move) (start end before after : MomentWithPast)
+        → RunsAreInRange script → IsOnTheWay script moves move start end before after → CreatesComeFirst after.past.attempts
         → NewestHasTargets (targets_by after.world.log) after.world.log (log_effects after.world.log)
         (is_good end.world.log end.past.attempts end.past.unavailable) after.past.attempts }
 {}
 
 /// So each change on the way of an event carries on the attempts on what is good at the end of the event.
 pub fn attempts_stay_carried_to_the_end()
-    ensures { (script : List Statement) (events : List Event) (event : Event) (start end before after : MomentWithPast)
-        → RunsAreInRange script → IsOnTheWay script events event start end before after → CreatesComeFirst after.past.attempts
+    ensures { (script : List Statement) (moves : List Move) (move : Move) (start end before after : MomentWithPast)
+        → RunsAreInRange script → IsOnTheWay script moves move start end before after → CreatesComeFirst after.past.attempts
         → AttemptsAreCarried (targets_by before.world.log) before.world.log (log_effects before.world.log)
         (is_good end.world.log end.past.attempts end.past.unavailable) before.world.hosts before.past.attempts
         → AttemptsAreCarried (targets_by after.world.log) after.world.log (log_effects after.world.log)

@@ -10,10 +10,10 @@ ghost use Rattle.object_id.specs.Oid.{kind_of};
 ghost use Rattle.object_id.specs.Piece.{laid_over};
 ghost use Rattle.peer_proto.specs.declared.work.ObjWork.TheVariants.{Create, Write};
 ghost use Rattle.peer_proto.specs.Work.{IsWork};
-ghost use Rattle.sheep_node.specs.declared.event.Event.{Event};
 ghost use Rattle.sheep_node.specs.StepState.{StepState};
 ghost use Rattle.sheep_world.specs.NodeCauses.{EntryIsRead};
 ghost use Rattle.sheep_world.specs.World.{Host};
+ghost use Rattle.sheep_world.specs.RunsWithAsks.{Move};
 ghost use Rattle.vdi_directory.specs.Decisions.{log_effects};
 ghost use Rattle.overlap_law.specs.Attempts.{AttemptRecord, object_of};
 ghost use Rattle.overlap_law.specs.Each.{EachAttempt, EachHost, EachRowOf, end_of_row, row_covers};
@@ -33,8 +33,8 @@ ghost use Rattle.overlap_law.specs.Words.{Hosts, has_served, is_doomed, is_mute}
 /// of: at each unit a copy in a store has the bytes of some attempt that covers it. It does so if in the moment before the copies that
 /// recoveries were told are of attempts.
 pub fn copies_stay_of_attempts()
-    ensures { (script : List Statement) (events : List Event) (start before after : MomentWithPast) (live : ℕ → Bool)
-        → RunsAreInRange script → run_with_past script events ≡ Some start → MomentTrail script start before
+    ensures { (script : List Statement) (moves : List Move) (start before after : MomentWithPast) (live : ℕ → Bool)
+        → RunsAreInRange script → run_with_past script moves ≡ Some start → MomentTrail script start before
         → MomentChange script start before after
         → ToldCopiesAreOfAttempts (log_effects before.world.log) live before.world.hosts before.world.wire before.past.attempts
         → CopiesAreOfAttempts (log_effects before.world.log) live before.world.hosts before.past.attempts
@@ -44,19 +44,20 @@ pub fn copies_stay_of_attempts()
 /// In each run in range, at each moment on the way of an event too, copies are of attempts, in stores and as recoveries were told them,
 /// whichever objects it is said of: at each unit such a copy has the bytes of some attempt that covers it.
 pub fn copies_are_of_attempts()
-    ensures stored { (script : List Statement) (events : List Event) (start moment : MomentWithPast) (live : ℕ → Bool)
-        → RunsAreInRange script → run_with_past script events ≡ Some start → MomentTrail script start moment
+    ensures stored { (script : List Statement) (moves : List Move) (start moment : MomentWithPast) (live : ℕ → Bool)
+        → RunsAreInRange script → run_with_past script moves ≡ Some start → MomentTrail script start moment
         → CopiesAreOfAttempts (log_effects moment.world.log) live moment.world.hosts moment.past.attempts }
-    ensures told { (script : List Statement) (events : List Event) (start moment : MomentWithPast) (live : ℕ → Bool)
-        → RunsAreInRange script → run_with_past script events ≡ Some start → MomentTrail script start moment
+    ensures told { (script : List Statement) (moves : List Move) (start moment : MomentWithPast) (live : ℕ → Bool)
+        → RunsAreInRange script → run_with_past script moves ≡ Some start → MomentTrail script start moment
         → ToldCopiesAreOfAttempts (log_effects moment.world.log) live moment.world.hosts moment.world.wire moment.past.attempts }
 {}
 
-/// In each run in range, at each moment on the way of an event too, what an open read is told of a copy is of attempts: at each unit inside
-/// it a piece that is on its way back to the read has the bytes of some attempt that covers the unit, whether or not the object is good.
+/// In each run in range, at each moment on the way of an event too, what an open read, a client's too, is told of a copy is of attempts: at
+/// each unit inside it a piece that is on its way back to the read has the bytes of some attempt that covers the unit, whether or not the
+/// object is good.
 pub fn what_reads_are_told_is_of_attempts()
-    ensures { (script : List Statement) (events : List Event) (start moment : MomentWithPast)
-        → RunsAreInRange script → run_with_past script events ≡ Some start → MomentTrail script start moment
+    ensures { (script : List Statement) (moves : List Move) (start moment : MomentWithPast)
+        → RunsAreInRange script → run_with_past script moves ≡ Some start → MomentTrail script start moment
         → ToldPiecesAreOfAttempts (log_effects moment.world.log) moment.world.hosts moment.world.wire moment.past.attempts }
 {}
 
@@ -78,8 +79,8 @@ pub fn what_a_node_passed_by_is_doomed()
 /// called good: an attempt that begins is owed by no row, or is doomed, since its targets have passed by its epoch. It does so if in the
 /// moment behind it attempts are ordered, and rows stand at targets and have begun, of objects that are live.
 pub fn rows_have_what_they_owe_as_attempts_begin()
-    ensures { (script : List Statement) (events : List Event) (start : MomentWithPast) (stepping : SteppingNode) (so_far next : StepState)
-        (live good : ℕ → Bool) → RunsAreInRange script → run_with_past script events ≡ Some start
+    ensures { (script : List Statement) (moves : List Move) (start : MomentWithPast) (stepping : SteppingNode) (so_far next : StepState)
+        (live good : ℕ → Bool) → RunsAreInRange script → run_with_past script moves ≡ Some start
         → IsStepping script start.world stepping → StepsByChanges stepping.cause → IsWithinStep stepping so_far next
         → MomentTrail script start (moment_in_step script stepping start so_far)
         → ((oid : ℕ) → good oid ≡ true → live oid ≡ true)
@@ -99,8 +100,8 @@ pub fn rows_have_what_they_owe_as_attempts_begin()
 /// called good, if before it rows have what they owe and stand at targets: a row that stays open into the next epoch owes nothing more
 /// that isn't doomed, and one that ends owes as much as before.
 pub fn rows_have_what_they_owe_as_entries_are_read()
-    ensures { (script : List Statement) (events : List Event) (start : MomentWithPast) (n : ℕ) (host : Host) (entry : Entry)
-        (stepping : SteppingNode) (good : ℕ → Bool) → RunsAreInRange script → run_with_past script events ≡ Some start
+    ensures { (script : List Statement) (moves : List Move) (start : MomentWithPast) (n : ℕ) (host : Host) (entry : Entry)
+        (stepping : SteppingNode) (good : ℕ → Bool) → RunsAreInRange script → run_with_past script moves ≡ Some start
         → stepping ≡ record { n = n; host = host; cause = EntryIsRead entry } → IsStepping script start.world stepping
         → RowsAreAtTargets (targets_by start.world.log) (log_effects start.world.log) start.world.hosts
         → RowsAreSince (log_effects start.world.log) good start.world.hosts start.past.attempts

@@ -2,7 +2,6 @@
 //! cloned from.
 ghost use Rattle.std.specs.Prelude.{◌≡◌, ℕ, Bool, List, Some};
 ghost use Rattle.cluster_script.specs.declared.statement.Statement.{Statement};
-ghost use Rattle.sheep_node.specs.declared.event.Event.{Event};
 ghost use Rattle.vdi_directory.specs.Decisions.{log_effects};
 ghost use Rattle.overlap_law.specs.GoodInodes.{is_available_inode};
 ghost use Rattle.overlap_law.specs.MadeTables.{TablesNameWhatIsMade};
@@ -11,6 +10,7 @@ ghost use Rattle.overlap_law.specs.NamedWorks.{InodesNameWhatIsMade};
 ghost use Rattle.overlap_law.specs.OpenedTables.{InodesStay};
 ghost use Rattle.overlap_law.specs.Past.{MomentWithPast, next_moment, run_with_past};
 ghost use Rattle.overlap_law.specs.Tables.{every_id};
+ghost use Rattle.sheep_world.specs.RunsWithAsks.{Move};
 
 /// In each run in range, at each moment on the way of an event too, of each disk, whether or not it was available: the entries of sessions'
 /// tables, and of the inodes that commands are to open, stand for objects that were created by the epoch of their node, if the disk isn't
@@ -18,11 +18,11 @@ ghost use Rattle.overlap_law.specs.Tables.{every_id};
 /// and those that works are to give to inodes, for objects that were created by now. So each entry is nothing, or names the disk or one
 /// above it.
 pub fn what_any_disk_names_is_made()
-    ensures tables { (script : List Statement) (events : List Event) (start moment : MomentWithPast) → RunsAreInRange script
-        → run_with_past script events ≡ Some start → MomentTrail script start moment
+    ensures tables { (script : List Statement) (moves : List Move) (start moment : MomentWithPast) → RunsAreInRange script
+        → run_with_past script moves ≡ Some start → MomentTrail script start moment
         → TablesNameWhatIsMade (log_effects moment.world.log) every_id moment.world.hosts moment.past.attempts }
-    ensures inodes { (script : List Statement) (events : List Event) (start moment : MomentWithPast) → RunsAreInRange script
-        → run_with_past script events ≡ Some start → MomentTrail script start moment → (live : ℕ → Bool)
+    ensures inodes { (script : List Statement) (moves : List Move) (start moment : MomentWithPast) → RunsAreInRange script
+        → run_with_past script moves ≡ Some start → MomentTrail script start moment → (live : ℕ → Bool)
         → InodesNameWhatIsMade live every_id moment }
 {}
 
@@ -32,11 +32,11 @@ pub fn what_any_disk_names_is_made()
 /// too, of the inodes that are available up to the event's end. For what was read of an inode is one that it might come to have, and names
 /// what the disk's chain has, whichever disk it is.
 pub fn available_inodes_are_as_the_tables_say()
-    ensures in_run { (script : List Statement) (events : List Event) (moment : MomentWithPast) → RunsAreInRange script
-        → run_with_past script events ≡ Some moment
+    ensures in_run { (script : List Statement) (moves : List Move) (moment : MomentWithPast) → RunsAreInRange script
+        → run_with_past script moves ≡ Some moment
         → InodesStay (log_effects moment.world.log) (is_available_inode moment.past.unavailable) moment.world.hosts moment.past.attempts }
-    ensures on_the_way { (script : List Statement) (events : List Event) (event : Event) (start moment end : MomentWithPast)
-        → RunsAreInRange script → run_with_past script events ≡ Some start → next_moment script event start ≡ Some end
+    ensures on_the_way { (script : List Statement) (moves : List Move) (move : Move) (start moment end : MomentWithPast)
+        → RunsAreInRange script → run_with_past script moves ≡ Some start → next_moment script move start ≡ Some end
         → MomentTrail script start moment → TrailLeft script start moment end
         → InodesStay (log_effects moment.world.log) (is_available_inode end.past.unavailable) moment.world.hosts moment.past.attempts }
 {}

@@ -3,8 +3,9 @@ ghost use Rattle.std.specs.Prelude.{◌≡◌, ℕ, ◌+◌, ◌≤◌, List, le
 ghost use Rattle.object_id.specs.declared.limits.TheConstants.{INPUT_BYTES_MAX};
 ghost use Rattle.cluster_script.specs.declared.statement.Statement.{Statement};
 ghost use Rattle.cluster_script.specs.Script.{script_in};
-ghost use Rattle.sheep_node.specs.declared.event.Event.{Event};
 ghost use Rattle.sheep_world.specs.Run.{Moment, run};
+ghost use Rattle.sheep_node.specs.declared.event.Event.{Event};
+ghost use Rattle.sheep_world.specs.RunsWithAsks.{Move};
 ghost use Rattle.overlap_law.specs.Headline.{Headline};
 ghost use Rattle.overlap_law.specs.MomentChanges.{RunsAreInRange};
 ghost use Rattle.overlap_law.specs.Overlap.{OverlapOf};
@@ -19,21 +20,23 @@ pub fn scripts_of_an_input_are_in_range()
         → RunsAreInRange script }
 {}
 
-/// The headline holds of each script whose runs are in range, and so of each that an input spells.
+/// The headline holds of each script whose runs are in range, also where a client reads objects between the events; and so of each script
+/// that an input spells.
 pub fn the_headline_holds()
     ensures in_range { (script : List Statement) → RunsAreInRange script → Headline script }
     ensures of_an_input { (text : List ℕ) (script : List Statement) → length text ≤ INPUT_BYTES_MAX → script_in text ≡ Ok script
         → Headline script }
-    // So each run has it, in its own history, at its end and wherever it came by.
+    // So each run of events has it, in its own history, at its end and wherever it came by.
     ensures of_a_run { (script : List Statement) → RunsAreInRange script → (events : List Event) (last : Moment)
         → run script events ≡ Some last → RunKeepsHeadline script events last.history }
 {}
 
-/// In each run in range the whole invariant holds; so each event that may happen there leads to a moment that has it.
+/// In each run in range the whole invariant holds; so each event that may happen there, and each read that a client may make, leads to a
+/// moment that has it.
 pub fn the_overlap_holds_in_every_run()
-    ensures in_run { (script : List Statement) → RunsAreInRange script → (events : List Event) (moment : MomentWithPast)
-        → run_with_past script events ≡ Some moment → OverlapOf script moment }
-    ensures by_event { (script : List Statement) → RunsAreInRange script → (events : List Event) (event : Event)
-        (before after : MomentWithPast) → run_with_past script events ≡ Some before → next_moment script event before ≡ Some after
+    ensures in_run { (script : List Statement) → RunsAreInRange script → (moves : List Move) (moment : MomentWithPast)
+        → run_with_past script moves ≡ Some moment → OverlapOf script moment }
+    ensures by_event { (script : List Statement) → RunsAreInRange script → (moves : List Move) (move : Move)
+        (before after : MomentWithPast) → run_with_past script moves ≡ Some before → next_moment script move before ≡ Some after
         → OverlapOf script after }
 {}

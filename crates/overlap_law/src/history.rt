@@ -4,8 +4,8 @@ ghost use Rattle.disk_history.specs.declared.event.HistEvent.{HistEvent};
 ghost use Rattle.vdi_directory.specs.Decisions.{log_effects};
 ghost use Rattle.cluster_script.specs.declared.statement.Statement.{Statement};
 ghost use Rattle.peer_proto.specs.declared.work.ObjWork.{ObjWork};
-ghost use Rattle.sheep_node.specs.declared.event.Event.{Event};
 ghost use Rattle.sheep_world.specs.Began.{Began};
+ghost use Rattle.sheep_world.specs.RunsWithAsks.{Move};
 ghost use Rattle.overlap_law.specs.CreatedPieces.{CreatesAreOfPieces};
 ghost use Rattle.overlap_law.specs.Headline.{ledger_of};
 ghost use Rattle.overlap_law.specs.Holders.{is_available_disk, is_object_among};
@@ -38,19 +38,19 @@ pub fn each_change_adds_to_the_history()
 /// In each run in range, at each moment on the way of an event: the disks that the history has were published by the log, and those that
 /// aren't deleted are there.
 pub fn disks_are_there_by_the_log()
-    ensures there { (script : List Statement) (events : List Event) (start moment : MomentWithPast) → RunsAreInRange script
-        → run_with_past script events ≡ Some start → MomentTrail script start moment
+    ensures there { (script : List Statement) (moves : List Move) (start moment : MomentWithPast) → RunsAreInRange script
+        → run_with_past script moves ≡ Some start → MomentTrail script start moment
         → DisksAreLive (ledger_of moment.past.history) (log_effects moment.world.log) }
-    ensures published { (script : List Statement) (events : List Event) (start moment : MomentWithPast) → RunsAreInRange script
-        → run_with_past script events ≡ Some start → MomentTrail script start moment
+    ensures published { (script : List Statement) (moves : List Move) (start moment : MomentWithPast) → RunsAreInRange script
+        → run_with_past script moves ≡ Some start → MomentTrail script start moment
         → DisksArePublished (ledger_of moment.past.history) (log_effects moment.world.log) }
 {}
 
 /// In each run in range, at each moment on the way of an event: the attempts of a request that was refused come to nothing, since no
 /// message of them was served, and none flies. So a refusal takes no item by which a block may be read.
 pub fn attempts_of_the_refused_come_to_nothing()
-    ensures { (script : List Statement) (events : List Event) (start moment : MomentWithPast) → RunsAreInRange script
-        → run_with_past script events ≡ Some start → MomentTrail script start moment → (req : ℕ)
+    ensures { (script : List Statement) (moves : List Move) (start moment : MomentWithPast) → RunsAreInRange script
+        → run_with_past script moves ≡ Some start → MomentTrail script start moment → (req : ℕ)
         → is_object_among req moment.past.refused ≡ true → ComesToNothing moment.world.hosts moment.past.attempts req }
 {}
 
@@ -59,11 +59,11 @@ pub fn attempts_of_the_refused_come_to_nothing()
 /// is refused, or loses its reply as a node is lost, hadn't ended, and nothing comes of what was refused; and an entry that the log gets
 /// makes disks blank, or like other ones.
 pub fn what_ends_keeps_blocks()
-    ensures alone { (script : List Statement) (events : List Event) (event : Event) (start end before after : MomentWithPast)
-        → RunsAreInRange script → IsOnTheWay script events event start end before after → (good_id : ℕ → Bool)
+    ensures alone { (script : List Statement) (moves : List Move) (move : Move) (start end before after : MomentWithPast)
+        → RunsAreInRange script → IsOnTheWay script moves move start end before after → (good_id : ℕ → Bool)
         → CallsAvailable start after good_id → WhatIsDoneIsAlone good_id before after }
-    ensures keeps { (script : List Statement) (events : List Event) (event : Event) (start end before after : MomentWithPast)
-        → RunsAreInRange script → IsOnTheWay script events event start end before after → (good_id : ℕ → Bool)
+    ensures keeps { (script : List Statement) (moves : List Move) (move : Move) (start end before after : MomentWithPast)
+        → RunsAreInRange script → IsOnTheWay script moves move start end before after → (good_id : ℕ → Bool)
         → CallsAvailable start after good_id
         → GrowsKeeping (log_effects after.world.log) good_id after.world.hosts after.past.attempts before.past.history
         after.past.history }
@@ -74,13 +74,13 @@ pub fn what_ends_keeps_blocks()
 /// there is. Each change of a moment keeps that, if what begins on the unit in it may be there. So what was read of an inode may come as
 /// long as nothing else is written to it.
 pub fn what_was_served_stays_to_come()
-    ensures comes { (script : List Statement) (events : List Event) (start moment : MomentWithPast) → RunsAreInRange script
-        → run_with_past script events ≡ Some start → MomentTrail script start moment → (so may : ObjWork → Bool) (oid unit : ℕ)
+    ensures comes { (script : List Statement) (moves : List Move) (start moment : MomentWithPast) → RunsAreInRange script
+        → run_with_past script moves ≡ Some start → MomentTrail script start moment → (so may : ObjWork → Bool) (oid unit : ℕ)
         → ((work : ObjWork) → may work ≡ true → so work ≡ true)
         → IsServedLast so may moment.world.hosts moment.past.attempts oid unit
         → IsOneToCome so moment.world.hosts moment.past.attempts oid unit }
-    ensures stays { (script : List Statement) (events : List Event) (start before after : MomentWithPast) → RunsAreInRange script
-        → run_with_past script events ≡ Some start → MomentTrail script start before → MomentChange script start before after
+    ensures stays { (script : List Statement) (moves : List Move) (start before after : MomentWithPast) → RunsAreInRange script
+        → run_with_past script moves ≡ Some start → MomentTrail script start before → MomentChange script start before after
         → (so may : ObjWork → Bool) (oid unit : ℕ) → BeginsSo may before after oid unit
         → IsServedLast so may before.world.hosts before.past.attempts oid unit
         → IsServedLast so may after.world.hosts after.past.attempts oid unit }
@@ -90,8 +90,8 @@ pub fn what_was_served_stays_to_come()
 /// come to be had before it, of disks that are available up to the event's end. For what was read of such an inode was served, each
 /// attempt behind it is doomed, and nothing but the command's own work begins on the inode until it is written back.
 pub fn commands_write_what_may_come()
-    ensures { (script : List Statement) (events : List Event) (event : Event) (start end before after : MomentWithPast)
-        → RunsAreInRange script → run_with_past script events ≡ Some start → next_moment script event start ≡ Some end
+    ensures { (script : List Statement) (moves : List Move) (move : Move) (start end before after : MomentWithPast)
+        → RunsAreInRange script → run_with_past script moves ≡ Some start → next_moment script move start ≡ Some end
         → MomentTrail script start before → MomentChange script start before after → TrailLeft script start after end
         → CommandsWriteWhatMayCome (is_available_disk end.world.log end.past.unavailable) before after }
 {}
@@ -101,8 +101,8 @@ pub fn commands_write_what_may_come()
 /// write enters the own id, a check is on no inode, a tag goes over no entry, the inode of an id is created before its disk is there, and
 /// what a command writes back might come to be had.
 pub fn attempts_enter_what_may_come()
-    ensures { (script : List Statement) (events : List Event) (event : Event) (start end before after : MomentWithPast)
-        → RunsAreInRange script → IsOnTheWay script events event start end before after → (good_id : ℕ → Bool)
+    ensures { (script : List Statement) (moves : List Move) (move : Move) (start end before after : MomentWithPast)
+        → RunsAreInRange script → IsOnTheWay script moves move start end before after → (good_id : ℕ → Bool)
         → CallsAvailable start after good_id → EntersWhatMayCome good_id before after }
 {}
 
@@ -110,8 +110,8 @@ pub fn attempts_enter_what_may_come()
 /// the piece, by the table of the disk that its session has open: where that has a hole, with the piece in it; or where it has another
 /// disk's object, with the piece laid over as many bytes. So it has the write's bytes in each of the piece's blocks.
 pub fn creates_are_of_their_pieces()
-    ensures pieces { (script : List Statement) (events : List Event) (start moment : MomentWithPast) → RunsAreInRange script
-        → run_with_past script events ≡ Some start → MomentTrail script start moment → CreatesAreOfPieces moment.world.hosts }
-    ensures bytes { (script : List Statement) (events : List Event) (start moment : MomentWithPast) → RunsAreInRange script
-        → run_with_past script events ≡ Some start → MomentTrail script start moment → CreatesHavePieces moment.world.hosts }
+    ensures pieces { (script : List Statement) (moves : List Move) (start moment : MomentWithPast) → RunsAreInRange script
+        → run_with_past script moves ≡ Some start → MomentTrail script start moment → CreatesAreOfPieces moment.world.hosts }
+    ensures bytes { (script : List Statement) (moves : List Move) (start moment : MomentWithPast) → RunsAreInRange script
+        → run_with_past script moves ≡ Some start → MomentTrail script start moment → CreatesHavePieces moment.world.hosts }
 {}

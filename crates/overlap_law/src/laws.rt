@@ -10,7 +10,6 @@ ghost use Rattle.object_list.specs.Gathered.{has_node};
 ghost use Rattle.peer_proto.specs.declared.ask.PeerReq.{PeerReq};
 ghost use Rattle.cluster_script.specs.declared.statement.Statement.{Statement};
 ghost use Rattle.cluster_script.specs.Language.{IsScript};
-ghost use Rattle.sheep_node.specs.declared.event.Event.{Event};
 ghost use Rattle.sheep_node.specs.declared.input.Input.TheVariants as inputs;
 ghost use Rattle.sheep_node.specs.May.{May};
 ghost use Rattle.sheep_node.specs.NodeInvariant.{IsSoundNode};
@@ -24,6 +23,7 @@ ghost use Rattle.sheep_world.specs.OneWork.{WorksAskInRange};
 ghost use Rattle.sheep_world.specs.HoldsTogether.{RepliesFit, HoldsTogether};
 ghost use Rattle.sheep_world.specs.LogHolds.{MayGrow};
 ghost use Rattle.sheep_world.specs.Step.{EventOutcome, step};
+ghost use Rattle.sheep_world.specs.RunsWithAsks.{Move, run_with_asks};
 ghost use Rattle.overlap_law.specs.Attempts.{MessageFate, Flying, Served, AttemptRecord, has_message, attempt_with_fate};
 ghost use Rattle.overlap_law.specs.Words.{Hosts, is_beyond, is_made, is_doomed, has_served, unit_start, unit_end, covers_unit, base_of};
 ghost use Rattle.overlap_law.specs.Words.{own_base_of};
@@ -78,7 +78,7 @@ pub fn what_becomes_of_an_attempt()
 
 /// In every run each attempt has a fate for each of its targets.
 pub fn each_target_has_its_fate()
-    ensures { (script : List Statement) (events : List Event) (moment : MomentWithPast) → run_with_past script events ≡ Some moment
+    ensures { (script : List Statement) (moves : List Move) (moment : MomentWithPast) → run_with_past script moves ≡ Some moment
         → AllByRecursion (λ (attempt : AttemptRecord). length attempt.fates ≡ length attempt.targets) moment.past.attempts }
 {}
 
@@ -100,30 +100,31 @@ pub fn other_attempts_hear_nothing()
         → attempt_with_fate told sender number attempt ≡ attempt }
 {}
 
-/// The past stands beside a run and changes nothing of it: without it the same events lead to the same world, with the
+/// The past stands beside a run and changes nothing of it: without it the same events and reads lead to the same world, with the
 /// same history.
 pub fn the_past_follows_the_run()
-    ensures { (script : List Statement) (events : List Event)
-        → option_map without_past (run_with_past script events) ≡ run script events }
+    ensures { (script : List Statement) (moves : List Move)
+        → option_map without_past (run_with_past script moves) ≡ run_with_asks script moves }
 {}
 
 /// The part of the headline on peers: in every run a peer's request of another epoch is refused with the node's own, and
 /// leaves the node as it was. For between events no node has a `Recovered` due, which such a step might put.
 pub fn peers_of_another_epoch_change_nothing()
-    ensures nothing { (script : List Statement) (events : List Event) (moment : MomentWithPast)
-        → run_with_past script events ≡ Some moment → OtherEpochsChangeNothing script moment.world }
-    ensures rested { (script : List Statement) (events : List Event) (moment : MomentWithPast) (n : ℕ) (host : Host)
-        → run_with_past script events ≡ Some moment → get moment.world.hosts n ≡ Some host → is_due host.node ≡ false }
+    ensures nothing { (script : List Statement) (moves : List Move) (moment : MomentWithPast)
+        → run_with_past script moves ≡ Some moment → OtherEpochsChangeNothing script moment.world }
+    ensures rested { (script : List Statement) (moves : List Move) (moment : MomentWithPast) (n : ℕ) (host : Host)
+        → run_with_past script moves ≡ Some moment → get moment.world.hosts n ≡ Some host → is_due host.node ≡ false }
 {}
 
 /// Where every object was available at every state, no read is left out.
 pub fn no_read_of_what_was_available_is_left_out()
-    ensures { (script : List Statement) (events : List Event) (moment : MomentWithPast) → run_with_past script events ≡ Some moment
+    ensures { (script : List Statement) (moves : List Move) (moment : MomentWithPast) → run_with_past script moves ≡ Some moment
         → moment.past.unavailable ≡ [] → moment.past.available_history ≡ moment.past.history }
 {}
 
-/// An event is a trail of small changes: from the moment before an event that may happen the one after it is reached by changes of a
-/// moment. A step that works go on with is one change of its node after the other; any other event is one change.
+/// An event, or a client's read, is a trail of small changes: from the moment before one that may happen the one after it is reached by
+/// changes of a moment. A step that works go on with, as that on a read, is one change of its node after the other; any other event is one
+/// change.
 pub fn an_event_is_a_trail_of_changes()
     ensures { (script : List Statement) → EventsAreTrails script }
 {}
@@ -151,10 +152,10 @@ pub fn the_wire_and_the_attempts_stay_tied()
     ensures opening { (script : List Statement) → IsTied (first_moment script) }
     ensures change { (script : List Statement) (start before after : MomentWithPast) → RunsAreInRange script → Began script start.world
         → MomentChange script start before after → IsTied before → IsTied after }
-    ensures event { (script : List Statement) (event : Event) (before after : MomentWithPast) → RunsAreInRange script
-        → Began script before.world → next_moment script event before ≡ Some after → IsTied before → IsTied after }
-    ensures run { (script : List Statement) (events : List Event) (moment : MomentWithPast) → RunsAreInRange script
-        → run_with_past script events ≡ Some moment → IsTied moment }
+    ensures event { (script : List Statement) (move : Move) (before after : MomentWithPast) → RunsAreInRange script
+        → Began script before.world → next_moment script move before ≡ Some after → IsTied before → IsTied after }
+    ensures run { (script : List Statement) (moves : List Move) (moment : MomentWithPast) → RunsAreInRange script
+        → run_with_past script moves ≡ Some moment → IsTied moment }
 {}
 
 /// Two more conjuncts are kept by each change at which the attempts are tied. The attempts on an object stay in order, if one that begins
@@ -175,26 +176,26 @@ pub fn what_is_asked_is_of_the_past()
     ensures change { (script : List Statement) (start before after : MomentWithPast) → RunsAreInRange script → Began script start.world
         → MomentChange script start before after → IsTied before → FlyInThePast before.world.hosts before.world.wire
         → FlyInThePast after.world.hosts after.world.wire }
-    ensures run { (script : List Statement) (events : List Event) (moment : MomentWithPast) → RunsAreInRange script
-        → run_with_past script events ≡ Some moment → RequestsAreOfThePast moment.world.hosts moment.world.wire }
+    ensures run { (script : List Statement) (moves : List Move) (moment : MomentWithPast) → RunsAreInRange script
+        → run_with_past script moves ≡ Some moment → RequestsAreOfThePast moment.world.hosts moment.world.wire }
 {}
 
 /// In each run in range a node that isn't lost is a member of the newest epoch. What a node has read are the first entries of the log,
 /// and by them are its epoch, the settled one, and the members of each epoch that it entered. The settled epoch that it has read is no
 /// later than the log's, nor than its own.
 pub fn what_nodes_have_read_is_of_the_log()
-    ensures members { (script : List Statement) (events : List Event) (moment : MomentWithPast) → RunsAreInRange script
-        → run_with_past script events ≡ Some moment → TheUpAreMembers moment.world.log moment.world.hosts }
-    ensures read { (script : List Statement) (events : List Event) (moment : MomentWithPast) → RunsAreInRange script
-        → run_with_past script events ≡ Some moment → NodesHaveRead moment.world.log moment.world.hosts }
-    ensures settled { (script : List Statement) (events : List Event) (moment : MomentWithPast) → RunsAreInRange script
-        → run_with_past script events ≡ Some moment → SettledIsRead moment.world.log moment.world.hosts }
+    ensures members { (script : List Statement) (moves : List Move) (moment : MomentWithPast) → RunsAreInRange script
+        → run_with_past script moves ≡ Some moment → TheUpAreMembers moment.world.log moment.world.hosts }
+    ensures read { (script : List Statement) (moves : List Move) (moment : MomentWithPast) → RunsAreInRange script
+        → run_with_past script moves ≡ Some moment → NodesHaveRead moment.world.log moment.world.hosts }
+    ensures settled { (script : List Statement) (moves : List Move) (moment : MomentWithPast) → RunsAreInRange script
+        → run_with_past script moves ≡ Some moment → SettledIsRead moment.world.log moment.world.hosts }
 {}
 
 /// In each run of a script a node whose join is still to come isn't there, and joins once.
 pub fn who_joins_is_new()
-    ensures { (script : List Statement) (events : List Event) (moment : MomentWithPast) → IsScript script
-        → run_with_past script events ≡ Some moment → JoinsAreNew script moment.world }
+    ensures { (script : List Statement) (moves : List Move) (moment : MomentWithPast) → IsScript script
+        → run_with_past script moves ≡ Some moment → JoinsAreNew script moment.world }
 {}
 
 /// Each attempt is to create or write, by the policy of its object's disk, whose id was reserved in the attempt's epoch or before; and it
@@ -204,10 +205,10 @@ pub fn the_attempts_are_shaped()
     ensures opening { (script : List Statement) → AreShaped (first_moment script) }
     ensures change { (script : List Statement) (start before after : MomentWithPast) → RunsAreInRange script → Began script start.world
         → MomentChange script start before after → AreShaped before → AreShaped after }
-    ensures event { (script : List Statement) (event : Event) (before after : MomentWithPast) → RunsAreInRange script
-        → Began script before.world → next_moment script event before ≡ Some after → AreShaped before → AreShaped after }
-    ensures run { (script : List Statement) (events : List Event) (moment : MomentWithPast) → RunsAreInRange script
-        → run_with_past script events ≡ Some moment → AreShaped moment }
+    ensures event { (script : List Statement) (move : Move) (before after : MomentWithPast) → RunsAreInRange script
+        → Began script before.world → next_moment script move before ≡ Some after → AreShaped before → AreShaped after }
+    ensures run { (script : List Statement) (moves : List Move) (moment : MomentWithPast) → RunsAreInRange script
+        → run_with_past script moves ≡ Some moment → AreShaped moment }
 {}
 
 /// In each run in range what is in the wire of a node that isn't lost is something that it waits for, and all that it waits for is there
@@ -215,69 +216,69 @@ pub fn the_attempts_are_shaped()
 /// epoch that its say needs, and its node came to that epoch, which each change of a moment keeps. And the requests of a node that was lost
 /// and left are of epochs below that of its `Leave`.
 pub fn the_wire_is_linked()
-    ensures linked { (script : List Statement) (events : List Event) (moment : MomentWithPast) → RunsAreInRange script
-        → run_with_past script events ≡ Some moment → PacketsAreAwaited moment.world.hosts moment.world.wire }
+    ensures linked { (script : List Statement) (moves : List Move) (moment : MomentWithPast) → RunsAreInRange script
+        → run_with_past script moves ≡ Some moment → PacketsAreAwaited moment.world.hosts moment.world.wire }
     ensures change { (script : List Statement) (start before after : MomentWithPast) → RunsAreInRange script → Began script start.world
         → MomentChange script start before after → RepliersHaveCome before.world.hosts before.world.wire
         → RepliersHaveCome after.world.hosts after.world.wire }
-    ensures said { (script : List Statement) (events : List Event) (moment : MomentWithPast) → RunsAreInRange script
-        → run_with_past script events ≡ Some moment → RepliesAreOfTheirEpoch moment.world.hosts moment.world.wire }
-    ensures fenced { (script : List Statement) (events : List Event) (moment : MomentWithPast) → RunsAreInRange script
-        → run_with_past script events ≡ Some moment → TheGoneAreFenced moment.world.log moment.world.hosts moment.world.wire }
+    ensures said { (script : List Statement) (moves : List Move) (moment : MomentWithPast) → RunsAreInRange script
+        → run_with_past script moves ≡ Some moment → RepliesAreOfTheirEpoch moment.world.hosts moment.world.wire }
+    ensures fenced { (script : List Statement) (moves : List Move) (moment : MomentWithPast) → RunsAreInRange script
+        → run_with_past script moves ≡ Some moment → TheGoneAreFenced moment.world.log moment.world.hosts moment.world.wire }
 {}
 
 /// The group of the wire of the invariant holds in each run in range.
 pub fn the_wire_is_kept()
-    ensures { (script : List Statement) (events : List Event) (moment : MomentWithPast) → RunsAreInRange script
-        → run_with_past script events ≡ Some moment
+    ensures { (script : List Statement) (moves : List Move) (moment : MomentWithPast) → RunsAreInRange script
+        → run_with_past script moves ≡ Some moment
         → FlightIsKept moment.world.log moment.world.hosts moment.world.wire moment.past.attempts }
 {}
 
 /// In each run in range what a node that may step knows of the messages of its open creates and writes is so: one of which it has no word
 /// is in the wire; one that succeeded was served, one that was refused is doomed, and one that was lost doesn't fly.
 pub fn gateways_know_the_fates()
-    ensures { (script : List Statement) (events : List Event) (moment : MomentWithPast) → RunsAreInRange script
-        → run_with_past script events ≡ Some moment → WorksKnowTheirFates moment.world.hosts moment.world.wire moment.past.attempts }
+    ensures { (script : List Statement) (moves : List Move) (moment : MomentWithPast) → RunsAreInRange script
+        → run_with_past script moves ≡ Some moment → WorksKnowTheirFates moment.world.hosts moment.world.wire moment.past.attempts }
 {}
 
 /// In each run in range a member stays one until it is lost: a member of an epoch that is neither lost nor beyond it is a member of each
 /// later one, and one that is none of a later epoch is lost or came to that. So it is at each moment on the way of an event, and at its
 /// end.
 pub fn members_stay_until_they_are_lost()
-    ensures stayed { (script : List Statement) (events : List Event) (start moment : MomentWithPast) → RunsAreInRange script
-        → run_with_past script events ≡ Some start → MomentTrail script start moment
+    ensures stayed { (script : List Statement) (moves : List Move) (start moment : MomentWithPast) → RunsAreInRange script
+        → run_with_past script moves ≡ Some start → MomentTrail script start moment
         → TheUpHaveStayed moment.world.log moment.world.hosts }
-    ensures left { (script : List Statement) (events : List Event) (start moment : MomentWithPast) → RunsAreInRange script
-        → run_with_past script events ≡ Some start → MomentTrail script start moment
+    ensures left { (script : List Statement) (moves : List Move) (start moment : MomentWithPast) → RunsAreInRange script
+        → run_with_past script moves ≡ Some start → MomentTrail script start moment
         → LeaversAreBeyond moment.world.log moment.world.hosts }
 {}
 
 /// In each run in range a recovery has the members of its epoch, and is of the one in which its node is, if the node is a member of that;
 /// and a member that it doesn't wait for came to its epoch. So it is at each moment on the way of an event, and at its end.
 pub fn recoveries_are_of_members_that_came()
-    ensures present { (script : List Statement) (events : List Event) (start moment : MomentWithPast) → RunsAreInRange script
-        → run_with_past script events ≡ Some start → MomentTrail script start moment
+    ensures present { (script : List Statement) (moves : List Move) (start moment : MomentWithPast) → RunsAreInRange script
+        → run_with_past script moves ≡ Some start → MomentTrail script start moment
         → RecoveriesArePresent moment.world.log moment.world.hosts }
-    ensures answered { (script : List Statement) (events : List Event) (start moment : MomentWithPast) → RunsAreInRange script
-        → run_with_past script events ≡ Some start → MomentTrail script start moment → AnswerersHaveCome moment.world.hosts }
+    ensures answered { (script : List Statement) (moves : List Move) (start moment : MomentWithPast) → RunsAreInRange script
+        → run_with_past script moves ≡ Some start → MomentTrail script start moment → AnswerersHaveCome moment.world.hosts }
 {}
 
 /// In each run in range whose `Recovered` of an epoch is in the log or still to be put came to that epoch, as did each member of it, and
 /// while it is there its list is finished and nothing is pending; and the settled epoch is below that of a node that isn't lost and
 /// recovers. So it is at each moment on the way of an event, and at its end.
 pub fn the_recovered_have_all()
-    ensures recovered { (script : List Statement) (events : List Event) (start moment : MomentWithPast) → RunsAreInRange script
-        → run_with_past script events ≡ Some start → MomentTrail script start moment
+    ensures recovered { (script : List Statement) (moves : List Move) (start moment : MomentWithPast) → RunsAreInRange script
+        → run_with_past script moves ≡ Some start → MomentTrail script start moment
         → TheRecoveredHaveAll moment.world.log moment.world.hosts }
-    ensures unsettled { (script : List Statement) (events : List Event) (start moment : MomentWithPast) → RunsAreInRange script
-        → run_with_past script events ≡ Some start → MomentTrail script start moment
+    ensures unsettled { (script : List Statement) (moves : List Move) (start moment : MomentWithPast) → RunsAreInRange script
+        → run_with_past script moves ≡ Some start → MomentTrail script start moment
         → TheUnfinishedAreUnsettled moment.world.log moment.world.hosts }
 {}
 
 /// The group of epochs and nodes of the invariant holds in each run in range.
 pub fn epochs_and_nodes_are_kept()
-    ensures { (script : List Statement) (events : List Event) (moment : MomentWithPast) → RunsAreInRange script
-        → run_with_past script events ≡ Some moment → TermsAreKept moment.world.log moment.world.hosts }
+    ensures { (script : List Statement) (moves : List Move) (moment : MomentWithPast) → RunsAreInRange script
+        → run_with_past script moves ≡ Some moment → TermsAreKept moment.world.log moment.world.hosts }
 {}
 
 /// Each open create or write has a message: so it is when a script opens, each change of a moment keeps it, and so it is in each run in
@@ -287,8 +288,8 @@ pub fn open_works_have_messages()
     ensures change { (script : List Statement) (start before after : MomentWithPast) → RunsAreInRange script → Began script start.world
         → MomentChange script start before after → OpenAttemptsHaveMessages before.world.hosts
         → OpenAttemptsHaveMessages after.world.hosts }
-    ensures run { (script : List Statement) (events : List Event) (moment : MomentWithPast) → RunsAreInRange script
-        → run_with_past script events ≡ Some moment → OpenAttemptsHaveMessages moment.world.hosts }
+    ensures run { (script : List Statement) (moves : List Move) (moment : MomentWithPast) → RunsAreInRange script
+        → run_with_past script moves ≡ Some moment → OpenAttemptsHaveMessages moment.world.hosts }
 {}
 
 /// What is in the wire of an attempt of a node that isn't lost is awaited by the attempt's own work: its message is an unanswered one of
@@ -301,8 +302,8 @@ pub fn packets_are_of_open_works()
         → MomentChange script start before after → IsTied before
         → PacketsAreOfOpenWorks before.world.hosts before.world.wire before.past.attempts
         → PacketsAreOfOpenWorks after.world.hosts after.world.wire after.past.attempts }
-    ensures run { (script : List Statement) (events : List Event) (moment : MomentWithPast) → RunsAreInRange script
-        → run_with_past script events ≡ Some moment
+    ensures run { (script : List Statement) (moves : List Move) (moment : MomentWithPast) → RunsAreInRange script
+        → run_with_past script moves ≡ Some moment
         → PacketsAreOfOpenWorks moment.world.hosts moment.world.wire moment.past.attempts }
 {}
 
@@ -311,30 +312,31 @@ pub fn packets_are_of_open_works()
 /// on the way of an event, and at its end. There, at a gateway that may step, the success of each served message of an attempt is in the
 /// wire still where the request isn't touched, and what was lost has touched it.
 pub fn messages_touch_their_requests()
-    ensures within { (script : List Statement) (events : List Event) (start moment : MomentWithPast) → RunsAreInRange script
-        → run_with_past script events ≡ Some start → MomentTrail script start moment
+    ensures within { (script : List Statement) (moves : List Move) (start moment : MomentWithPast) → RunsAreInRange script
+        → run_with_past script moves ≡ Some start → MomentTrail script start moment
         → MessagesTouchOrAreAwaited moment.world.hosts moment.past.lost moment.past.attempts }
-    ensures served { (script : List Statement) (events : List Event) (moment : MomentWithPast) → RunsAreInRange script
-        → run_with_past script events ≡ Some moment
+    ensures served { (script : List Statement) (moves : List Move) (moment : MomentWithPast) → RunsAreInRange script
+        → run_with_past script moves ≡ Some moment
         → ServedRequestsAreTouched moment.world.hosts moment.world.wire moment.past.attempts }
-    ensures lost { (script : List Statement) (events : List Event) (moment : MomentWithPast) → RunsAreInRange script
-        → run_with_past script events ≡ Some moment → LosersAreTouched moment.world.hosts moment.past.lost moment.past.attempts }
+    ensures lost { (script : List Statement) (moves : List Move) (moment : MomentWithPast) → RunsAreInRange script
+        → run_with_past script moves ≡ Some moment → LosersAreTouched moment.world.hosts moment.past.lost moment.past.attempts }
 {}
 
 /// In each run in range the attempts of a refused request are mute, and nothing of them is in flight. So it is at each moment on the way of
 /// an event, and at its end.
 pub fn attempts_of_the_refused_are_mute()
-    ensures within { (script : List Statement) (events : List Event) (start moment : MomentWithPast) → RunsAreInRange script
-        → run_with_past script events ≡ Some start → MomentTrail script start moment
+    ensures within { (script : List Statement) (moves : List Move) (start moment : MomentWithPast) → RunsAreInRange script
+        → run_with_past script moves ≡ Some start → MomentTrail script start moment
         → RefusedRequestsAreMute moment.world.wire moment.past.refused moment.past.attempts }
-    ensures run { (script : List Statement) (events : List Event) (moment : MomentWithPast) → RunsAreInRange script
-        → run_with_past script events ≡ Some moment
+    ensures run { (script : List Statement) (moves : List Move) (moment : MomentWithPast) → RunsAreInRange script
+        → run_with_past script moves ≡ Some moment
         → RefusedRequestsAreMute moment.world.wire moment.past.refused moment.past.attempts }
 {}
 
 /// In each world of a run in range nodes and wire go together, and so do works and requests, and all that is asked and told can be spelled;
-/// and an up node may take each step that an event has it take. For what a request in the wire creates, writes or reads ends inside the
-/// rows of its object: a read goes by the entries of an open disk's table, which name none but the disk and those above it.
+/// and an up node may take each step that an event, or a client's read, has it take. For what a request in the wire creates, writes or
+/// reads ends inside the rows of its object: a session's read goes by the entries of an open disk's table, which name none but the disk and
+/// those above it, and a client's is asked inside its object.
 pub fn nodes_step_on_what_they_may()
     ensures together { (script : List Statement) (world : World) → RunsAreInRange script → Began script world → HoldsTogether script world }
     ensures may { (script : List Statement) (world : World) (n : ℕ) (host : Host) (cause : NodeCause) → RunsAreInRange script
@@ -346,16 +348,16 @@ pub fn nodes_step_on_what_they_may()
 /// In each run in range no message to create or write of a refused request succeeded, and neither it nor the reply to it was lost. So the
 /// headline says it of each run.
 pub fn refused_requests_make_nothing()
-    ensures { (script : List Statement) (events : List Event) (moment : MomentWithPast) → RunsAreInRange script
-        → run_with_past script events ≡ Some moment
+    ensures { (script : List Statement) (moves : List Move) (moment : MomentWithPast) → RunsAreInRange script
+        → run_with_past script moves ≡ Some moment
         → RefusedMakeNothing moment.past.refused moment.past.lost moment.past.attempts }
 {}
 
 /// In each run in range a refused request has no items in the history: what it began to write its refusal took back, also what a check
 /// began, and nothing of it begins later. So the headline says it of each run.
 pub fn refused_requests_have_no_items()
-    ensures { (script : List Statement) (events : List Event) (moment : MomentWithPast) → RunsAreInRange script
-        → run_with_past script events ≡ Some moment
+    ensures { (script : List Statement) (moves : List Move) (moment : MomentWithPast) → RunsAreInRange script
+        → run_with_past script moves ≡ Some moment
         → RefusedHaveNoItems moment.past.refused moment.past.history }
 {}
 

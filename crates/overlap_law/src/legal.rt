@@ -10,7 +10,9 @@ ghost use Rattle.guest_driver.specs.Pieces.{pieces};
 ghost use Rattle.cluster_script.specs.declared.statement.Statement.{Statement};
 ghost use Rattle.sheep_node.specs.declared.event.Event.{Event};
 ghost use Rattle.sheep_world.specs.Granted.{entry_adds};
-ghost use Rattle.sheep_world.specs.Step.{EventOutcome, step};
+ghost use Rattle.sheep_world.specs.Step.{EventOutcome};
+ghost use Rattle.sheep_world.specs.RunsWithAsks.{Move};
+ghost use Rattle.sheep_world.specs.Began.{MakesMove};
 ghost use Rattle.overlap_law.specs.DiskEvents.{ends_write_of};
 ghost use Rattle.overlap_law.specs.Headline.{ledger_of};
 ghost use Rattle.overlap_law.specs.MomentChanges.{MomentTrail, RunsAreInRange, MomentChange};
@@ -27,8 +29,8 @@ ghost use Rattle.overlap_law.specs.MomentChanges.{IsOnTheWay};
 /// In each run in range, what may be read of a block by its items, whichever requests are refused, may be read so behind each change of a
 /// moment on the way of an event too: a request of which a message was served isn't refused any more.
 pub fn what_was_read_stays_so()
-    ensures { (script : List Statement) (events : List Event) (start before after : MomentWithPast) → RunsAreInRange script
-        → run_with_past script events ≡ Some start → MomentTrail script start before → MomentChange script start before after
+    ensures { (script : List Statement) (moves : List Move) (start before after : MomentWithPast) → RunsAreInRange script
+        → run_with_past script moves ≡ Some start → MomentTrail script start before → MomentChange script start before after
         → (items : List histories.Item) (bytes : List ℕ) → MayStayReadAs before.past.attempts items bytes
         → MayStayReadAs after.past.attempts items bytes }
 {}
@@ -37,8 +39,8 @@ pub fn what_was_read_stays_so()
 /// what an entry would add to the history, if it were put next, may come next there: it makes no disk that is there, copies none that
 /// isn't, and deletes none that was deleted.
 pub fn what_entries_add_may_follow()
-    ensures { (script : List Statement) (events : List Event) (start moment : MomentWithPast) → RunsAreInRange script
-        → run_with_past script events ≡ Some start → MomentTrail script start moment → (entry : Entry)
+    ensures { (script : List Statement) (moves : List Move) (start moment : MomentWithPast) → RunsAreInRange script
+        → run_with_past script moves ≡ Some start → MomentTrail script start moment → (entry : Entry)
         → AllElseMayFollow (ledger_of moment.past.history) (entry_adds moment.world.log entry) }
 {}
 
@@ -55,23 +57,23 @@ pub fn what_requests_did_is_told_by_events()
 /// of which its request had begun none, and that hadn't ended; one that a reply ends, or whose node is lost, had begun and hadn't ended;
 /// and one that is done began blocks alone that its disk had then.
 pub fn all_else_may_follow()
-    ensures { (script : List Statement) (events : List Event) (event : Event) (before : MomentWithPast) (made : EventOutcome)
-        → RunsAreInRange script → run_with_past script events ≡ Some before → step script event before.world ≡ Some made
+    ensures { (script : List Statement) (moves : List Move) (event : Event) (before : MomentWithPast) (made : EventOutcome)
+        → RunsAreInRange script → run_with_past script moves ≡ Some before → MakesMove script event before.world made
         → AllElseMayFollow (ledger_of before.past.history) made.grown }
 {}
 
 /// In each run in range a working disk that a session has open, in which no command goes on, is one of the history, as large as its inode
 /// says, and there by the log.
 pub fn working_disks_are_of_the_history()
-    ensures { (script : List Statement) (events : List Event) (moment : MomentWithPast) → RunsAreInRange script
-        → run_with_past script events ≡ Some moment → WorkingDisksAreOfHistory moment }
+    ensures { (script : List Statement) (moves : List Move) (moment : MomentWithPast) → RunsAreInRange script
+        → run_with_past script moves ≡ Some moment → WorkingDisksAreOfHistory moment }
 {}
 
 /// In each run in range a snapshot that a session has open is one of the history, as large as its inode says, and there by the log, unless
 /// the history has it deleted. For it was published once, so the history got it, and no id that was published is freed.
 pub fn open_snapshots_are_of_the_history()
-    ensures { (script : List Statement) (events : List Event) (moment : MomentWithPast) → RunsAreInRange script
-        → run_with_past script events ≡ Some moment → OpenSnapshotsAreOfHistory moment }
+    ensures { (script : List Statement) (moves : List Move) (moment : MomentWithPast) → RunsAreInRange script
+        → run_with_past script moves ≡ Some moment → OpenSnapshotsAreOfHistory moment }
 {}
 
 /// In each run in range, before each change on the way of an event, by each test for good ids that serves there: the holes that a read
@@ -79,15 +81,15 @@ pub fn open_snapshots_are_of_the_history()
 /// that enters its entry. And what comes of a piece is as long as it, and is what its blocks may come to have of what the inode may come to
 /// name. So reads go on with what may be read, whichever requests are refused.
 pub fn what_reads_come_to_is_to_come()
-    ensures holes { (script : List Statement) (events : List Event) (event : Event) (start end before after : MomentWithPast)
-        → RunsAreInRange script → IsOnTheWay script events event start end before after → (good_id : ℕ → Bool)
+    ensures holes { (script : List Statement) (moves : List Move) (move : Move) (start end before after : MomentWithPast)
+        → RunsAreInRange script → IsOnTheWay script moves move start end before after → (good_id : ℕ → Bool)
         → CallsAvailable start before good_id → ReadHolesAreToCome script start before (log_effects before.world.log) good_id }
-    ensures pieces { (script : List Statement) (events : List Event) (event : Event) (start end before after : MomentWithPast)
-        → RunsAreInRange script → IsOnTheWay script events event start end before after → (good_id : ℕ → Bool)
+    ensures pieces { (script : List Statement) (moves : List Move) (move : Move) (start end before after : MomentWithPast)
+        → RunsAreInRange script → IsOnTheWay script moves move start end before after → (good_id : ℕ → Bool)
         → CallsAvailable start before good_id
         → ReadPiecesAreToCome script start before (ledger_of before.past.history) (log_effects before.world.log) good_id }
-    ensures go_on { (script : List Statement) (events : List Event) (event : Event) (start end before after : MomentWithPast)
-        → RunsAreInRange script → IsOnTheWay script events event start end before after → (good_id : ℕ → Bool)
+    ensures go_on { (script : List Statement) (moves : List Move) (move : Move) (start end before after : MomentWithPast)
+        → RunsAreInRange script → IsOnTheWay script moves move start end before after → (good_id : ℕ → Bool)
         → CallsAvailable start before good_id
         → ReadsMayGoOnIn script start before (MayStayReadAs before.past.attempts) (ledger_of before.past.history)
         (log_effects before.world.log) good_id }

@@ -9,8 +9,10 @@
 //! object is missing (`specs/NoObjects.antt`), and the invariant that carries them (`specs/Overlap.antt`).
 //!
 //! All of this is proved of every run in range: the headline and the whole invariant (`headline.rt`), the facts (`facts.rt`), and that no
-//! object is missing (`objects.rt`). What else holds of the parts of a moment, and what the words mean, is said by the laws of the other files of
-//! `src/`; docs/overlap.md names the law behind each conjunct of the invariant.
+//! object is missing (`objects.rt`). What else holds of the parts of a moment, and what the words mean, is said by the laws of the other
+//! files of `src/`; docs/overlap.md names the law behind each conjunct of the invariant. A run is a list of moves, of events and of a
+//! client's reads: what a law says of the end of every event, or of the way of one, it says of such a read too. What the client is told is
+//! no part of the history, and that what a read is told has what is owed is said of the reads of sessions alone.
 //!
 //! An event is taken apart into small changes of a moment (`specs/StepMoments.antt`, `specs/MomentChanges.antt`), each of one kind by what
 //! it makes of the wire and the attempts (`specs/Traffic.antt`). What each of them keeps holds of every run in range: that the wire and
@@ -23,8 +25,8 @@
 //! what open reads were told (`specs/HistoryStands.antt`). The runs of a script that a text may spell are in range: each node has rows of
 //! few objects (`specs/RowsInRange.antt`), since each object was set apart for a request of the script, or is an inode.
 //!
-//! Between the events a client without a script may read objects (`specs/RunsWithAsks.antt`). Such reads leave the past as it is; the laws
-//! of `with_asks.rt` say why, and that what is owed of events and of reads gives the headline of those runs too.
+//! Between the events a client without a script may read objects; a run is made of both (`specs/Past.antt`, over `sheep_world`'s
+//! `specs/RunsWithAsks.antt`). Such reads leave the past as it is; the laws of `with_asks.rt` say why.
 #![tactic(auto)]
 
 mod alone;
@@ -273,9 +275,6 @@ pub use whole::each_event_of_a_run_tells_what_may_be_read;
 pub use whole::the_history_stands;
 pub use with_asks::a_clients_read_makes_nothing;
 pub use with_asks::a_run_with_asks_has_its_past;
-pub use with_asks::what_a_clients_read_keeps;
-pub use with_asks::what_is_owed_gives_the_headline;
-pub use with_asks::what_runs_with_asks_keep;
 pub use works::own_entries_of_tables_stay_made;
 pub use works::requests_of_nodes_are_the_scripts;
 pub use works::tables_are_of_one_spec;

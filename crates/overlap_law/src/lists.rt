@@ -5,8 +5,8 @@ ghost use Rattle.std.specs.FinMap.{get};
 ghost use Rattle.cluster_script.specs.declared.statement.Statement.{Statement};
 ghost use Rattle.recovery.specs.State.{is_listed};
 ghost use Rattle.vdi_directory.specs.Decisions.{log_effects};
-ghost use Rattle.sheep_node.specs.declared.event.Event.{Event};
 ghost use Rattle.sheep_world.specs.World.{Host};
+ghost use Rattle.sheep_world.specs.RunsWithAsks.{Move};
 ghost use Rattle.overlap_law.specs.Past.{MomentWithPast, run_with_past};
 ghost use Rattle.overlap_law.specs.MomentChanges.{MomentChange, MomentTrail, RunsAreInRange};
 ghost use Rattle.overlap_law.specs.Facts.{is_list_of};
@@ -18,8 +18,8 @@ ghost use Rattle.overlap_law.specs.Searches.{TheMadeIsNotMissing};
 /// In each run in range a node's finished list is noted once: none is noted of an epoch that the node's recovery hasn't come to, or in
 /// which its list isn't finished. For a recovery goes on to later epochs alone, and in its epoch a finished list stays finished.
 pub fn finished_lists_are_noted_once()
-    ensures { (script : List Statement) (events : List Event) (moment : MomentWithPast) → RunsAreInRange script
-        → run_with_past script events ≡ Some moment → (n : ℕ) (host : Host) → get moment.world.hosts n ≡ Some host → (epoch : ℕ)
+    ensures { (script : List Statement) (moves : List Move) (moment : MomentWithPast) → RunsAreInRange script
+        → run_with_past script moves ≡ Some moment → (n : ℕ) (host : Host) → get moment.world.hosts n ≡ Some host → (epoch : ℕ)
         → (host.node.recovery.epoch < epoch) ⊎ ((epoch ≡ host.node.recovery.epoch) × (is_listed host.node.recovery ≡ false))
         → find (is_list_of n epoch) moment.past.listed ≡ None }
 {}
@@ -30,8 +30,8 @@ pub fn finished_lists_are_noted_once()
 /// to it. A list that is finished now, also that of a recovery that begins so, has what the nodes hold at a level below, or the node itself
 /// has a row of it; and none of this epoch was noted of the node before.
 pub fn lists_stay_complete()
-    ensures { (script : List Statement) (events : List Event) (start before after : MomentWithPast) → RunsAreInRange script
-        → run_with_past script events ≡ Some start → MomentTrail script start before → MomentChange script start before after
+    ensures { (script : List Statement) (moves : List Move) (start before after : MomentWithPast) → RunsAreInRange script
+        → run_with_past script moves ≡ Some start → MomentTrail script start before → MomentChange script start before after
         → (good : ℕ → Bool) → ((oid : ℕ) → good oid ≡ true → is_dead_by_log after.world.log oid ≡ false)
         → RecoveredRowsAreKept (targets_by before.world.log) before.world.log (log_effects before.world.log) good before.world.hosts
         before.past.attempts
@@ -47,8 +47,8 @@ pub fn lists_stay_complete()
 /// before the change, so the nodes hold after it what was made; so a list that is finished now names it, and none of it is missing or
 /// passed over.
 pub fn what_is_recovered_stays_kept()
-    ensures { (script : List Statement) (events : List Event) (start before after : MomentWithPast) → RunsAreInRange script
-        → run_with_past script events ≡ Some start → MomentTrail script start before → MomentChange script start before after
+    ensures { (script : List Statement) (moves : List Move) (start before after : MomentWithPast) → RunsAreInRange script
+        → run_with_past script moves ≡ Some start → MomentTrail script start before → MomentChange script start before after
         → (good : ℕ → Bool) → ((oid : ℕ) → good oid ≡ true → is_dead_by_log after.world.log oid ≡ false)
         → AttemptsAreCarried (targets_by before.world.log) before.world.log (log_effects before.world.log) good before.world.hosts
         before.past.attempts

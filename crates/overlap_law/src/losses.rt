@@ -7,7 +7,7 @@ ghost use Rattle.epoch_log.specs.Appending.{IsLog};
 ghost use Rattle.epoch_log.specs.Epochs.{epoch_of};
 ghost use Rattle.cluster_script.specs.declared.statement.Statement.{Statement};
 ghost use Rattle.disk_history.specs.Legal.{IsLegal};
-ghost use Rattle.sheep_node.specs.declared.event.Event.{Event};
+ghost use Rattle.sheep_world.specs.RunsWithAsks.{Move};
 ghost use Rattle.overlap_law.specs.Attempts.{AttemptRecord};
 ghost use Rattle.overlap_law.specs.FewLosses.{LossesAreFew, LossesStayFew};
 ghost use Rattle.overlap_law.specs.FewLossesInRuns.{LossesAreFewInRun};
@@ -28,8 +28,8 @@ pub fn few_losses_leave_enough_live_holders()
 /// So it is of a run: where few losses hold at each moment that it comes by, for each object that was born and whose disk isn't dead, every
 /// object was available at every moment. So no read is left out, and the whole history is legal.
 pub fn few_losses_leave_the_whole_history_legal()
-    ensures available { (script : List Statement) (events : List Event) (moment : MomentWithPast) → RunsAreInRange script
-        → run_with_past script events ≡ Some moment → LossesAreFewInRun script events → moment.past.unavailable ≡ [] }
-    ensures legal { (script : List Statement) (events : List Event) (moment : MomentWithPast) → RunsAreInRange script
-        → run_with_past script events ≡ Some moment → LossesAreFewInRun script events → IsLegal moment.past.history }
+    ensures available { (script : List Statement) (moves : List Move) (moment : MomentWithPast) → RunsAreInRange script
+        → run_with_past script moves ≡ Some moment → LossesAreFewInRun script moves → moment.past.unavailable ≡ [] }
+    ensures legal { (script : List Statement) (moves : List Move) (moment : MomentWithPast) → RunsAreInRange script
+        → run_with_past script moves ≡ Some moment → LossesAreFewInRun script moves → IsLegal moment.past.history }
 {}

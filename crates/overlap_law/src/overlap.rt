@@ -10,7 +10,6 @@ ghost use Rattle.message_wire.specs.declared.name.MessageName.{MessageName};
 ghost use Rattle.message_wire.specs.declared.packet.Packet.TheVariants.{Request};
 ghost use Rattle.overlap_law.specs.Reached.{Hosts};
 ghost use Rattle.epoch_log.specs.Epochs.{settled_of};
-ghost use Rattle.sheep_node.specs.declared.event.Event.{Event};
 ghost use Rattle.overlap_law.specs.Holders.{targets_by};
 ghost use Rattle.overlap_law.specs.Past.{MomentWithPast, counts, first_moment, next_moment, run_with_past};
 ghost use Rattle.overlap_law.specs.Contents.{AttemptsStand};
@@ -23,6 +22,7 @@ ghost use Rattle.overlap_law.specs.Flight.{TheGoneAreFenced};
 ghost use Rattle.overlap_law.specs.NodeEpochs.{TheSettledHaveRecovered};
 ghost use Rattle.overlap_law.specs.MomentChanges.{RunsAreInRange};
 ghost use Rattle.overlap_law.specs.Overlap.{Overlap, OverlapAt, OverlapOf, OverlapByTests, CallsFewer};
+ghost use Rattle.sheep_world.specs.RunsWithAsks.{Move};
 
 /// The replies are legal in each moment of which the invariant holds.
 pub fn the_overlap_gives_legal_replies()
@@ -80,7 +80,7 @@ pub fn a_script_opens_with_the_overlap()
 /// moment after it too, in each run in range: what is dead or was once not available stays so, and of what isn't born yet there is nothing.
 /// So the tests may stay the same over an event's trail.
 pub fn the_overlap_holds_by_the_tests_of_an_events_end()
-    ensures { (script : List Statement) (events : List Event) (event : Event) (before after : MomentWithPast) → RunsAreInRange script
-        → run_with_past script events ≡ Some before → next_moment script event before ≡ Some after → Overlap before
+    ensures { (script : List Statement) (moves : List Move) (move : Move) (before after : MomentWithPast) → RunsAreInRange script
+        → run_with_past script moves ≡ Some before → next_moment script move before ≡ Some after → Overlap before
         → OverlapByTests after before }
 {}

@@ -1,6 +1,6 @@
 //! Laws of what reads were told: what each change of a moment keeps of it, and what strips give.
 
-ghost use Rattle.std.specs.Prelude.{◌≡◌, ℕ, ◌*◌, ◌-◌, ◌<◌, Bool, true, List, slice_get, Some};
+ghost use Rattle.std.specs.Prelude.{◌≡◌, ℕ, ◌*◌, ◌-◌, ◌<◌, Bool, true, false, List, slice_get, Some};
 ghost use Rattle.gateway.specs.Attempt as gateways;
 ghost use Rattle.gateway.specs.declared.message.Status.{Status};
 ghost use Rattle.gateway.specs.State.{Work};
@@ -16,16 +16,17 @@ ghost use Rattle.sheep_node.specs.declared.course.Course.{Course};
 ghost use Rattle.sheep_node.specs.Changes.{EndsWork};
 ghost use Rattle.sheep_node.specs.StepState.{StepState};
 ghost use Rattle.sheep_world.specs.NodeCauses.{input_of_cause};
+ghost use Rattle.sheep_world.specs.RunsWithAsks.{Move};
 ghost use Rattle.vdi_directory.specs.Decisions.{log_effects};
 ghost use Rattle.overlap_law.specs.Attempts.{AttemptRecord, attempts_on};
 ghost use Rattle.overlap_law.specs.Each.{policy_in};
 ghost use Rattle.overlap_law.specs.Pieces.{IsInPiece};
+ghost use Rattle.overlap_law.specs.RequestsOfScript.{is_of_client};
 ghost use Rattle.overlap_law.specs.Since.{AddNothingAfter};
 ghost use Rattle.overlap_law.specs.StepMoments.{SteppingNode, IsStepping, StepsByChanges, LeadsInStep, first_in_step, moment_in_step};
 ghost use Rattle.overlap_law.specs.Units.{bytes_by, covers_unit};
 ghost use Rattle.overlap_law.specs.Words.{is_made};
 ghost use Rattle.cluster_script.specs.declared.statement.Statement.{Statement};
-ghost use Rattle.sheep_node.specs.declared.event.Event.{Event};
 ghost use Rattle.overlap_law.specs.Holders.{is_good};
 ghost use Rattle.overlap_law.specs.MomentChanges.{MomentChange, MomentTrail, RunsAreInRange};
 ghost use Rattle.overlap_law.specs.Past.{MomentWithPast, run_with_past};
@@ -43,21 +44,21 @@ ghost use Rattle.overlap_law.specs.MomentChanges.{IsOnTheWay};
 /// these blocks, an entry makes no disk that a session reads, who is refused or loses its reply hadn't ended, and nothing was served of
 /// what is refused.
 pub fn each_change_keeps_what_reads_were_told()
-    ensures { (script : List Statement) (events : List Event) (start before after : MomentWithPast) → RunsAreInRange script
-        → run_with_past script events ≡ Some start → MomentTrail script start before → MomentChange script start before after
+    ensures { (script : List Statement) (moves : List Move) (start before after : MomentWithPast) → RunsAreInRange script
+        → run_with_past script moves ≡ Some start → MomentTrail script start before → MomentChange script start before after
         → AllReadsAreKept script start before after }
 {}
 
-/// In each run in range what open reads were given of good objects by the messages that they heard of, of copies or of strips, has what the
-/// nodes that told it owed in the read's epoch: at the end of every event, and at each moment on the way of one, of what was good as it
-/// began. For no attempt begins on the object of an open read, and nothing is in flight of one of its epoch.
+/// In each run in range what open reads of sessions were given of good objects by the messages that they heard of, of copies or of strips,
+/// has what the nodes that told it owed in the read's epoch: at the end of every event, and at each moment on the way of one, of what was
+/// good as it began. For no attempt begins on the object of a session's open read, and nothing is in flight of one of its epoch.
 pub fn what_reads_were_given_has_what_was_owed()
-    ensures in_run { (script : List Statement) (events : List Event) (moment : MomentWithPast) → RunsAreInRange script
-        → run_with_past script events ≡ Some moment
+    ensures in_run { (script : List Statement) (moves : List Move) (moment : MomentWithPast) → RunsAreInRange script
+        → run_with_past script moves ≡ Some moment
         → GivenPiecesAreSince moment.world.log (is_good moment.world.log moment.past.attempts moment.past.unavailable) moment.world.hosts
         moment.past.attempts }
-    ensures on_the_way { (script : List Statement) (events : List Event) (start moment : MomentWithPast) → RunsAreInRange script
-        → run_with_past script events ≡ Some start → MomentTrail script start moment
+    ensures on_the_way { (script : List Statement) (moves : List Move) (start moment : MomentWithPast) → RunsAreInRange script
+        → run_with_past script moves ≡ Some start → MomentTrail script start moment
         → GivenPiecesAreSince moment.world.log (is_good start.world.log start.past.attempts start.past.unavailable) moment.world.hosts
         moment.past.attempts }
 {}
@@ -67,15 +68,15 @@ pub fn what_reads_were_given_has_what_was_owed()
 /// attempt's are bytes, and the object was good as the event began. For each of as many messages as the read needs gave the strip of it at
 /// its own index, whether it was heard now or before.
 pub fn what_strips_give_is_made()
-    ensures { (script : List Statement) (events : List Event) (start : MomentWithPast) (stepping : SteppingNode) (so_far : StepState)
+    ensures { (script : List Statement) (moves : List Move) (start : MomentWithPast) (stepping : SteppingNode) (so_far : StepState)
         (session req number : ℕ) (work : Work) (attempt : gateways.Attempt) (status : Status) (course : Course) (bytes : List ℕ)
         (inode : Content) (home : ℕ) (piece : Piece) (d p unit j : ℕ) (made : AttemptRecord)
-        → RunsAreInRange script → run_with_past script events ≡ Some start → IsStepping script start.world stepping
+        → RunsAreInRange script → run_with_past script moves ≡ Some start → IsStepping script start.world stepping
         → StepsByChanges stepping.cause → LeadsInStep stepping (first_in_step stepping) so_far
         → MomentTrail script start (moment_in_step script stepping start so_far)
         → EndsWork (input_of_cause stepping.cause) stepping.host.node so_far session req number work attempt status course bytes
         → work.work ≡ read_piece inode piece home → IsVid home → piece.index < OBJECTS_MAX → AreBlocks piece
-        → inode.spec.policy ≡ Coded d p
+        → inode.spec.policy ≡ Coded d p → is_of_client course ≡ false
         → policy_in (log_effects (moment_in_step script stepping start so_far).world.log) (object_number home piece.index)
         ≡ Some inode.spec.policy
         → is_good start.world.log start.past.attempts start.past.unavailable (object_number home piece.index) ≡ true
@@ -94,12 +95,12 @@ pub fn what_strips_give_is_made()
 /// to be read as; and the attempt is the last made one: the object's create was made, and covers all of it; and it was sent before the
 /// event.
 pub fn what_strips_give_is_to_come()
-    ensures bases { (script : List Statement) (events : List Event) (event : Event) (start end before after : MomentWithPast)
-        → RunsAreInRange script → IsOnTheWay script events event start end before after → (good_id : ℕ → Bool)
+    ensures bases { (script : List Statement) (moves : List Move) (move : Move) (start end before after : MomentWithPast)
+        → RunsAreInRange script → IsOnTheWay script moves move start end before after → (good_id : ℕ → Bool)
         → CallsAvailable start before good_id
         → StripsHaveBases script start before (ledger_of before.past.history) (log_effects before.world.log) good_id }
-    ensures comes { (script : List Statement) (events : List Event) (event : Event) (start end before after : MomentWithPast)
-        → RunsAreInRange script → IsOnTheWay script events event start end before after → (good_id : ℕ → Bool)
+    ensures comes { (script : List Statement) (moves : List Move) (move : Move) (start end before after : MomentWithPast)
+        → RunsAreInRange script → IsOnTheWay script moves move start end before after → (good_id : ℕ → Bool)
         → CallsAvailable start before good_id
         → StripPiecesAreToCome script start before (ledger_of before.past.history) (log_effects before.world.log) good_id }
 {}
@@ -108,10 +109,10 @@ pub fn what_strips_give_is_to_come()
 /// the way of one: a script's writes have bytes, and what a check writes of strips was read through strips. So coded items are bytes, and
 /// so are the zeros of no request.
 pub fn coded_writes_are_of_bytes()
-    ensures in_run { (script : List Statement) (events : List Event) (moment : MomentWithPast) → RunsAreInRange script
-        → run_with_past script events ≡ Some moment → CodedWritesAreOfBytes moment.past.history }
-    ensures on_the_way { (script : List Statement) (events : List Event) (start moment : MomentWithPast) → RunsAreInRange script
-        → run_with_past script events ≡ Some start → MomentTrail script start moment → CodedWritesAreOfBytes moment.past.history }
-    ensures items { (script : List Statement) (events : List Event) (start moment : MomentWithPast) → RunsAreInRange script
-        → run_with_past script events ≡ Some start → MomentTrail script start moment → ItemsAreOfBytes (ledger_of moment.past.history) }
+    ensures in_run { (script : List Statement) (moves : List Move) (moment : MomentWithPast) → RunsAreInRange script
+        → run_with_past script moves ≡ Some moment → CodedWritesAreOfBytes moment.past.history }
+    ensures on_the_way { (script : List Statement) (moves : List Move) (start moment : MomentWithPast) → RunsAreInRange script
+        → run_with_past script moves ≡ Some start → MomentTrail script start moment → CodedWritesAreOfBytes moment.past.history }
+    ensures items { (script : List Statement) (moves : List Move) (start moment : MomentWithPast) → RunsAreInRange script
+        → run_with_past script moves ≡ Some start → MomentTrail script start moment → ItemsAreOfBytes (ledger_of moment.past.history) }
 {}

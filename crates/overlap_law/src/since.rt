@@ -5,11 +5,12 @@ ghost use Rattle.message_wire.specs.declared.name.MessageName.{MessageName};
 ghost use Rattle.object_id.specs.declared.node.NodeId.{NodeId};
 ghost use Rattle.peer_proto.specs.declared.ask.PeerReq.{PeerReq};
 ghost use Rattle.sheep_node.specs.declared.event.Event.{Event};
-ghost use Rattle.sheep_world.specs.Began.{Began};
+ghost use Rattle.sheep_world.specs.Began.{Began, MakesMove};
 ghost use Rattle.sheep_world.specs.EventKinds.{EventKind};
 ghost use Rattle.sheep_world.specs.NodeCauses.{RequestComes};
-ghost use Rattle.sheep_world.specs.Step.{EventOutcome, step};
+ghost use Rattle.sheep_world.specs.Step.{EventOutcome};
 ghost use Rattle.sheep_world.specs.World.{Host};
+ghost use Rattle.sheep_world.specs.RunsWithAsks.{Move};
 ghost use Rattle.vdi_directory.specs.Decisions.{log_effects};
 ghost use Rattle.overlap_law.specs.EventsElsewhere.{IsElsewhere};
 ghost use Rattle.overlap_law.specs.Holders.{targets_by, is_dead_by_log};
@@ -27,16 +28,16 @@ ghost use Rattle.overlap_law.specs.WorksOfAttempts.{AttemptsAreOfWorks};
 pub fn attempts_are_of_works()
     ensures change { (script : List Statement) (start before after : MomentWithPast) → RunsAreInRange script → Began script start.world
         → MomentChange script start before after → AttemptsAreOfWorks before.past.attempts → AttemptsAreOfWorks after.past.attempts }
-    ensures run { (script : List Statement) (events : List Event) (start moment : MomentWithPast) → RunsAreInRange script
-        → run_with_past script events ≡ Some start → MomentTrail script start moment → AttemptsAreOfWorks moment.past.attempts }
+    ensures run { (script : List Statement) (moves : List Move) (start moment : MomentWithPast) → RunsAreInRange script
+        → run_with_past script moves ≡ Some start → MomentTrail script start moment → AttemptsAreOfWorks moment.past.attempts }
 {}
 
 /// In each run in range an event at which no node steps, or one comes back, keeps that each row of a good object has what it owes,
 /// whichever objects are called good: who is lost or came to an epoch is so still, so what is doomed stays so; and a node that comes back
 /// ends its open rows where it was lost, so they owe as much as before.
 pub fn rows_have_what_they_owe_as_no_node_steps()
-    ensures { (script : List Statement) (events : List Event) (start : MomentWithPast) (event : Event) (made : EventOutcome)
-        (good : ℕ → Bool) → RunsAreInRange script → run_with_past script events ≡ Some start → step script event start.world ≡ Some made
+    ensures { (script : List Statement) (moves : List Move) (start : MomentWithPast) (event : Event) (made : EventOutcome)
+        (good : ℕ → Bool) → RunsAreInRange script → run_with_past script moves ≡ Some start → MakesMove script event start.world made
         → (kind : EventKind script event start.world made) → IsElsewhere script event start.world made kind
         → RowsAreSince (log_effects start.world.log) good start.world.hosts start.past.attempts
         → RowsAreSince (log_effects (moment_after script event start made).world.log) good
@@ -47,9 +48,9 @@ pub fn rows_have_what_they_owe_as_no_node_steps()
 /// good: of what is served it makes a row with the bytes of the create at each unit, or writes over its open row those of the write; and
 /// each attempt that such a row owes stands no later, as what is in flight is of a later epoch than all before it.
 pub fn rows_have_what_they_owe_as_requests_are_answered()
-    ensures { (script : List Statement) (events : List Event) (start : MomentWithPast) (n : ℕ) (host : Host) (name : MessageName)
+    ensures { (script : List Statement) (moves : List Move) (start : MomentWithPast) (n : ℕ) (host : Host) (name : MessageName)
         (to : NodeId) (request : PeerReq) (stepping : SteppingNode) (good : ℕ → Bool) → RunsAreInRange script
-        → run_with_past script events ≡ Some start → stepping ≡ record { n = n; host = host; cause = RequestComes name to request }
+        → run_with_past script moves ≡ Some start → stepping ≡ record { n = n; host = host; cause = RequestComes name to request }
         → IsStepping script start.world stepping
         → RowsAreSince (log_effects start.world.log) good start.world.hosts start.past.attempts
         → RowsAreSince (log_effects (moment_in_step script stepping start (last_in_step stepping)).world.log) good
@@ -64,8 +65,8 @@ pub fn rows_have_what_they_owe_as_requests_are_answered()
 /// it; each row of the level owes it, and has it or its strip; and of strips as many as a read needs give each other one. Of the recovery's
 /// own epoch nothing was served of what is pending.
 pub fn rows_have_what_they_owe_over_each_change()
-    ensures { (script : List Statement) (events : List Event) (start before after : MomentWithPast) → RunsAreInRange script
-        → run_with_past script events ≡ Some start → MomentTrail script start before → MomentChange script start before after
+    ensures { (script : List Statement) (moves : List Move) (start before after : MomentWithPast) → RunsAreInRange script
+        → run_with_past script moves ≡ Some start → MomentTrail script start before → MomentChange script start before after
         → (good : ℕ → Bool) → ((oid : ℕ) → good oid ≡ true → is_dead_by_log before.world.log oid ≡ false)
         → RecoveredRowsAreKept (targets_by before.world.log) before.world.log (log_effects before.world.log) good before.world.hosts
         before.past.attempts

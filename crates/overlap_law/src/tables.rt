@@ -8,10 +8,10 @@ ghost use Rattle.gateway.specs.declared.message.Status.{Status};
 ghost use Rattle.gateway.specs.State.{Work};
 ghost use Rattle.guest_driver.specs.declared.disk.Disk.{Disk};
 ghost use Rattle.sheep_node.specs.Changes.{LearnsStatus};
-ghost use Rattle.sheep_node.specs.declared.event.Event.{Event};
 ghost use Rattle.sheep_node.specs.declared.session.Session.{Session};
 ghost use Rattle.sheep_node.specs.StepState.{StepState};
 ghost use Rattle.sheep_world.specs.NodeCauses.{input_of_cause};
+ghost use Rattle.sheep_world.specs.RunsWithAsks.{Move};
 ghost use Rattle.vdi_directory.specs.Decisions.{log_effects};
 ghost use Rattle.overlap_law.specs.Attempts.{AttemptRecord};
 ghost use Rattle.overlap_law.specs.Drafts.{published_by};
@@ -38,8 +38,8 @@ ghost use Rattle.overlap_law.specs.Words.{is_made};
 /// Of each run in range, an object that was created by an epoch stays so, over each change of a moment on the way of an event: a create
 /// that is made stays made.
 pub fn what_was_created_stays_created()
-    ensures { (script : List Statement) (events : List Event) (start before after : MomentWithPast) → RunsAreInRange script
-        → run_with_past script events ≡ Some start → MomentTrail script start before → MomentChange script start before after
+    ensures { (script : List Statement) (moves : List Move) (start before after : MomentWithPast) → RunsAreInRange script
+        → run_with_past script moves ≡ Some start → MomentTrail script start before → MomentChange script start before after
         → (oid epoch : ℕ) → IsCreated before.past.attempts oid epoch → IsCreated after.past.attempts oid epoch }
 {}
 
@@ -48,15 +48,15 @@ pub fn what_was_created_stays_created()
 /// event the inode of an id that an entry in an outbox publishes was created by the epoch of its node: a command puts such an entry once
 /// its node has learned that the inode is made.
 pub fn published_inodes_are_made()
-    ensures published { (script : List Statement) (events : List Event) (start moment : MomentWithPast) → RunsAreInRange script
-        → run_with_past script events ≡ Some start → MomentTrail script start moment → (good_id : ℕ → Bool)
+    ensures published { (script : List Statement) (moves : List Move) (start moment : MomentWithPast) → RunsAreInRange script
+        → run_with_past script moves ≡ Some start → MomentTrail script start moment → (good_id : ℕ → Bool)
         → PublishedInodesAreMade moment.world.log good_id moment.past.attempts }
-    ensures once { (script : List Statement) (events : List Event) (start moment : MomentWithPast) → RunsAreInRange script
-        → run_with_past script events ≡ Some start → MomentTrail script start moment
+    ensures once { (script : List Statement) (moves : List Move) (start moment : MomentWithPast) → RunsAreInRange script
+        → run_with_past script moves ≡ Some start → MomentTrail script start moment
         → (vid : ℕ) → list_any (publishes vid) (log_effects moment.world.log) ≡ true
         → IsCreated moment.past.attempts (inode_number vid) (published_in moment.world.log vid) }
-    ensures to_publish { (script : List Statement) (events : List Event) (moment : MomentWithPast) → RunsAreInRange script
-        → run_with_past script events ≡ Some moment → EachUp moment.world.hosts (λ n node. (place : ℕ) (entry : Entry) (vid : Vid)
+    ensures to_publish { (script : List Statement) (moves : List Move) (moment : MomentWithPast) → RunsAreInRange script
+        → run_with_past script moves ≡ Some moment → EachUp moment.world.hosts (λ n node. (place : ℕ) (entry : Entry) (vid : Vid)
         → slice_get node.outbox place ≡ Some entry → published_by entry ≡ Some vid
         → IsCreated moment.past.attempts (inode_number vid.0) node.peer.epoch) }
 {}
@@ -65,8 +65,8 @@ pub fn published_inodes_are_made()
 /// if it might before: an attempt that comes to nothing does so still, and one that is made stays made. So only an attempt that begins
 /// adds to what may come of a unit.
 pub fn what_may_come_might_before()
-    ensures { (script : List Statement) (events : List Event) (start before after : MomentWithPast) → RunsAreInRange script
-        → run_with_past script events ≡ Some start → MomentTrail script start before → MomentChange script start before after
+    ensures { (script : List Statement) (moves : List Move) (start before after : MomentWithPast) → RunsAreInRange script
+        → run_with_past script moves ≡ Some start → MomentTrail script start before → MomentChange script start before after
         → (oid unit j : ℕ) (was now : AttemptRecord) → slice_get before.past.attempts j ≡ Some was
         → IsToCome after.world.hosts after.past.attempts oid unit j now
         → IsToCome before.world.hosts before.past.attempts oid unit j was }
@@ -75,8 +75,8 @@ pub fn what_may_come_might_before()
 /// In each run in range, at each moment on the way of an event: an entry that an inode may be read to have is that of an attempt by which
 /// it may come to be read.
 pub fn candidates_are_of_what_may_come()
-    ensures { (script : List Statement) (events : List Event) (start moment : MomentWithPast) → RunsAreInRange script
-        → run_with_past script events ≡ Some start → MomentTrail script start moment
+    ensures { (script : List Statement) (moves : List Move) (start moment : MomentWithPast) → RunsAreInRange script
+        → run_with_past script moves ≡ Some start → MomentTrail script start moment
         → (vid index p entry : ℕ) (entries : List ℕ) → candidates moment.past.attempts vid index ≡ Some entries
         → slice_get entries p ≡ Some entry
         → (j : ℕ) × (attempt : AttemptRecord) × IsEntryToCome moment.world.hosts moment.past.attempts vid index j attempt
@@ -86,8 +86,8 @@ pub fn candidates_are_of_what_may_come()
 /// Of each run in range: where a node learns in the middle of its step that each message of an open create or write succeeded, the attempt
 /// is made. For what it knew of the others fits their fates, and what it is told then was served before.
 pub fn what_is_done_was_made()
-    ensures { (script : List Statement) (events : List Event) (start : MomentWithPast) (stepping : SteppingNode) (so_far : StepState)
-        → RunsAreInRange script → run_with_past script events ≡ Some start → IsStepping script start.world stepping
+    ensures { (script : List Statement) (moves : List Move) (start : MomentWithPast) (stepping : SteppingNode) (so_far : StepState)
+        → RunsAreInRange script → run_with_past script moves ≡ Some start → IsStepping script start.world stepping
         → StepsByChanges stepping.cause → LeadsInStep stepping (first_in_step stepping) so_far
         → MomentTrail script start (moment_in_step script stepping start so_far)
         → (req number : ℕ) (work : Work) (current : gateways.Attempt) (status : Status)
@@ -104,19 +104,19 @@ pub fn what_is_done_was_made()
 /// objects that were created by now. So it is at each moment on the way of an event too, of the disks that are available up to the event's
 /// end.
 pub fn what_is_named_is_made()
-    ensures tables { (script : List Statement) (events : List Event) (moment : MomentWithPast) → RunsAreInRange script
-        → run_with_past script events ≡ Some moment
+    ensures tables { (script : List Statement) (moves : List Move) (moment : MomentWithPast) → RunsAreInRange script
+        → run_with_past script moves ≡ Some moment
         → TablesNameWhatIsMade (log_effects moment.world.log) (is_available_disk moment.world.log moment.past.unavailable)
         moment.world.hosts moment.past.attempts }
-    ensures inodes { (script : List Statement) (events : List Event) (moment : MomentWithPast) → RunsAreInRange script
-        → run_with_past script events ≡ Some moment → (live : ℕ → Bool)
+    ensures inodes { (script : List Statement) (moves : List Move) (moment : MomentWithPast) → RunsAreInRange script
+        → run_with_past script moves ≡ Some moment → (live : ℕ → Bool)
         → InodesNameWhatIsMade live (is_available_disk moment.world.log moment.past.unavailable) moment }
-    ensures tables_on_the_way { (script : List Statement) (events : List Event) (event : Event) (start end before after : MomentWithPast)
-        → RunsAreInRange script → IsOnTheWay script events event start end before after
+    ensures tables_on_the_way { (script : List Statement) (moves : List Move) (move : Move) (start end before after : MomentWithPast)
+        → RunsAreInRange script → IsOnTheWay script moves move start end before after
         → TablesNameWhatIsMade (log_effects after.world.log) (is_available_disk end.world.log end.past.unavailable) after.world.hosts
         after.past.attempts }
-    ensures inodes_on_the_way { (script : List Statement) (events : List Event) (event : Event) (start end before after : MomentWithPast)
-        → RunsAreInRange script → IsOnTheWay script events event start end before after → (live : ℕ → Bool)
+    ensures inodes_on_the_way { (script : List Statement) (moves : List Move) (move : Move) (start end before after : MomentWithPast)
+        → RunsAreInRange script → IsOnTheWay script moves move start end before after → (live : ℕ → Bool)
         → InodesNameWhatIsMade live (is_available_disk end.world.log end.past.unavailable) after }
 {}
 
@@ -124,8 +124,8 @@ pub fn what_is_named_is_made()
 /// created by the epoch of their node, if the disk isn't dead, whether or not it was available. So such a table names none but the disk and
 /// those above it, and of the disk itself what was created.
 pub fn own_entries_of_tables_are_made()
-    ensures { (script : List Statement) (events : List Event) (start moment : MomentWithPast) → RunsAreInRange script
-        → run_with_past script events ≡ Some start → MomentTrail script start moment
+    ensures { (script : List Statement) (moves : List Move) (start moment : MomentWithPast) → RunsAreInRange script
+        → run_with_past script moves ≡ Some start → MomentTrail script start moment
         → TablesAreOfTheChain (log_effects moment.world.log) moment.world.hosts moment.past.attempts }
 {}
 
@@ -133,11 +133,11 @@ pub fn own_entries_of_tables_are_made()
 /// so was that of each working disk that a session has open, also while the session lets it go. So it is at each moment on the way of an
 /// event, and at its end.
 pub fn inodes_of_working_disks_are_made()
-    ensures held { (script : List Statement) (events : List Event) (start moment : MomentWithPast) → RunsAreInRange script
-        → run_with_past script events ≡ Some start → MomentTrail script start moment → EachUp moment.world.hosts (λ n node. (number vid : ℕ)
+    ensures held { (script : List Statement) (moves : List Move) (start moment : MomentWithPast) → RunsAreInRange script
+        → run_with_past script moves ≡ Some start → MomentTrail script start moment → EachUp moment.world.hosts (λ n node. (number vid : ℕ)
         → HoldsDisk moment.world.log n number vid node → IsCreated moment.past.attempts (inode_number vid) node.peer.epoch) }
-    ensures opened { (script : List Statement) (events : List Event) (start moment : MomentWithPast) → RunsAreInRange script
-        → run_with_past script events ≡ Some start → MomentTrail script start moment → EachUp moment.world.hosts (λ n node. (number : ℕ)
+    ensures opened { (script : List Statement) (moves : List Move) (start moment : MomentWithPast) → RunsAreInRange script
+        → run_with_past script moves ≡ Some start → MomentTrail script start moment → EachUp moment.world.hosts (λ n node. (number : ℕ)
         (session : Session) (disk : Disk) → tree.get node.sessions number ≡ Some session → session.disk ≡ Some disk
         → disk.snapshot ≡ false → IsCreated moment.past.attempts (inode_number disk.inode.vid) node.peer.epoch) }
 {}

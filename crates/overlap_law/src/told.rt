@@ -1,4 +1,4 @@
-//! Laws of what open reads are told of good objects: it has what is owed, so it is what an object may come to have.
+//! Laws of what open reads of sessions are told of good objects: it has what is owed, so it is what an object may come to have.
 ghost use Rattle.std.specs.Prelude.{◌≡◌, ℕ, ◌+◌, ◌*◌, ◌-◌, ◌%◌, ◌<◌, ◌≤◌, Bool, true, false, All, List, length, map, slice_get, Some};
 ghost use Rattle.std.specs.FinMap as tree;
 ghost use Rattle.disk_history.specs.Ledger.{Ledger};
@@ -26,11 +26,11 @@ ghost use Rattle.peer_proto.specs.declared.say.PeerRsp.{PeerRsp};
 ghost use Rattle.peer_proto.specs.declared.say.PeerSay.TheVariants.{Piece};
 ghost use Rattle.peer_proto.specs.Work.{oid_of, policy_of};
 ghost use Rattle.sheep_node.specs.declared.course.Course.{Course};
-ghost use Rattle.sheep_node.specs.declared.event.Event.{Event};
 ghost use Rattle.sheep_node.specs.Changes.{EndsWork};
 ghost use Rattle.sheep_node.specs.StepState.{StepState};
 ghost use Rattle.sheep_world.specs.NodeCauses.{input_of_cause};
 ghost use Rattle.sheep_world.specs.World.{Host};
+ghost use Rattle.sheep_world.specs.RunsWithAsks.{Move};
 ghost use Rattle.vdi_directory.specs.declared.effect.Effect.{Effect};
 ghost use Rattle.vdi_directory.specs.Decisions.{log_effects};
 ghost use Rattle.overlap_law.specs.Attempts.{AttemptRecord, object_of, attempts_on};
@@ -42,6 +42,8 @@ ghost use Rattle.overlap_law.specs.MomentChanges.{MomentChange, MomentTrail, Tra
 ghost use Rattle.overlap_law.specs.Overlap.{CallsFewer};
 ghost use Rattle.overlap_law.specs.Packets.{IsAnswering};
 ghost use Rattle.overlap_law.specs.Past.{MomentWithPast, next_moment, run_with_past};
+ghost use Rattle.overlap_law.specs.RequestsOfScript.{is_of_client};
+ghost use Rattle.overlap_law.specs.Sessions.{is_of_client_at};
 ghost use Rattle.overlap_law.specs.Since.{RowsAreSince, AddNothingAfter};
 ghost use Rattle.overlap_law.specs.StepMoments.{SteppingNode, IsStepping, StepsByChanges, LeadsInStep, first_in_step, moment_in_step};
 ghost use Rattle.overlap_law.specs.ToldPieces.{IsUnansweredOf, offset_read, ToldPiecesAreSince, IsPartInside, part_in_piece, GaveStrip};
@@ -49,44 +51,44 @@ ghost use Rattle.overlap_law.specs.ToldReads.{PieceIsToCome};
 ghost use Rattle.overlap_law.specs.Units.{unit_start, unit_size, unit_end, covers_unit, unit_part_by};
 ghost use Rattle.overlap_law.specs.Words.{is_made};
 
-/// Each change of a moment on the way of an event of a run in range keeps that what an open read is told has what is owed: a piece of a
-/// good object, of a copy or of strips, that is on its way back to the read is cut of bytes that have what their node owed in the read's
-/// epoch; whichever objects are good, if before the change rows have what they owe. For no attempt begins on the object of an open read,
-/// and nothing is in flight of one of the read's epoch.
+/// Each change of a moment on the way of an event of a run in range keeps that what a session's open read is told has what is owed: a piece
+/// of a good object, of a copy or of strips, that is on its way back to the read is cut of bytes that have what their node owed in the
+/// read's epoch; whichever objects are good, if before the change rows have what they owe. For no attempt begins on the object of a
+/// session's open read, and nothing is in flight of one of the read's epoch.
 pub fn what_reads_are_told_has_what_is_owed()
-    ensures { (script : List Statement) (events : List Event) (start before after : MomentWithPast) (good : ℕ → Bool)
-        → RunsAreInRange script → run_with_past script events ≡ Some start → MomentTrail script start before
+    ensures { (script : List Statement) (moves : List Move) (start before after : MomentWithPast) (good : ℕ → Bool)
+        → RunsAreInRange script → run_with_past script moves ≡ Some start → MomentTrail script start before
         → MomentChange script start before after
         → RowsAreSince (log_effects before.world.log) good before.world.hosts before.past.attempts
         → ToldPiecesAreSince (log_effects before.world.log) good before.world.hosts before.world.wire before.past.attempts
         → ToldPiecesAreSince (log_effects after.world.log) good after.world.hosts after.world.wire after.past.attempts }
 {}
 
-/// In each run in range what open reads are told of good objects has what is owed: at the end of every event, of what is good then; and at
-/// each moment on the way of an event, of what is good at its end.
+/// In each run in range what open reads of sessions are told of good objects has what is owed: at the end of every event, of what is good
+/// then; and at each moment on the way of an event, of what is good at its end.
 pub fn what_good_reads_are_told_has_what_is_owed()
-    ensures in_run { (script : List Statement) (events : List Event) (moment : MomentWithPast) → RunsAreInRange script
-        → run_with_past script events ≡ Some moment
+    ensures in_run { (script : List Statement) (moves : List Move) (moment : MomentWithPast) → RunsAreInRange script
+        → run_with_past script moves ≡ Some moment
         → ToldPiecesAreSince (log_effects moment.world.log)
         (is_good moment.world.log moment.past.attempts moment.past.unavailable) moment.world.hosts moment.world.wire
         moment.past.attempts }
-    ensures by_the_end { (script : List Statement) (events : List Event) (event : Event) (start moment end : MomentWithPast)
-        → RunsAreInRange script → run_with_past script events ≡ Some start → next_moment script event start ≡ Some end
+    ensures by_the_end { (script : List Statement) (moves : List Move) (move : Move) (start moment end : MomentWithPast)
+        → RunsAreInRange script → run_with_past script moves ≡ Some start → next_moment script move start ≡ Some end
         → MomentTrail script start moment → TrailLeft script start moment end
         → ToldPiecesAreSince (log_effects moment.world.log) (is_good end.world.log end.past.attempts end.past.unavailable)
         moment.world.hosts moment.world.wire moment.past.attempts }
 {}
 
-/// In each run in range, where a piece of a copy was on its way to an open read as an event began: at each moment on the way of the event
-/// at which its message is unanswered, also once the step is told of it, each unit inside the piece is one that the object may come to
-/// have, if an attempt that covers the unit is made, and the object was good as the event began.
+/// In each run in range, where a piece of a copy was on its way to a session's open read as an event began: at each moment on the way of
+/// the event at which its message is unanswered, also once the step is told of it, each unit inside the piece is one that the object may
+/// come to have, if an attempt that covers the unit is made, and the object was good as the event began.
 pub fn what_a_read_is_told_is_to_come()
-    ensures { (script : List Statement) (events : List Event) (start moment : MomentWithPast) (n : ℕ) (now first : Host) (req place : ℕ)
+    ensures { (script : List Statement) (moves : List Move) (start moment : MomentWithPast) (n : ℕ) (now first : Host) (req place : ℕ)
         (work : Work) (current : gateways.Attempt) (message : Message) (from : NodeId) (rsp : PeerRsp) (bytes : List ℕ)
         (unit k : ℕ) (made : AttemptRecord)
-        → RunsAreInRange script → run_with_past script events ≡ Some start → MomentTrail script start moment
+        → RunsAreInRange script → run_with_past script moves ≡ Some start → MomentTrail script start moment
         → tree.get moment.world.hosts n ≡ Some now → now.is_lost ≡ false
-        → IsUnansweredOf now.node.gateway.works req work current place message
+        → IsUnansweredOf now.node.gateway.works req work current place message → is_of_client_at req now.node ≡ false
         → tree.get start.world.hosts n ≡ Some first → message.number < first.node.sends
         → IsAnswering start.world.wire (message_name n message.number) from rsp → rsp.say ≡ Piece bytes
         → is_good start.world.log start.past.attempts start.past.unavailable (oid_of work.work) ≡ true
@@ -104,12 +106,12 @@ pub fn what_a_read_is_told_is_to_come()
 /// And of strips: a part of a unit, inside the piece that was told, is that of a made attempt that covers the unit, if each later one that
 /// does so is mute or has the same parts of it.
 pub fn what_a_read_is_told_of_strips_is_made()
-    ensures { (script : List Statement) (events : List Event) (start moment : MomentWithPast) (n : ℕ) (now first : Host) (req place : ℕ)
+    ensures { (script : List Statement) (moves : List Move) (start moment : MomentWithPast) (n : ℕ) (now first : Host) (req place : ℕ)
         (work : Work) (current : gateways.Attempt) (message : Message) (from : NodeId) (rsp : PeerRsp) (bytes : List ℕ)
         (unit j : ℕ) (made : AttemptRecord)
-        → RunsAreInRange script → run_with_past script events ≡ Some start → MomentTrail script start moment
+        → RunsAreInRange script → run_with_past script moves ≡ Some start → MomentTrail script start moment
         → tree.get moment.world.hosts n ≡ Some now → now.is_lost ≡ false
-        → IsUnansweredOf now.node.gateway.works req work current place message
+        → IsUnansweredOf now.node.gateway.works req work current place message → is_of_client_at req now.node ≡ false
         → tree.get start.world.hosts n ≡ Some first → message.number < first.node.sends
         → IsAnswering start.world.wire (message_name n message.number) from rsp → rsp.say ≡ Piece bytes
         → is_good start.world.log start.past.attempts start.past.unavailable (oid_of work.work) ≡ true
@@ -125,11 +127,11 @@ pub fn what_a_read_is_told_of_strips_is_made()
 /// read is that of an attempt by which the inode may come to have it, of ids that aren't dead. So it is of any that were good as the event
 /// began, and so of those that are good at its end.
 pub fn what_commands_read_is_to_come()
-    ensures in_run { (script : List Statement) (events : List Event) (start before : MomentWithPast) (good_id : ℕ → Bool)
-        → RunsAreInRange script → run_with_past script events ≡ Some start → MomentTrail script start before
+    ensures in_run { (script : List Statement) (moves : List Move) (start before : MomentWithPast) (good_id : ℕ → Bool)
+        → RunsAreInRange script → run_with_past script moves ≡ Some start → MomentTrail script start before
         → CallsFewer good_id (is_available_disk start.world.log start.past.unavailable) → ReadsAreToCome script good_id start before }
-    ensures by_the_end { (script : List Statement) (events : List Event) (event : Event) (start before end : MomentWithPast)
-        → RunsAreInRange script → run_with_past script events ≡ Some start → next_moment script event start ≡ Some end
+    ensures by_the_end { (script : List Statement) (moves : List Move) (move : Move) (start before end : MomentWithPast)
+        → RunsAreInRange script → run_with_past script moves ≡ Some start → next_moment script move start ≡ Some end
         → MomentTrail script start before
         → ReadsAreToCome script (is_available_disk end.world.log end.past.unavailable) start before }
 {}
@@ -138,15 +140,15 @@ pub fn what_commands_read_is_to_come()
 /// the bytes read are those of an attempt on the object that was served, and by which the block may come to be read; if the object was
 /// created, and was good as the event began.
 pub fn what_is_read_of_copies_is_to_come()
-    ensures { (script : List Statement) (events : List Event) (start : MomentWithPast) (stepping : SteppingNode) (so_far : StepState)
+    ensures { (script : List Statement) (moves : List Move) (start : MomentWithPast) (stepping : SteppingNode) (so_far : StepState)
         (good_id : ℕ → Bool) (session req number : ℕ) (work : Work) (attempt : gateways.Attempt) (status : Status) (course : Course)
         (bytes : List ℕ) (inode : Content) (home epoch : ℕ) (piece : PieceOfRequest) (ledger : Ledger) (effects : List Effect)
-        → RunsAreInRange script → run_with_past script events ≡ Some start → IsStepping script start.world stepping
+        → RunsAreInRange script → run_with_past script moves ≡ Some start → IsStepping script start.world stepping
         → StepsByChanges stepping.cause → LeadsInStep stepping (first_in_step stepping) so_far
         → MomentTrail script start (moment_in_step script stepping start so_far)
         → EndsWork (input_of_cause stepping.cause) stepping.host.node so_far session req number work attempt status course bytes
         → work.work ≡ read_piece inode piece home → IsVid home → piece.index < OBJECTS_MAX
-        → is_in_strips inode.spec.policy Block ≡ false → AreBlocks piece → 1 ≤ piece.size
+        → is_in_strips inode.spec.policy Block ≡ false → AreBlocks piece → is_of_client course ≡ false → 1 ≤ piece.size
         → is_good start.world.log start.past.attempts start.past.unavailable (object_number home piece.index) ≡ true
         → IsCreated (moment_in_step script stepping start so_far).past.attempts (object_number home piece.index) epoch
         → PieceIsToCome ledger effects good_id (moment_in_step script stepping start so_far).world.hosts

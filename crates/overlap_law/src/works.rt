@@ -26,8 +26,8 @@ ghost use Rattle.sheep_node.specs.StepState.{StepState};
 ghost use Rattle.sheep_world.specs.NodeCauses.{input_of_cause};
 ghost use Rattle.overlap_law.specs.StepMoments.{SteppingNode, IsStepping, StepsByChanges, LeadsInStep, first_in_step, moment_in_step};
 ghost use Rattle.overlap_law.specs.Each.{spec_in};
-ghost use Rattle.sheep_node.specs.declared.event.Event.{Event};
 ghost use Rattle.sheep_world.specs.Began.{Began};
+ghost use Rattle.sheep_world.specs.RunsWithAsks.{Move};
 ghost use Rattle.overlap_law.specs.Past.{MomentWithPast, run_with_past};
 ghost use Rattle.overlap_law.specs.MomentChanges.{MomentChange, MomentTrail, RunsAreInRange};
 ghost use Rattle.overlap_law.specs.ShapedAttempts.{AreShaped};
@@ -50,18 +50,18 @@ pub fn the_attempts_are_whole()
         → MomentChange script start before after → AreShaped before
         → AttemptsAreWhole (log_effects before.world.log) before.past.attempts
         → AttemptsAreWhole (log_effects after.world.log) after.past.attempts }
-    ensures run { (script : List Statement) (events : List Event) (start moment : MomentWithPast) → RunsAreInRange script
-        → run_with_past script events ≡ Some start → MomentTrail script start moment
+    ensures run { (script : List Statement) (moves : List Move) (start moment : MomentWithPast) → RunsAreInRange script
+        → run_with_past script moves ≡ Some start → MomentTrail script start moment
         → AttemptsAreWhole (log_effects moment.world.log) moment.past.attempts }
 {}
 
-/// In each run in range each request of a node that isn't lost is the script's of its number, of a session of the node's incarnation, and
-/// has no reply there. It began on the disk that the session has open, if it is on one, and is at a place that its statement allows: a
-/// read or write waits, or has the last pieces of what it asked left; a command waits for its first entry, or for what that leads to; and
-/// a check has counted the own objects before the one that it is at.
+/// In each run in range each request of a node that isn't lost, but for a client's read, is the script's of its number, of a session of the
+/// node's incarnation, and has no reply there. It began on the disk that the session has open, if it is on one, and is at a place that its
+/// statement allows: a read or write waits, or has the last pieces of what it asked left; a command waits for its first entry, or for what
+/// that leads to; and a check has counted the own objects before the one that it is at.
 pub fn requests_of_nodes_are_the_scripts()
-    ensures { (script : List Statement) (events : List Event) (moment : MomentWithPast) → RunsAreInRange script
-        → run_with_past script events ≡ Some moment → RequestsAreTheScripts script moment.world }
+    ensures { (script : List Statement) (moves : List Move) (moment : MomentWithPast) → RunsAreInRange script
+        → run_with_past script moves ≡ Some moment → RequestsAreTheScripts script moment.world }
 {}
 
 /// In each run in range each work that is open, or waits for the inode, is the one that its request's driver, command or check waits for,
@@ -69,8 +69,8 @@ pub fn requests_of_nodes_are_the_scripts()
 /// inode of the id that was granted, or a check's value of the own object before those that it has left. Of no id it is asked here what
 /// the table of an inode that is created is drawn from.
 pub fn works_are_waited_for()
-    ensures { (script : List Statement) (events : List Event) (moment : MomentWithPast) → RunsAreInRange script
-        → run_with_past script events ≡ Some moment
+    ensures { (script : List Statement) (moves : List Move) (moment : MomentWithPast) → RunsAreInRange script
+        → run_with_past script moves ≡ Some moment
         → WorksAreWaitedFor (log_effects moment.world.log) (λ (id : ℕ). false) moment.world.hosts moment.past.attempts }
 {}
 
@@ -96,11 +96,11 @@ pub fn tables_are_of_one_spec()
 /// names none but the disk and those above it, and has an entry for each object of the disk. For a table that is read keeps no other
 /// entries, a write enters the disk's own id, and the id that takes the place of a disk is its child.
 pub fn tables_are_of_the_chain()
-    ensures chain { (script : List Statement) (events : List Event) (start moment : MomentWithPast) → RunsAreInRange script
-        → run_with_past script events ≡ Some start → MomentTrail script start moment
+    ensures chain { (script : List Statement) (moves : List Move) (start moment : MomentWithPast) → RunsAreInRange script
+        → run_with_past script moves ≡ Some start → MomentTrail script start moment
         → EntriesAreOfTheChain (log_effects moment.world.log) moment.world.hosts }
-    ensures whole { (script : List Statement) (events : List Event) (start moment : MomentWithPast) → RunsAreInRange script
-        → run_with_past script events ≡ Some start → MomentTrail script start moment → TablesAreWhole moment.world.hosts }
+    ensures whole { (script : List Statement) (moves : List Move) (start moment : MomentWithPast) → RunsAreInRange script
+        → run_with_past script moves ≡ Some start → MomentTrail script start moment → TablesAreWhole moment.world.hosts }
 {}
 
 /// In runs in range each change of a moment keeps that the own entries of the tables of open disks, and of the inodes that commands are to
@@ -108,8 +108,8 @@ pub fn tables_are_of_the_chain()
 /// works write into inodes names what was created, and so do the own entries that attempts gave to inodes: what is read of an inode as its
 /// disk is opened has its entries of those.
 pub fn own_entries_of_tables_stay_made()
-    ensures { (script : List Statement) (events : List Event) (start before after : MomentWithPast) (live good_id : ℕ → Bool)
-        → RunsAreInRange script → run_with_past script events ≡ Some start → MomentTrail script start before
+    ensures { (script : List Statement) (moves : List Move) (start before after : MomentWithPast) (live good_id : ℕ → Bool)
+        → RunsAreInRange script → run_with_past script moves ≡ Some start → MomentTrail script start before
         → MomentChange script start before after
         → WorksNameWhatIsMade (log_effects before.world.log) good_id before.world.hosts before.past.attempts
         → CallsLive live before.world.log before.past.attempts → OwnEntriesAreMade live before.past.attempts
@@ -123,8 +123,8 @@ pub fn own_entries_of_tables_stay_made()
 /// before, or was asked for just then; of what reads and writes ask for only the write of an entry is on an inode, which follows the
 /// creation of its object; an opening writes back the entries that it read; and a tag and a check's value go over no entry.
 pub fn works_keep_naming_what_is_made()
-    ensures { (script : List Statement) (events : List Event) (start before after : MomentWithPast) (live good_id : ℕ → Bool)
-        → RunsAreInRange script → run_with_past script events ≡ Some start → MomentTrail script start before
+    ensures { (script : List Statement) (moves : List Move) (start before after : MomentWithPast) (live good_id : ℕ → Bool)
+        → RunsAreInRange script → run_with_past script moves ≡ Some start → MomentTrail script start before
         → MomentChange script start before after → CallsLive live before.world.log before.past.attempts
         → EntriesAreMade (log_effects before.world.log) live good_id before.past.attempts
         → OwnEntriesAreMade live before.past.attempts → NewInodesNameWhatIsMade script good_id start before
@@ -136,8 +136,8 @@ pub fn works_keep_naming_what_is_made()
 /// what was created by the epoch of its node, whichever ids are good, and its entries that say "own" do, if the entries that attempts gave
 /// to inodes do: they are those that were read.
 pub fn what_is_written_back_names_what_is_made()
-    ensures { (script : List Statement) (events : List Event) (start : MomentWithPast) (stepping : SteppingNode) (so_far : StepState)
-        (live good_id : ℕ → Bool) → RunsAreInRange script → run_with_past script events ≡ Some start
+    ensures { (script : List Statement) (moves : List Move) (start : MomentWithPast) (stepping : SteppingNode) (so_far : StepState)
+        (live good_id : ℕ → Bool) → RunsAreInRange script → run_with_past script moves ≡ Some start
         → IsStepping script start.world stepping → StepsByChanges stepping.cause → LeadsInStep stepping (first_in_step stepping) so_far
         → MomentTrail script start (moment_in_step script stepping start so_far)
         → CallsLive live (moment_in_step script stepping start so_far).world.log (moment_in_step script stepping start so_far).past.attempts

@@ -8,11 +8,11 @@ ghost use Rattle.epoch_log.specs.Epochs.{epoch_of};
 ghost use Rattle.vdi_directory.specs.Decisions.{outcome, log_effects};
 ghost use Rattle.cluster_script.specs.declared.statement.Statement.{Statement};
 ghost use Rattle.cluster_script.specs.Language.{IsScript};
-ghost use Rattle.sheep_node.specs.declared.event.Event.{Event};
 ghost use Rattle.sheep_world.specs.Began.{Began};
 ghost use Rattle.sheep_world.specs.World.{World};
 ghost use Rattle.sheep_world.specs.LogHolds.{MayGrow};
 ghost use Rattle.sheep_world.specs.HoldsTogether.{MessagesAreInRange};
+ghost use Rattle.sheep_world.specs.RunsWithAsks.{Move};
 ghost use Rattle.overlap_law.specs.Attempts.{AttemptRecord};
 ghost use Rattle.overlap_law.specs.Grants.{gives, reserved_in, granted_in, published_in};
 ghost use Rattle.overlap_law.specs.Grants.{writer_of, takes_writer, may_take_writer, given_to};
@@ -22,7 +22,8 @@ ghost use Rattle.overlap_law.specs.MomentChanges.{MomentChange, MomentTrail, Run
 ghost use Rattle.overlap_law.specs.Traffic.{IsInTurn};
 ghost use Rattle.overlap_law.specs.Sessions.{SessionsWorkApart, MakersAreApart, SessionsHaveOneInodeWork, WorksAreApart, ReadsAreLast};
 ghost use Rattle.overlap_law.specs.Sessions.{BegunRequestsAreApart, OpenDisksAreHeld};
-ghost use Rattle.overlap_law.specs.Writers.{WorksMayWrite, ThereIsOneWriter, AttemptsHaveBegun, WritersTakeTurns, IsInOwnTurn, OnlyTheWriterWrites};
+ghost use Rattle.overlap_law.specs.Writers.{WorksMayWrite, ThereIsOneWriter, AttemptsHaveBegun, WritersTakeTurns, IsInOwnTurn};
+ghost use Rattle.overlap_law.specs.Writers.{OnlyTheWriterWrites};
 ghost use Rattle.overlap_law.specs.Fates.{AttemptsAreOrdered};
 ghost use Rattle.overlap_law.specs.OpenWorks.{PacketsAreOfOpenWorks, OpenAttemptsAreLatest};
 ghost use Rattle.overlap_law.specs.RequestsOfScript.{RequestsAreWithoutReply, AttemptsAreTheScripts, TheRefusedAreAnswered};
@@ -59,26 +60,26 @@ pub fn each_attempt_is_for_a_request()
     ensures change { (script : List Statement) (start before after : MomentWithPast) → RunsAreInRange script → Began script start.world
         → MomentChange script start before after → AttemptsAreTheScripts script before.past.attempts
         → AttemptsAreTheScripts script after.past.attempts }
-    ensures run { (script : List Statement) (events : List Event) (moment : MomentWithPast) → RunsAreInRange script
-        → run_with_past script events ≡ Some moment → AttemptsAreTheScripts script moment.past.attempts }
+    ensures run { (script : List Statement) (moves : List Move) (moment : MomentWithPast) → RunsAreInRange script
+        → run_with_past script moves ≡ Some moment → AttemptsAreTheScripts script moment.past.attempts }
 {}
 
 /// In each run what was refused was started and has its reply, and what has no reply was started.
 pub fn the_refused_are_answered()
-    ensures { (script : List Statement) (events : List Event) (moment : MomentWithPast) → run_with_past script events ≡ Some moment
+    ensures { (script : List Statement) (moves : List Move) (moment : MomentWithPast) → run_with_past script moves ≡ Some moment
         → TheRefusedAreAnswered script moment.world moment.past.refused }
 {}
 
 /// In each run in range a session has one open work on its inode at most.
 pub fn a_session_has_one_inode_work()
-    ensures { (script : List Statement) (events : List Event) (moment : MomentWithPast) → RunsAreInRange script
-        → run_with_past script events ≡ Some moment → SessionsHaveOneInodeWork moment.world.hosts }
+    ensures { (script : List Statement) (moves : List Move) (moment : MomentWithPast) → RunsAreInRange script
+        → run_with_past script moves ≡ Some moment → SessionsHaveOneInodeWork moment.world.hosts }
 {}
 
 /// In each run in range reads and writes of a session that have begun have no index in common.
 pub fn begun_requests_are_apart()
-    ensures { (script : List Statement) (events : List Event) (moment : MomentWithPast) → RunsAreInRange script
-        → run_with_past script events ≡ Some moment → BegunRequestsAreApart moment.world.hosts }
+    ensures { (script : List Statement) (moves : List Move) (moment : MomentWithPast) → RunsAreInRange script
+        → run_with_past script moves ≡ Some moment → BegunRequestsAreApart moment.world.hosts }
 {}
 
 /// The session that may write an id stays its writer at an entry, unless what the entry does takes the id from it. Who may write the id
@@ -109,11 +110,11 @@ pub fn grants_are_of_epochs_that_began()
         → granted_in (log ++ entry ∷ []) vid ≡ granted_in log vid }
 {}
 
-/// In each run in range a request of a node is the script's of its number, of a session that asks at this node in this incarnation of it,
-/// and is without reply there.
+/// In each run in range a request of a node, but for a client's read, is the script's of its number, of a session that asks at this node in
+/// this incarnation of it, and is without reply there.
 pub fn requests_of_nodes_are_without_reply()
-    ensures { (script : List Statement) (events : List Event) (moment : MomentWithPast) → RunsAreInRange script
-        → run_with_past script events ≡ Some moment → RequestsAreWithoutReply script moment.world }
+    ensures { (script : List Statement) (moves : List Move) (moment : MomentWithPast) → RunsAreInRange script
+        → run_with_past script moves ≡ Some moment → RequestsAreWithoutReply script moment.world }
 {}
 
 /// Each attempt is of an epoch that has begun: each change of a moment keeps that, and so it is in each run in range.
@@ -121,8 +122,8 @@ pub fn attempts_are_of_epochs_that_began()
     ensures change { (script : List Statement) (start before after : MomentWithPast) → RunsAreInRange script → Began script start.world
         → MomentChange script start before after → AttemptsHaveBegun before.world.log before.past.attempts
         → AttemptsHaveBegun after.world.log after.past.attempts }
-    ensures run { (script : List Statement) (events : List Event) (moment : MomentWithPast) → RunsAreInRange script
-        → run_with_past script events ≡ Some moment → AttemptsHaveBegun moment.world.log moment.past.attempts }
+    ensures run { (script : List Statement) (moves : List Move) (moment : MomentWithPast) → RunsAreInRange script
+        → run_with_past script moves ≡ Some moment → AttemptsHaveBegun moment.world.log moment.past.attempts }
 {}
 
 /// There stays one writer of an id over each change of a moment at which the attempts are tied, if writers take turns: an attempt that
@@ -147,19 +148,19 @@ pub fn the_writer_begins_in_turn()
 /// and a request of the node waits for each. And each command is of its request's session: what it waits for names that session, or is on
 /// an id that was reserved for it. So it is at each moment on the way of an event, and at its end.
 pub fn entries_of_commands_are_awaited()
-    ensures awaited { (script : List Statement) (events : List Event) (start moment : MomentWithPast) → RunsAreInRange script
-        → run_with_past script events ≡ Some start → MomentTrail script start moment
+    ensures awaited { (script : List Statement) (moves : List Move) (start moment : MomentWithPast) → RunsAreInRange script
+        → run_with_past script moves ≡ Some start → MomentTrail script start moment
         → CommandEntriesAreAwaited moment.world.log moment.world.hosts }
-    ensures sessions { (script : List Statement) (events : List Event) (start moment : MomentWithPast) → RunsAreInRange script
-        → run_with_past script events ≡ Some start → MomentTrail script start moment → CommandsAreTheSessions moment.world.hosts }
+    ensures sessions { (script : List Statement) (moves : List Move) (start moment : MomentWithPast) → RunsAreInRange script
+        → run_with_past script moves ≡ Some start → MomentTrail script start moment → CommandsAreTheSessions moment.world.hosts }
 {}
 
 /// In each run in range a session with a command has open what that goes with: nothing while a disk is opened, the disk that is given back
 /// while one is closed, and the working disk that becomes a snapshot while one is taken; and an inode that is to be open then is that of
 /// the id that was granted. So it is at each moment on the way of an event, and at its end.
 pub fn open_disks_fit_commands()
-    ensures { (script : List Statement) (events : List Event) (start moment : MomentWithPast) → RunsAreInRange script
-        → run_with_past script events ≡ Some start → MomentTrail script start moment → OpenDisksFitCommands moment.world.hosts }
+    ensures { (script : List Statement) (moves : List Move) (start moment : MomentWithPast) → RunsAreInRange script
+        → run_with_past script moves ≡ Some start → MomentTrail script start moment → OpenDisksFitCommands moment.world.hosts }
 {}
 
 /// In each run in range sessions have what their works rest on, while their node hasn't read all of the log nor put all: a command has the
@@ -167,15 +168,15 @@ pub fn open_disks_fit_commands()
 /// is locked by its session, unless the session's command lets it go; and an unlock that is to be put is of an id that its session has. So
 /// it is at each moment on the way of an event, and at its end.
 pub fn claims_of_sessions_are_kept()
-    ensures { (script : List Statement) (events : List Event) (start moment : MomentWithPast) → RunsAreInRange script
-        → run_with_past script events ≡ Some start → MomentTrail script start moment → ClaimsAreKept moment.world.log moment.world.hosts }
+    ensures { (script : List Statement) (moves : List Move) (start moment : MomentWithPast) → RunsAreInRange script
+        → run_with_past script moves ≡ Some start → MomentTrail script start moment → ClaimsAreKept moment.world.log moment.world.hosts }
 {}
 
 /// In each run in range a command that works for an id may write it: its session is the id's writer, has no unlock of it to put, and its
 /// node has read the grant. So it is at each moment on the way of an event, and at its end.
 pub fn commands_keep_their_grants()
-    ensures { (script : List Statement) (events : List Event) (start moment : MomentWithPast) → RunsAreInRange script
-        → run_with_past script events ≡ Some start → MomentTrail script start moment
+    ensures { (script : List Statement) (moves : List Move) (start moment : MomentWithPast) → RunsAreInRange script
+        → run_with_past script moves ≡ Some start → MomentTrail script start moment
         → CommandsKeepTheirGrants moment.world.log moment.world.hosts }
 {}
 
@@ -183,16 +184,16 @@ pub fn commands_keep_their_grants()
 /// session waits for an entry by which the disk is let go, and which is in the log already. So it is at each moment on the way of an event,
 /// and at its end.
 pub fn open_disks_are_held()
-    ensures { (script : List Statement) (events : List Event) (start moment : MomentWithPast) → RunsAreInRange script
-        → run_with_past script events ≡ Some start → MomentTrail script start moment
+    ensures { (script : List Statement) (moves : List Move) (start moment : MomentWithPast) → RunsAreInRange script
+        → run_with_past script moves ≡ Some start → MomentTrail script start moment
         → OpenDisksAreHeld moment.world.log moment.world.hosts }
 {}
 
 /// In each run in range an open create or write is of a request whose session may write the object: it is the writer of the object's id,
 /// has no unlock of it to put, and its node has read the grant. So it is at each moment on the way of an event, and at its end.
 pub fn open_works_may_write()
-    ensures { (script : List Statement) (events : List Event) (start moment : MomentWithPast) → RunsAreInRange script
-        → run_with_past script events ≡ Some start → MomentTrail script start moment → WorksMayWrite moment.world.log moment.world.hosts }
+    ensures { (script : List Statement) (moves : List Move) (start moment : MomentWithPast) → RunsAreInRange script
+        → run_with_past script moves ≡ Some start → MomentTrail script start moment → WorksMayWrite moment.world.log moment.world.hosts }
 {}
 
 /// There is one writer of each id: in each run in range an attempt is the writer's under its grant, or has nothing in flight and is of no
@@ -204,8 +205,8 @@ pub fn there_is_one_writer()
         → MomentChange script start before after → IsTied before
         → PacketsAreOfOpenWorks before.world.hosts before.world.wire before.past.attempts
         → WritersTakeTurns before.world.log after.world.log before.world.wire before.past.attempts after.past.attempts }
-    ensures run { (script : List Statement) (events : List Event) (start moment : MomentWithPast) → RunsAreInRange script
-        → run_with_past script events ≡ Some start → MomentTrail script start moment
+    ensures run { (script : List Statement) (moves : List Move) (start moment : MomentWithPast) → RunsAreInRange script
+        → run_with_past script moves ≡ Some start → MomentTrail script start moment
         → ThereIsOneWriter moment.world.log moment.world.wire moment.past.attempts }
 {}
 
@@ -214,8 +215,8 @@ pub fn there_is_one_writer()
 pub fn works_of_sessions_are_apart()
     ensures change { (script : List Statement) (start before after : MomentWithPast) → RunsAreInRange script → Began script start.world
         → MomentChange script start before after → SessionsWorkApart after.world.hosts }
-    ensures run { (script : List Statement) (events : List Event) (start moment : MomentWithPast) → RunsAreInRange script
-        → run_with_past script events ≡ Some start → MomentTrail script start moment → SessionsWorkApart moment.world.hosts }
+    ensures run { (script : List Statement) (moves : List Move) (start moment : MomentWithPast) → RunsAreInRange script
+        → run_with_past script moves ≡ Some start → MomentTrail script start moment → SessionsWorkApart moment.world.hosts }
 {}
 
 /// In each run in range no two open creates or writes of a node are on one object, as one session may write it. So it is after each change
@@ -223,23 +224,23 @@ pub fn works_of_sessions_are_apart()
 pub fn makers_are_apart()
     ensures change { (script : List Statement) (start before after : MomentWithPast) → RunsAreInRange script → Began script start.world
         → MomentChange script start before after → MakersAreApart after.world.hosts }
-    ensures run { (script : List Statement) (events : List Event) (start moment : MomentWithPast) → RunsAreInRange script
-        → run_with_past script events ≡ Some start → MomentTrail script start moment → MakersAreApart moment.world.hosts }
+    ensures run { (script : List Statement) (moves : List Move) (start moment : MomentWithPast) → RunsAreInRange script
+        → run_with_past script moves ≡ Some start → MomentTrail script start moment → MakersAreApart moment.world.hosts }
 {}
 
 /// In each run in range the attempt that a create or write has open is the last on its object. So it is at each moment on the way of an
 /// event, and at its end.
 pub fn open_attempts_are_the_latest()
-    ensures { (script : List Statement) (events : List Event) (start moment : MomentWithPast) → RunsAreInRange script
-        → run_with_past script events ≡ Some start → MomentTrail script start moment
+    ensures { (script : List Statement) (moves : List Move) (start moment : MomentWithPast) → RunsAreInRange script
+        → run_with_past script moves ≡ Some start → MomentTrail script start moment
         → OpenAttemptsAreLatest moment.world.hosts moment.past.attempts }
 {}
 
 /// In each run in range the attempts on an object are in order: what is in flight as one begins is of another object, or of earlier numbers
 /// of the same node's. So it is at each moment on the way of an event, and at its end.
 pub fn attempts_are_in_order()
-    ensures { (script : List Statement) (events : List Event) (start moment : MomentWithPast) → RunsAreInRange script
-        → run_with_past script events ≡ Some start → MomentTrail script start moment
+    ensures { (script : List Statement) (moves : List Move) (start moment : MomentWithPast) → RunsAreInRange script
+        → run_with_past script moves ≡ Some start → MomentTrail script start moment
         → AttemptsAreOrdered moment.world.wire moment.past.attempts }
 {}
 
@@ -248,8 +249,8 @@ pub fn attempts_are_in_order()
 /// entry; so no attempt of a request is older than a grant that the request finds. So it is at each moment on the way of an event, and at
 /// its end.
 pub fn attempts_are_under_the_grant()
-    ensures { (script : List Statement) (events : List Event) (start moment : MomentWithPast) → RunsAreInRange script
-        → run_with_past script events ≡ Some start → MomentTrail script start moment
+    ensures { (script : List Statement) (moves : List Move) (start moment : MomentWithPast) → RunsAreInRange script
+        → run_with_past script moves ≡ Some start → MomentTrail script start moment
         → AttemptsAreUnderTheGrant moment.world.log moment.world.hosts moment.past.attempts }
 {}
 
@@ -257,8 +258,8 @@ pub fn attempts_are_under_the_grant()
 /// is the writer of the object's id, has no unlock of it to put, and whose node has read the grant; and the attempts of that work are of
 /// the grant's epoch or later. So it is at each moment on the way of an event, and at its end.
 pub fn only_the_writer_writes()
-    ensures { (script : List Statement) (events : List Event) (start moment : MomentWithPast) → RunsAreInRange script
-        → run_with_past script events ≡ Some start → MomentTrail script start moment
+    ensures { (script : List Statement) (moves : List Move) (start moment : MomentWithPast) → RunsAreInRange script
+        → run_with_past script moves ≡ Some start → MomentTrail script start moment
         → OnlyTheWriterWrites moment.world.log moment.world.hosts moment.past.attempts }
 {}
 
@@ -273,29 +274,29 @@ pub fn snapshots_stay()
 /// Nothing begins on a disk that became a snapshot: in each run in range an attempt on one has ended in an epoch no later than that in
 /// which it became one, or is of a gateway that left before. So it is at each moment on the way of an event, and at its end.
 pub fn snapshots_are_closed()
-    ensures { (script : List Statement) (events : List Event) (start moment : MomentWithPast) → RunsAreInRange script
-        → run_with_past script events ≡ Some start → MomentTrail script start moment
+    ensures { (script : List Statement) (moves : List Move) (start moment : MomentWithPast) → RunsAreInRange script
+        → run_with_past script moves ≡ Some start → MomentTrail script start moment
         → SnapshotsAreClosed moment.world.log moment.world.wire moment.past.attempts }
 {}
 
 /// In each run in range an attempt is of an epoch that its gateway came to, at each moment on the way of an event, and at its end.
 pub fn attempts_are_of_the_past()
-    ensures { (script : List Statement) (events : List Event) (start moment : MomentWithPast) → RunsAreInRange script
-        → run_with_past script events ≡ Some start → MomentTrail script start moment
+    ensures { (script : List Statement) (moves : List Move) (start moment : MomentWithPast) → RunsAreInRange script
+        → run_with_past script moves ≡ Some start → MomentTrail script start moment
         → AttemptsAreOfThePast moment.world.hosts moment.past.attempts }
 {}
 
 /// In each run in range no attempt on an object is of a later epoch than an open read of it by a session, nor of the same epoch while
 /// something of it is in flight. So it is at each moment on the way of an event, and at its end.
 pub fn open_reads_are_the_last()
-    ensures { (script : List Statement) (events : List Event) (start moment : MomentWithPast) → RunsAreInRange script
-        → run_with_past script events ≡ Some start → MomentTrail script start moment
+    ensures { (script : List Statement) (moves : List Move) (start moment : MomentWithPast) → RunsAreInRange script
+        → run_with_past script moves ≡ Some start → MomentTrail script start moment
         → ReadsAreLast moment.world.hosts moment.world.wire moment.past.attempts }
 {}
 
 /// In each run in range beside an open create or write a node has on its object no other open work but what a client reads, a session has
 /// one open work on its inode, and its reads and writes that have begun have no index in common.
 pub fn works_are_apart()
-    ensures { (script : List Statement) (events : List Event) (moment : MomentWithPast) → RunsAreInRange script
-        → run_with_past script events ≡ Some moment → WorksAreApart moment.world.hosts }
+    ensures { (script : List Statement) (moves : List Move) (moment : MomentWithPast) → RunsAreInRange script
+        → run_with_past script moves ≡ Some moment → WorksAreApart moment.world.hosts }
 {}

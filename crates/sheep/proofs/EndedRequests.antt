@@ -30,10 +30,10 @@ use Rattle.sheep_world.specs.Effects.{disk_open, progress_with_started}
 use Rattle.sheep_world.specs.NodeSteps.{progress_without_request, progress_after_reply_in, progress_after_reply}
 use Rattle.sheep_world.specs.Incarnations.{is_incarnation_gone, is_session_gone}
 use Rattle.sheep_world.specs.Step.{EventOutcome, step}
-use Rattle.sheep_world.specs.Began.{Began}
-use Rattle.sheep_world.specs.BegunRequests.{begun_count, WasBegun, IsBegun}
-use Rattle.sheep_world.specs.NodeCauses.{NodeCause, GuestAsks, RequestComes, ReplyComes, LossIsTold, EntryIsRead, EntryIsPut, RecoveryTicks, WorkIsRetried}
-use Rattle.sheep_world.specs.NodeCauses.{input_of_cause, IsCause, progress_at_cause}
+use Rattle.sheep_world.specs.AsksAbsent.{BeganWithoutAsks}
+use Rattle.sheep_world.specs.BegunRequests.{begun_count, WasBegun, IsBegun, RequestsWereBegun}
+use Rattle.sheep_world.specs.NodeCauses.{NodeCause, GuestAsks, RequestComes, ReplyComes, LossIsTold, EntryIsRead, EntryIsPut, RecoveryTicks}
+use Rattle.sheep_world.specs.NodeCauses.{WorkIsRetried, ClientAsks, input_of_cause, IsCause, progress_at_cause}
 use Rattle.sheep_world.specs.EventKinds.{log_after_return, EventKind, IsNodeStep, NodeStep, UntoldLoss, UnreadDelivery, NodeLoss}
 use Rattle.sheep_world.specs.EventKinds.{NodeLeave, NodeReweight, NodeJoin, NodeReturn, PhaseEnd}
 use Rattle.sheep_world.specs.HostChanges.{host_after_step, HostsKeep}
@@ -41,10 +41,11 @@ use Rattle.sheep_world.proofs.EventInversion.{happens}
 use Rattle.sheep_world.proofs.HostChangeLaws.{each_kept}
 use Rattle.sheep_world.proofs.SessionNumbers.{once}
 use Rattle.sheep_world.proofs.AskedStatements.{next_asks}
-use Rattle.sheep_world.proofs.BegunWorlds.{goes_on}
-use Rattle.sheep_world.proofs.BegunRequestLaws.{Grows, guests_grow, were_begun, new-begun}
+use Rattle.sheep_world.proofs.BegunWorlds.{goes_by_event}
+use Rattle.sheep_world.proofs.AsksAbsent.{event_is_no_read, goes_on_without_asks, all_were_begun}
+use Rattle.sheep_world.proofs.BegunRequestLaws.{Grows, guests_grow, new-begun}
 use Rattle.dog_report.specs.Report.{is_lost_request}
-use Rattle.sheep_node.proofs.StepReplies.{IsOwn, replied-once, back-silent}
+use Rattle.sheep_node.proofs.StepReplies.{IsOwn, IsRepliedOnce, replied-once, back-silent}
 use Rattle.sheep.proofs.GoneRequests.{not_lost, not_gone}
 
 -- ---- what sessions have begun grows as replies are counted
@@ -128,6 +129,11 @@ module _ (statements : List Statement) where
   comes_apart world n host (EntryIsPut entry) caused number q was req session ask from = absurd (cc (from))
   comes_apart world n host RecoveryTicks caused number q was req session ask from = absurd (cc (from))
   comes_apart world n host WorkIsRetried caused number q was req session ask from = absurd (cc (from))
+  comes_apart world n host (ClientAsks begins asked) caused number q was req session ask from = λ same.
+      let first : begins ≡ req = cc (from) in
+      let none : request_at statements q ≡ None = subst (λ (k : ℕ). request_at statements k ≡ None) (first ∙ same) caused.none in
+      let some = (next_asks statements number was.place q was.there).stands in
+      absurd (cc (none, some))
 
   none_are : (P : ℕ → Type 0) → AllAre P (tree.empty {X = Request} {R = nat_cmp})
   none_are P req request got = let none = tree.get-empty {X = Request} nat_cmp req in absurd (cc (none, got))
@@ -158,7 +164,8 @@ module _ (statements : List Statement) where
         ended.begun;
     nowhere =
         each_kept statements (λ (world : World). (number : ℕ) × WasBegun statements world.guests number q)
-        (λ (world : World) (n : ℕ) (host : Host). AllAre (λ (req : ℕ). req ≢ q) host.node.requests) (nowhere_kept q) event world made is
+        (λ (world : World) (n : ℕ) (host : Host). AllAre (λ (req : ℕ). req ≢ q) host.node.requests) (nowhere_kept q) event world made
+        (goes_by_event statements event world made is)
         (ended.session, ended.begun) ended.nowhere;
   }
 
@@ -190,28 +197,37 @@ module _ (statements : List Statement) where
           (back-silent (log_after_return statements h.n world) h.host.node) (there_in _ h.made_so)))
       by_kind (PhaseEnd h) = absurd (Contains-nil (q, rsp) (there_in _ h.made_so))
 
-  module _ (world : World) (began : Began statements world) (n : ℕ) (host : Host) (there : host_at n world ≡ Some host) where
+  module _ (world : World) (began : BeganWithoutAsks statements world) (n : ℕ) (host : Host) (there : host_at n world ≡ Some host) where
+    -- the requests of nodes are the script's
+    begun_before : RequestsWereBegun statements world
+    begun_before = λ n host there req request got of_script. all_were_begun statements world began n host there req request got
+
+    -- no client reads
+    abbrev IsNoRead : NodeCause → Type 0
+    IsNoRead cause = (req : ℕ) (ask : Ask) → cause ≡ ClientAsks req ask → ⊥
+
     -- a guest's request is new to its gateway
-    fresh : (cause : NodeCause) → IsCause statements world n host cause
+    fresh : (cause : NodeCause) → IsCause statements world n host cause → IsNoRead cause
         → (req session : ℕ) (ask : Ask) → input_of_cause cause ≡ inputs.Guest req session ask → tree.get host.node.requests req ≡ None
-    fresh (GuestAsks asking begins asked) caused req session ask from =
+    fresh (GuestAsks asking begins asked) caused no_read req session ask from =
         let first : begins ≡ req = cc (from) in
         subst (λ (k : ℕ). tree.get host.node.requests k ≡ None) first
-        (new-begun statements asking.number world (were_begun statements world began) asking begins host caused.declared caused.next
+        (new-begun statements asking.number world begun_before asking begins host caused.declared caused.next
         (ap (λ (k : ℕ). tree.get world.hosts k) caused.gateway ∙ there))
-    fresh (RequestComes name to request) caused req session ask from = absurd (cc (from))
-    fresh (ReplyComes name to rsp) caused req session ask from = absurd (cc (from))
-    fresh (LossIsTold name packet) caused req session ask from = absurd (cc (from))
-    fresh (EntryIsRead entry) caused req session ask from = absurd (cc (from))
-    fresh (EntryIsPut entry) caused req session ask from = absurd (cc (from))
-    fresh RecoveryTicks caused req session ask from = absurd (cc (from))
-    fresh WorkIsRetried caused req session ask from = absurd (cc (from))
+    fresh (RequestComes name to request) caused no_read req session ask from = absurd (cc (from))
+    fresh (ReplyComes name to rsp) caused no_read req session ask from = absurd (cc (from))
+    fresh (LossIsTold name packet) caused no_read req session ask from = absurd (cc (from))
+    fresh (EntryIsRead entry) caused no_read req session ask from = absurd (cc (from))
+    fresh (EntryIsPut entry) caused no_read req session ask from = absurd (cc (from))
+    fresh RecoveryTicks caused no_read req session ask from = absurd (cc (from))
+    fresh WorkIsRetried caused no_read req session ask from = absurd (cc (from))
+    fresh (ClientAsks number asks) caused no_read req session ask from = absurd (no_read number asks refl)
 
     -- a guest's request was begun by a session of the node
-    comes_begun : (cause : NodeCause) → IsCause statements world n host cause
+    comes_begun : (cause : NodeCause) → IsCause statements world n host cause → IsNoRead cause
         → (q session : ℕ) (ask : Ask) → input_of_cause cause ≡ inputs.Guest q session ask
         → IsBegun statements (progress_at_cause cause world) n host.incarnation q
-    comes_begun (GuestAsks asking begins asked) caused q session ask from =
+    comes_begun (GuestAsks asking begins asked) caused no_read q session ask from =
         let started : SessionProgress
         = progress_with_started (record { req = begins; disk = disk_open asking world }) (progress_at asking.number world) in
         let is : begun_count asking.number (tree.insert world.guests asking.number started) ≡ (progress_at asking.number world).begun + 1
@@ -225,24 +241,33 @@ module _ (statements : List Statement) where
           lived = caused.lived;
           begun = record { place = (progress_at asking.number world).begun; before = omega (arith, is); there = caused.next };
         })
-    comes_begun (RequestComes name to request) caused q session ask from = absurd (cc (from))
-    comes_begun (ReplyComes name to rsp) caused q session ask from = absurd (cc (from))
-    comes_begun (LossIsTold name packet) caused q session ask from = absurd (cc (from))
-    comes_begun (EntryIsRead entry) caused q session ask from = absurd (cc (from))
-    comes_begun (EntryIsPut entry) caused q session ask from = absurd (cc (from))
-    comes_begun RecoveryTicks caused q session ask from = absurd (cc (from))
-    comes_begun WorkIsRetried caused q session ask from = absurd (cc (from))
+    comes_begun (RequestComes name to request) caused no_read q session ask from = absurd (cc (from))
+    comes_begun (ReplyComes name to rsp) caused no_read q session ask from = absurd (cc (from))
+    comes_begun (LossIsTold name packet) caused no_read q session ask from = absurd (cc (from))
+    comes_begun (EntryIsRead entry) caused no_read q session ask from = absurd (cc (from))
+    comes_begun (EntryIsPut entry) caused no_read q session ask from = absurd (cc (from))
+    comes_begun RecoveryTicks caused no_read q session ask from = absurd (cc (from))
+    comes_begun WorkIsRetried caused no_read q session ask from = absurd (cc (from))
+    comes_begun (ClientAsks number asks) caused no_read q session ask from = absurd (no_read number asks refl)
 
-  module _ (event : Event) (world : World) (made : EventOutcome) (is : step statements event world ≡ Some made) (began : Began statements world)
-      (q : ℕ) (rsp : GuestRsp) (there : Contains made.world.outputs.replies (q, rsp)) where
+  module _ (event : Event) (world : World) (made : EventOutcome) (is : step statements event world ≡ Some made)
+      (began : BeganWithoutAsks statements world) (q : ℕ) (rsp : GuestRsp) (there : Contains made.world.outputs.replies (q, rsp)) where
     reply : Replying event world made q rsp
     reply = replying event world made q rsp (happens statements event world made is) there
 
     abbrev so : IsNodeStep statements event world made
     so = reply.steps
 
+    no_read : (req : ℕ) (ask : Ask) → so.cause ≡ ClientAsks req ask → ⊥
+    no_read = event_is_no_read statements event world made is so
+
+    answered_once : IsRepliedOnce (input_of_cause so.cause) so.host.node q
+        (node_step (input_of_cause so.cause) so.host.node).node.requests (node_step (input_of_cause so.cause) so.host.node).outputs.replies
+    answered_once =
+        replied-once (input_of_cause so.cause) so.host.node q (fresh world began so.n so.host so.there so.cause so.caused no_read)
+
     own : IsOwn (input_of_cause so.cause) so.host.node q
-    own = (replied-once (input_of_cause so.cause) so.host.node q (fresh world began so.n so.host so.there so.cause so.caused)).own rsp reply.replied
+    own = answered_once.own rsp reply.replied
 
     -- a request that has ended is not replied to
     pub ended-silent : HasEnded world q → ⊥
@@ -256,7 +281,7 @@ module _ (statements : List Statement) where
     -- it is replied to once
     pub replied-one : (other : GuestRsp) → Contains made.world.outputs.replies (q, other) → rsp ≡ other
     replied-one other again =
-        (replied-once (input_of_cause so.cause) so.host.node q (fresh world began so.n so.host so.there so.cause so.caused)).one rsp other reply.replied
+        answered_once.one rsp other reply.replied
         (subst (λ (made : EventOutcome). Contains made.world.outputs.replies (q, other)) (sym so.made_so) again)
 
     -- a session has begun it whose gateway the node is, in its present incarnation
@@ -265,14 +290,14 @@ module _ (statements : List Statement) where
         (λ (had : (request : Request) × (tree.get so.host.node.requests q ≡ Some request)).
         is_begun_later world.guests made.world.guests so.n so.host.incarnation q
         (guests_grow statements event world made (happens statements event world made is))
-        (were_begun statements world began so.n so.host so.there q had.0 had.1))
+        (all_were_begun statements world began so.n so.host so.there q had.0 had.1))
         (λ (comes : (session : ℕ) × (ask : Ask) × (input_of_cause so.cause ≡ inputs.Guest q session ask)).
         subst (λ (made : EventOutcome). IsBegun statements made.world.guests so.n so.host.incarnation q) so.made_so
         (is_begun_later (progress_at_cause so.cause world)
         (fold (progress_after_reply statements) (progress_at_cause so.cause world) (node_step (input_of_cause so.cause) so.host.node).outputs.replies)
         so.n so.host.incarnation q
         (replies_grow statements (node_step (input_of_cause so.cause) so.host.node).outputs.replies (progress_at_cause so.cause world))
-        (comes_begun world began so.n so.host so.there so.cause so.caused q comes.0 comes.1 comes.2)))
+        (comes_begun world began so.n so.host so.there so.cause so.caused no_read q comes.0 comes.1 comes.2)))
         own
 
     -- the host of the node is then this
@@ -287,7 +312,7 @@ module _ (statements : List Statement) where
       session = begun.session.number;
       begun = begun.begun;
       nowhere = λ n host got req request had same.
-          let other = were_begun statements made.world (goes_on statements event world made began is) n host got q request
+          let other = all_were_begun statements made.world (goes_on_without_asks statements event world made began is) n host got q request
           (ap (tree.get host.node.requests) (sym same) ∙ had) in
           let one = once 1 (requests_of statements) begun.session.number other.session.number begun.begun.place other.begun.place q begun.begun.there other.begun.there in
           let session_so : begun.session ≡ other.session
@@ -298,7 +323,7 @@ module _ (statements : List Statement) where
           = same_Some host (host_after_step so.cause so.host) (sym got ∙ ap (tree.get made.world.hosts) number_so ∙ stepped_there) in
           let none : tree.get host.node.requests q ≡ None
           = ap (λ (host : Host). tree.get host.node.requests q) host_so
-          ∙ (replied-once (input_of_cause so.cause) so.host.node q (fresh world began so.n so.host so.there so.cause so.caused)).gone rsp reply.replied in
+          ∙ answered_once.gone rsp reply.replied in
           let some : tree.get host.node.requests q ≡ Some request = ap (tree.get host.node.requests) (sym same) ∙ had in
           cc (none, some);
     }
@@ -320,8 +345,8 @@ module _ (statements : List Statement) where
         ∙ not_gone begun.session so.host begun.lived (not_lost so.host so.up)
 
   -- the request that a reply is to is one of the script
-  pub reply-asks : (event : Event) (world : World) (made : EventOutcome) (is : step statements event world ≡ Some made) (began : Began statements world)
-      (q : ℕ) (rsp : GuestRsp) (there : Contains made.world.outputs.replies (q, rsp))
+  pub reply-asks : (event : Event) (world : World) (made : EventOutcome) (is : step statements event world ≡ Some made)
+      (began : BeganWithoutAsks statements world) (q : ℕ) (rsp : GuestRsp) (there : Contains made.world.outputs.replies (q, rsp))
       → (s : Statement) × (request_at statements q ≡ Some s)
   reply-asks event world made is began q rsp there =
       let one = begun event world made is began q rsp there in

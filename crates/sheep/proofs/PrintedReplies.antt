@@ -18,7 +18,7 @@ use Rattle.sheep_node.specs.declared.event.Event.{Event}
 use Rattle.sheep_world.specs.World.{World}
 use Rattle.sheep_world.specs.Step.{EventOutcome, step}
 use Rattle.sheep_world.specs.Run.{Moment, initial_moment, moment_with_made, run}
-use Rattle.sheep_world.specs.Began.{Began}
+use Rattle.sheep_world.specs.AsksAbsent.{BeganWithoutAsks}
 use Rattle.sheep_world.proofs.RunLaws.{run-prefix}
 use Rattle.dog_report.specs.Fates.{RequestFate, Answered, ReportLine, Told, Listed}
 use Rattle.dog_report.specs.Report.{Report, is_lost_request, fate_settled_by, settled_fate, fate_due, barrier_list}
@@ -29,6 +29,7 @@ use Rattle.sheep.specs.PrintedReplies.{IsGiven, HasReplyLine, PrintsReplies}
 use Rattle.sheep.proofs.ReplyLists.{Contains-filter_map, put-cases, put-others, put-one}
 use Rattle.sheep.proofs.RunInduction.{run-goes_on, run-induction}
 use Rattle.sheep.proofs.ToldRuns.{report-on}
+use Rattle.sheep_world.proofs.AsksAbsent.{without_asks}
 use Rattle.sheep.proofs.GoneRequests.{gone-stays}
 use Rattle.sheep.proofs.EndedRequests.{HasEnded, ended-stays, ended-silent, replied-one, reply-ends, reply-not_gone, reply-asks}
 use Rattle.sheep.proofs.GivenReplies.{report-same, printed-given}
@@ -97,11 +98,12 @@ module _ (statements : List Statement) (script : IsScript statements) (q : ℕ) 
   before_open report false open_so = open_so
 
   module _ (event : Event) (report : Report) (made : EventOutcome) (is : step statements event report.world ≡ Some made)
-      (began : Began statements report.world) where
+      (began : BeganWithoutAsks statements report.world) where
     over_stays : IsOver report.world → IsOver made.world
     over_stays over = ⊎_elim
         (λ (ended : HasEnded statements report.world q). inl (ended-stays statements event report.world made q is ended))
-        (λ (gone : is_lost_request statements q report.world ≡ true). inr (gone-stays statements event report.world made q script began is gone))
+        (λ (gone : is_lost_request statements q report.world ≡ true).
+        inr (gone-stays statements event report.world made q script (without_asks statements report.world began) is gone))
         over
 
     made_open : IsOpen report → IsOpen (report_with_made (Some made) report)
@@ -166,7 +168,7 @@ module _ (statements : List Statement) (script : IsScript statements) (q : ℕ) 
     before_answered report false has = has
 
     module _ (event : Event) (report : Report) (made : EventOutcome) (is : step statements event report.world ≡ Some made)
-        (began : Began statements report.world) where
+        (began : BeganWithoutAsks statements report.world) where
       -- an event replies to it
       becomes_answered : IsOpen report → Contains made.world.outputs.replies (q, rsp) → IsAnswered rsp (report_with_made (Some made) report)
       becomes_answered open_so replied = record {
@@ -205,7 +207,8 @@ module _ (statements : List Statement) (script : IsScript statements) (q : ℕ) 
   before_world report true = refl
   before_world report false = refl
 
-  world_began : (events : List Event) (moment : Moment) → run statements events ≡ Some moment → Began statements (report_so_far statements events).world
+  world_began : (events : List Event) (moment : Moment) → run statements events ≡ Some moment
+      → BeganWithoutAsks statements (report_so_far statements events).world
   world_began events moment reached =
       record { events = events; moment = moment; runs = reached; world_so = sym (report-same statements events moment reached) }
 
@@ -220,8 +223,10 @@ module _ (statements : List Statement) (script : IsScript statements) (q : ℕ) 
         ap (step statements event) (before_world (report_so_far statements events) (is_phase event) ∙ report-same statements events moment reached)
         ∙ happens
 
-    told_began : Began statements told.world
-    told_began = subst (Began statements) (sym (before_world (report_so_far statements events) (is_phase event))) (world_began events moment reached)
+    told_began : BeganWithoutAsks statements told.world
+    told_began =
+        subst (BeganWithoutAsks statements) (sym (before_world (report_so_far statements events) (is_phase event)))
+        (world_began events moment reached)
 
     told_on : report_so_far statements (events ++ event ∷ []) ≡ report_with_made (Some made) told
     told_on = report-on statements events event moment.world made (report-same statements events moment reached) happens
@@ -229,7 +234,7 @@ module _ (statements : List Statement) (script : IsScript statements) (q : ℕ) 
   module _ (P : Report → Type 0)
       (before : (report : Report) (phase : Bool) → P report → P (cond phase (phase_told statements report) report))
       (made_keeps : (event : Event) (report : Report) (made : EventOutcome) → step statements event report.world ≡ Some made
-      → Began statements report.world → P report → P (report_with_made (Some made) report)) where
+      → BeganWithoutAsks statements report.world → P report → P (report_with_made (Some made) report)) where
     abbrev SoFar : List Event → Moment → Type 0
     SoFar events moment = P (report_so_far statements events)
 
@@ -255,7 +260,7 @@ module _ (statements : List Statement) (script : IsScript statements) (q : ℕ) 
   answered_then : (events : List Event) (history : List HistEvent) (rsp : GuestRsp) (given : IsGiven statements events history q rsp)
       → IsAnswered rsp (report_so_far statements (given.earlier ++ given.event ∷ []))
   answered_then events history rsp given =
-      let began : Began statements given.moment.world
+      let began : BeganWithoutAsks statements given.moment.world
       = record { events = given.earlier; moment = given.moment; runs = given.reached; world_so = refl } in
       let asks = reply-asks statements given.event given.moment.world given.made given.happens began q rsp given.replied in
       let open_so = open_so_far (numbered statements q asks.0 asks.1) given.earlier given.moment given.reached in

@@ -36,7 +36,8 @@ pub fn sheep_live<S: Source, K: Sink, G: Gate + Sync, R: Threads + Wait + Sync>(
     // The sink was given the report of a whole run, into which what was kept merges. The replies of that run are one legal history: each
     // block read from a disk, snapshot or clone is its last acknowledged write or a later unacknowledged one, and refused requests change
     // nothing, peer requests of another epoch among them, while every epoch since the last finished recovery keeps enough live holders and
-    // no gateway dies within a coded write.
+    // no gateway dies within a coded write. What a refused request leaves unchanged is each block, and what nodes keep: no message of it to
+    // create or write succeeded or was lost.
     ensures done { result ≡ Status.Done
         → IsLiveDone (Gains K.stops (K.given sink.old) (K.given sink.new)) (S.left source.old) (S.left source.new)
         (mode_asked_for words.now) kept.new }

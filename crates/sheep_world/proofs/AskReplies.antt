@@ -1,5 +1,5 @@
 -- The step on a guest's request replies to that request alone; so a client's ask, which no session of a script asked, is told to no session.
-use Rattle.std.proofs.Common.{◌≡◌, ℕ, zero, suc, nat_lt, Bool, true, false, cond, List, [], ◌∷◌, fold, Option, Some, None, refl, sym, ap, subst, ◌∙◌}
+use Rattle.std.proofs.Common.{◌≡◌, ℕ, zero, suc, nat_lt, Bool, true, false, cond, List, [], ◌∷◌, ◌++◌, fold, flat_map, Option, Some, None, refl, sym, ap, subst, ◌∙◌}
 use Rattle.std.specs.Option.{option_map, option_map_or, option_and_then}
 use Rattle.std.specs.Ordering.{nat_cmp}
 use Rattle.std.specs.FinMap as tree
@@ -55,7 +55,9 @@ use Rattle.sheep_node.specs.Guests.{request_refusal, with_queued_request, comman
 use Rattle.sheep_node.specs.Step.{on_input, is_due, with_recovered, recovered_put, node_step}
 use Rattle.sheep_world.specs.declared.progress.SessionProgress.{SessionProgress}
 use Rattle.sheep_world.specs.World.{Host, World}
+use Rattle.disk_history.specs.declared.event.HistEvent.{HistEvent}
 use Rattle.sheep_world.specs.Asking.{session_asking}
+use Rattle.sheep_world.specs.HistoryAdditions.{added_by, has_begun_check_write, disk_of, reply_grown}
 use Rattle.sheep_world.specs.NodeSteps.{progress_after_reply_in, progress_after_reply, world_after_step, node_stepped}
 use Rattle.sheep_world.specs.ClientAsks.{next_ask_number}
 use Rattle.sheep_world.specs.ClientSteps.{ask_begun, ask_effect}
@@ -282,6 +284,30 @@ module _ (statements : List Statement) (req : ℕ) (none : request_at statements
   sessions_stay (reply ∷ later) guests are =
       ap (λ (guests : tree.FinMap nat_cmp SessionProgress). fold (progress_after_reply statements) guests later) (untold guests reply are.0)
       ∙ sessions_stay later guests are.1
+
+  -- and add nothing to the history
+  adds_nothing : (world : World) (reply : ℕ × GuestRsp) → reply.0 ≡ req → reply_grown statements world None reply ≡ []
+  adds_nothing world reply own =
+      ap (added_by (has_begun_check_write statements reply.0 world None) reply.0 reply.1 (disk_of statements reply.0 world))
+      (ap (request_at statements) own ∙ none)
+      ∙ by_disk (disk_of statements reply.0 world)
+    where
+      by_disk : (disk : Option ℕ) → added_by (has_begun_check_write statements reply.0 world None) reply.0 reply.1 disk None ≡ []
+      by_disk None = refl
+      by_disk (Some disk) = refl
+
+  pub none_grown : (world : World) (told : List (ℕ × GuestRsp)) → AreToIt 0 req told → flat_map (reply_grown statements world None) told ≡ []
+  none_grown world [] are = refl
+  none_grown world (reply ∷ later) are =
+      ap (λ (first : List HistEvent). first ++ flat_map (reply_grown statements world None) later) (adds_nothing world reply are.0)
+      ∙ none_grown world later are.1
+
+-- so a client's read adds nothing to it
+pub read-adds_nothing : (statements : List Statement) (world : World) (host : Host) (ask : Ask) → request_at statements (next_ask_number world) ≡ None
+    → flat_map (reply_grown statements world None) (node_step (inputs.Guest (next_ask_number world) 0 ask) host.node).outputs.replies ≡ []
+read-adds_nothing statements world host ask none =
+    none_grown statements (next_ask_number world) none world
+    (node_step (inputs.Guest (next_ask_number world) 0 ask) host.node).outputs.replies (guest-replies 0 (next_ask_number world) ask host.node)
 
 none_of_no_script : (req : ℕ) → request_at [] req ≡ None
 none_of_no_script zero = refl

@@ -1,7 +1,7 @@
 -- A client's asks between the events of a run, the events that bring their replies, and what a check's write adds.
-use Rattle.std.proofs.Common.{◌≡◌, ◌⊎◌, ℕ, zero, suc, ◌<◌, ◌/◌, nat_lt, Bool, true, false, cond, List, [], ◌∷◌, length, map, filter, flat_map, Contains, Option, Some, None, is_some, refl, sym, ap, ◌∙◌, ⊎_elim, subst}
+use Rattle.std.proofs.Common.{◌≡◌, ◌⊎◌, ℕ, zero, suc, ◌<◌, ◌/◌, nat_lt, Bool, true, false, cond, List, [], ◌∷◌, ◌++◌, append-nil, length, map, filter, flat_map, Contains, Option, Some, None, is_some, refl, sym, ap, ◌∙◌, ⊎_elim, subst}
 use Rattle.std.specs.List.{range_with_len}
-use Rattle.std.specs.Option.{option_map_or, option_and_then}
+use Rattle.std.specs.Option.{option_map, option_map_or, option_and_then}
 use Rattle.std.proofs.lemmas.Bool.{ltb-true}
 use Rattle.std.proofs.lemmas.Option.{same_Some}
 use Rattle.proof_tools.proofs.Lists.{Contains-nil, Contains-first, Contains-cons, Contains-cons_cases, find-contains}
@@ -16,12 +16,15 @@ use Rattle.sheep_node.specs.declared.ask.Ask.{Ask}
 use Rattle.sheep_node.specs.declared.event.Event.{Event}
 use Rattle.sheep_node.specs.declared.check_write.CheckWrite.{CheckWrite}
 use Rattle.sheep_world.specs.World.{World}
-use Rattle.sheep_world.specs.HistoryAdditions.{block_in, is_on_disk, block_written, block_checked, check_write_adds}
+use Rattle.sheep_world.specs.HistoryAdditions.{replies_grown, block_in, is_on_disk, block_written, block_checked, check_write_adds}
 use Rattle.sheep_world.specs.ClientAsks.{answer_of}
 use Rattle.sheep_world.specs.ClientSteps.{ask_effect, brings_answers, next_driven, world_with_event, world_turned, world_driven}
 use Rattle.sheep_world.specs.Enabled.{enabled_events}
-use Rattle.sheep_world.specs.Run.{Moment, next, run_from, initial_moment, run}
-use Rattle.sheep_world.specs.RunsWithAsks.{Move, Happens, Asks, may_read_object, next_move, moves_from, run_with_asks, BeganWithAsks}
+use Rattle.sheep_world.specs.Run.{Moment, next, run_from, initial_moment, moment_with_made, run}
+use Rattle.sheep_world.specs.Step.{EventOutcome, with_replies}
+use Rattle.sheep_world.proofs.AskReplies.{read-adds_nothing}
+use Rattle.sheep_world.proofs.ClientReads.{may_read, read_made}
+use Rattle.sheep_world.specs.RunsWithAsks.{Happens, Asks, may_read_object, next_move, moves_from, run_with_asks}
 use Rattle.sheep_world.specs.Began.{Began}
 
 -- ---- runs with asks
@@ -42,23 +45,30 @@ moves-events statements (event ∷ events) moment =
 pub run-events : (statements : List Statement) (events : List Event) → run_with_asks statements (map Happens events) ≡ run statements events
 run-events statements events = moves-events statements events (initial_moment statements)
 
-pub began-asks : (statements : List Statement) (world : World) → Began statements world → BeganWithAsks statements world
-began-asks statements world began = record {
-  moves = map Happens began.events;
-  moment = began.moment;
-  runs = run-events statements began.events ∙ began.runs;
-  world_so = began.world_so;
-}
+-- so each world that a run of events reaches is reached
+pub events-began : (statements : List Statement) (events : List Event) (moment : Moment) → run statements events ≡ Some moment
+    → Began statements moment.world
+events-began statements events moment is =
+    record { moves = map Happens events; moment = moment; runs = run-events statements events ∙ is; world_so = refl }
 
 pub asks-silent : (statements : List Statement) (node : NodeId) (ask : Ask) (moment after : Moment)
     → next_move statements (Asks node ask) moment ≡ Some after → after.history ≡ moment.history
-asks-silent statements node ask moment after = by_may (may_read_object node ask moment)
+asks-silent statements node ask moment after = by_may (may_read_object statements node ask moment.world) refl
   where
-    by_may : (b : Bool) → cond b (Some (record moment { world = ask_effect node.0 ask moment.world })) None ≡ Some after
-        → after.history ≡ moment.history
-    by_may true is =
-        ap (λ (m : Moment). m.history) (sym (same_Some (record moment { world = ask_effect node.0 ask moment.world }) after is))
-    by_may false is = absurd (cc (is))
+    made : EventOutcome
+    made = with_replies statements moment.world (ask_effect node.0 ask moment.world)
+
+    by_may : (b : Bool) → may_read_object statements node ask moment.world ≡ b
+        → option_map (moment_with_made moment.history) (cond b (Some made) None) ≡ Some after → after.history ≡ moment.history
+    by_may true may is =
+        let (host, there, up, caused) = may_read statements node ask moment.world may in
+        let none : made.grown ≡ []
+        = ap (replies_grown statements moment.world None) (read_made statements node.0 host ask moment.world there caused.none)
+        ∙ read-adds_nothing statements moment.world host ask caused.none in
+        ap (λ (m : Moment). m.history) (sym (same_Some (moment_with_made moment.history made) after is))
+        ∙ ap (λ (grown : List HistEvent). moment.history ++ grown) none
+        ∙ append-nil moment.history
+    by_may false may is = absurd (cc (is))
 
 -- ---- the events that bring an answer
 

@@ -9,12 +9,13 @@ use Rattle.sheep_node.specs.State.{Node}
 use Rattle.sheep_world.specs.World.{Host, World}
 use Rattle.sheep_world.specs.Opening.{initial_host, initial_member_node, initial_world}
 use Rattle.sheep_world.specs.MembershipChanges.{lost_host}
-use Rattle.sheep_world.specs.Step.{EventOutcome, step}
+use Rattle.sheep_world.specs.Began.{MakesMove}
+use Rattle.sheep_world.specs.Step.{EventOutcome}
 use Rattle.sheep_world.proofs.WireAtOpening.{opening_found}
 use Rattle.sheep_world.specs.NodeCauses.{world_after_cause}
 use Rattle.sheep_world.specs.EventKinds.{log_after_return, world_after_return, EventKind, NodeStep, UntoldLoss, UnreadDelivery, NodeLoss, NodeLeave, NodeReweight, NodeJoin, NodeReturn, PhaseEnd}
 use Rattle.sheep_world.specs.HostChanges.{host_after_step, host_after_return, joined_host, HostChange, Stays, Steps, IsLost, ComesBack, Joins, HoldsOfEachHost, HostsKeep, NodesKeep}
-use Rattle.sheep_world.proofs.EventInversion.{happens}
+use Rattle.sheep_world.proofs.ClientReads.{goes_by_kind}
 
 module _ (statements : List Statement) (event : Event) (world : World) (made : EventOutcome) (q : ℕ) (host : Host) where
   -- a host stands where one was put, or was there before
@@ -79,10 +80,11 @@ module _ (statements : List Statement) (I : World → Type 0) (P : World → ℕ
       subst (P made.world q) j.host_so (kept.stays event world made h i q (joined_host statements q) (kept.joins world q i j.control))
 
   -- each event keeps it of each host
-  pub each_kept : (event : Event) (world : World) (made : EventOutcome) → step statements event world ≡ Some made → I world → HoldsOfEachHost P world
+  pub each_kept : (event : Event) (world : World) (made : EventOutcome) → MakesMove statements event world made → I world
+      → HoldsOfEachHost P world
       → HoldsOfEachHost P made.world
   each_kept event world made is i each q host got =
-      let h = happens statements event world made is in
+      let h = goes_by_kind statements event world made is in
       by_change event world made h i each q host (became statements event world made q host h got)
 
   -- and so it is at first

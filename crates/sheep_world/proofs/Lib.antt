@@ -12,7 +12,12 @@ pub mod HeardMessages
 pub mod AskedByStep
 pub mod EntryReading
 pub mod SessionNumbers
+pub mod AsksNumbers
 pub mod BegunRequestLaws
+pub mod AsksInSteps
+pub mod AsksOfClients
+pub mod AsksTaken
+pub mod AsksAbsent
 pub mod RecoveryRangeEvents
 pub mod RecoveryRangeOpening
 pub mod NodeConditions
@@ -23,6 +28,7 @@ pub mod AskedStatements
 pub mod HostSteps
 pub mod MessageInversion
 pub mod EventInversion
+pub mod ClientReads
 pub mod HostChangeLaws
 pub mod BegunWorlds
 pub mod LogFrontLaws
@@ -50,7 +56,8 @@ pub mod EnabledPlaces
 pub mod SenderEvents
 pub mod SessionEvents
 pub mod EventEffects
-mod ClientLaws
+pub mod ClientLaws
+pub mod ReadMoves
 mod DrivenEvents
 mod FirstDriven
 pub mod AskReplies

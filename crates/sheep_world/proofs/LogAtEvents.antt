@@ -19,7 +19,7 @@ use Rattle.sheep_node.specs.declared.event.Event.{Event}
 use Rattle.sheep_world.specs.World.{Host, World, host_at, is_lost}
 use Rattle.sheep_world.specs.MembershipChanges.{lost_host, join_of, last_weight}
 use Rattle.sheep_world.specs.Step.{EventOutcome}
-use Rattle.sheep_world.specs.NodeCauses.{NodeCause, GuestAsks, RequestComes, ReplyComes, LossIsTold, EntryIsRead, EntryIsPut, RecoveryTicks, WorkIsRetried, IsCause, log_after_cause}
+use Rattle.sheep_world.specs.NodeCauses.{NodeCause, GuestAsks, RequestComes, ReplyComes, LossIsTold, EntryIsRead, EntryIsPut, RecoveryTicks, WorkIsRetried, ClientAsks, IsCause, log_after_cause}
 use Rattle.sheep_world.specs.EventKinds.{log_after_return, EventKind, NodeStep, UntoldLoss, UnreadDelivery, NodeLoss, NodeLeave, NodeReweight, NodeJoin, NodeReturn, PhaseEnd}
 use Rattle.sheep_world.specs.HostChanges.{host_after_step, host_after_return, joined_host, HostChange, Stays, Steps, IsLost, ComesBack, Joins}
 use Rattle.sheep_world.specs.ControlsToCome.{has_host, ControlsFit}
@@ -141,6 +141,7 @@ module _ (statements : List Statement) (weighs : IsWeight (vnodes_of statements)
       })
   put_log n host RecoveryTicks there so = holds.log
   put_log n host WorkIsRetried there so = holds.log
+  put_log n host (ClientAsks req ask) there so = holds.log
 
   log_after : EventKind statements event world made → IsLog made.world.log
   log_after (NodeStep h) = subst (λ (m : EventOutcome). IsLog m.world.log) h.made_so (put_log h.n h.host h.cause h.there h.caused)
@@ -186,6 +187,7 @@ module _ (statements : List Statement) (weighs : IsWeight (vnodes_of statements)
     by_cause n by (EntryIsPut entry) at (later, first) = well_plain world.log some q host.is_lost entry (puts n by entry later at first) well
     by_cause n by RecoveryTicks at so = well
     by_cause n by WorkIsRetried at so = well
+    by_cause n by (ClientAsks req ask) at so = well
 
     -- a host that was there is so by the new log
     still_well : EventKind statements event world made → WellAfter made
@@ -252,6 +254,7 @@ module _ (statements : List Statement) (weighs : IsWeight (vnodes_of statements)
         sym (now-plain world.log entry q some (puts n by entry later at first).plain) ∙ is
     was_member n by RecoveryTicks at so is = is
     was_member n by WorkIsRetried at so is = is
+    was_member n by (ClientAsks req ask) at so is = is
 
     -- who is a member after a join was one, or is the one that joined
     joined_or_was : (n zone vnodes : ℕ) → is_member_now (world.log ++ entries.Join (record { 0 = n }) zone vnodes ∷ []) q ≡ true

@@ -21,7 +21,7 @@ use Rattle.sheep_world.specs.Opening.{initial_world}
 use Rattle.sheep_world.specs.MembershipChanges.{weight_among}
 use Rattle.sheep_world.specs.Began.{Began}
 use Rattle.sheep_world.specs.LogHolds.{MayGrow, LogHolds}
-use Rattle.sheep_world.proofs.EventInversion.{happens}
+use Rattle.sheep_world.proofs.ClientReads.{goes_by_kind}
 use Rattle.sheep_world.proofs.BegunWorlds.{by_induction}
 use Rattle.sheep_world.proofs.ScriptControls.{seated_at_first, controls-fit}
 use Rattle.sheep_world.specs.HostChanges.{HoldsOfEachHost}
@@ -173,7 +173,7 @@ module _ (statements : List Statement) (script : IsScript statements) where
     opens = (opens_log, each_opens statements LogHolds IsValidHost (hosts_stay_valid statements script));
     keeps = λ event world made began is holds. (
       keeps_log statements weight_at_first event world made (each_puts statements world began holds.1) (grows world began).room (controls-fit statements world script began) holds.0
-          (happens statements event world made is),
+          (goes_by_kind statements event world made is),
       each_kept statements LogHolds IsValidHost (hosts_stay_valid statements script) event world made is holds.0 holds.1,
     );
   }) world

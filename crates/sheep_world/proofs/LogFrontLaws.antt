@@ -13,7 +13,7 @@ use Rattle.sheep_node.proofs.StepResults.{step_reads}
 use Rattle.sheep_world.specs.World.{Host, World}
 use Rattle.sheep_world.specs.Opening.{format_entry, initial_world}
 use Rattle.sheep_world.specs.Step.{EventOutcome}
-use Rattle.sheep_world.specs.NodeCauses.{NodeCause, GuestAsks, RequestComes, ReplyComes, LossIsTold, EntryIsRead, EntryIsPut, RecoveryTicks, WorkIsRetried, input_of_cause, IsCause, log_after_cause}
+use Rattle.sheep_world.specs.NodeCauses.{NodeCause, GuestAsks, RequestComes, ReplyComes, LossIsTold, EntryIsRead, EntryIsPut, RecoveryTicks, WorkIsRetried, ClientAsks, input_of_cause, IsCause, log_after_cause}
 use Rattle.sheep_world.specs.EventKinds.{log_after_return, EventKind, NodeStep, UntoldLoss, UnreadDelivery, NodeLoss, NodeLeave, NodeReweight, NodeJoin, NodeReturn, PhaseEnd}
 use Rattle.sheep_world.specs.HostChanges.{HostsKeep}
 use Rattle.sheep_world.specs.Began.{Began}
@@ -43,6 +43,7 @@ by_step (EntryIsRead entry) log = whole log
 by_step (EntryIsPut entry) log = with_more log (entry ∷ [])
 by_step RecoveryTicks log = whole log
 by_step WorkIsRetried log = whole log
+by_step (ClientAsks req ask) log = whole log
 
 pub log_grows : (statements : List Statement) (event : Event) (world : World) (made : EventOutcome) → EventKind statements event world made
     → IsFront world.log made.world.log
@@ -78,6 +79,7 @@ reads_by statements world n host (EntryIsRead entry) so front = read_one host.no
 reads_by statements world n host (EntryIsPut entry) so front = front
 reads_by statements world n host RecoveryTicks so front = front
 reads_by statements world n host WorkIsRetried so front = front
+reads_by statements world n host (ClientAsks req ask) so front = front
 
 reads_kept : (statements : List Statement) → HostsKeep statements (λ (world : World). Unit {0}) ReadsTheLog
 unfolding initial_world

@@ -33,7 +33,7 @@ use Rattle.sheep_node.proofs.LogLaws.{epoch_more, reads_follow, back_follows, op
 use Rattle.sheep_world.specs.World.{Host, World}
 use Rattle.sheep_world.specs.Opening.{format_entry, initial_world}
 use Rattle.sheep_world.specs.MembershipChanges.{join_of, last_weight}
-use Rattle.sheep_world.specs.NodeCauses.{NodeCause, GuestAsks, RequestComes, ReplyComes, LossIsTold, EntryIsRead, EntryIsPut, RecoveryTicks, WorkIsRetried, input_of_cause, IsCause}
+use Rattle.sheep_world.specs.NodeCauses.{NodeCause, GuestAsks, RequestComes, ReplyComes, LossIsTold, EntryIsRead, EntryIsPut, RecoveryTicks, WorkIsRetried, ClientAsks, input_of_cause, IsCause}
 use Rattle.sheep_world.specs.EventKinds.{log_after_return}
 use Rattle.sheep_world.specs.HostChanges.{HostsKeep, NodesKeep}
 use Rattle.sheep_world.specs.Began.{Began}
@@ -106,6 +106,7 @@ module _ (statements : List Statement) (script : IsScript statements) (grows : (
   follows_by world began n host there follows (EntryIsPut entry) caused = put_follows host.node follows host.node.outbox
   follows_by world began n host there follows RecoveryTicks caused = ticked_follows host.node follows
   follows_by world began n host there follows WorkIsRetried caused = follows
+  follows_by world began n host there follows (ClientAsks req ask) caused = follows
 
   -- a log that gets a join behind it is in a later epoch than the first
   later_epoch : (log : List Entry) (n vnodes : ℕ) → 1 < epoch_of (log ++ join_of statements n vnodes ∷ [])

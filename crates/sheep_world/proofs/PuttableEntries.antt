@@ -1,5 +1,5 @@
 -- What heads an outbox is its node's own entry in each world of a run, so it opens no log and begins no epoch.
-use Rattle.std.proofs.Common.{◌≡◌, ℕ, List, ◌∷◌, All, Some, subst}
+use Rattle.std.proofs.Common.{◌≡◌, ℕ, true, List, ◌∷◌, All, Some, subst}
 use Rattle.std.specs.FinMap as tree
 use Rattle.std.proofs.lemmas.List.Elements.{All-head}
 use Rattle.object_id.specs.declared.entry.Entry.{Entry}
@@ -17,7 +17,8 @@ use Rattle.sheep_node.proofs.PuttableEntries.{own_puttable}
 use Rattle.sheep_world.specs.World.{Host, World}
 use Rattle.sheep_world.specs.Opening.{format_entry}
 use Rattle.sheep_world.specs.Began.{Began}
-use Rattle.sheep_world.specs.NodeCauses.{input_of_cause, NodeCause, GuestAsks, RequestComes, ReplyComes, LossIsTold, EntryIsRead, EntryIsPut, RecoveryTicks, WorkIsRetried, IsCause}
+use Rattle.sheep_world.specs.ClientAsks.{is_read_ask}
+use Rattle.sheep_world.specs.NodeCauses.{input_of_cause, NodeCause, GuestAsks, RequestComes, ReplyComes, LossIsTold, EntryIsRead, EntryIsPut, RecoveryTicks, WorkIsRetried, ClientAsks, IsCause}
 use Rattle.sheep_world.specs.HostChanges.{HoldsOfEachHost, NodesKeep}
 use Rattle.sheep_world.proofs.BegunWorlds.{each_began}
 use Rattle.sheep_world.proofs.HostChangeLaws.{hosts_of_nodes}
@@ -46,6 +47,13 @@ no_entry_asked me req session (asks.Entry entry) s is = by_statement s is
     by_statement (lines.Check session) is = absurd (cc (is))
     by_statement _ is = absurd (cc (is))
 
+-- nor does a client's read
+read_asks_none : (me : NodeId) (req session : ℕ) (ask : Ask) → is_read_ask ask ≡ true → AsksForOwn me (inputs.Guest req session ask)
+read_asks_none me req session (asks.Disk ask) reads = tt
+read_asks_none me req session (asks.Vdi ask) reads = tt
+read_asks_none me req session (asks.Object work) reads = tt
+read_asks_none me req session (asks.Entry entry) reads = absurd (cc (reads))
+
 asks_own : (statements : List Statement) (world : World) (n : ℕ) (host : Host) (cause : NodeCause) → IsCause statements world n host cause
     → AsksForOwn host.node.me (input_of_cause cause)
 asks_own statements world n host (GuestAsks session req ask) asked = no_entry_asked host.node.me req session.number ask asked.line asked.asks
@@ -56,6 +64,7 @@ asks_own statements world n host (EntryIsRead entry) next = tt
 asks_own statements world n host (EntryIsPut entry) first = tt
 asks_own statements world n host RecoveryTicks may = tt
 asks_own statements world n host WorkIsRetried may = tt
+asks_own statements world n host (ClientAsks req ask) may = read_asks_none host.node.me req 0 ask may.reads
 
 -- each node has its own entries alone
 owns : (statements : List Statement) → NodesKeep statements (λ (n incarnation : ℕ) (node : Node). HasOnlyOwnEntries node)

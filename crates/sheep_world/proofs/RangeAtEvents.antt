@@ -20,7 +20,7 @@ use Rattle.message_wire.specs.declared.packet.Packet.TheVariants.{Request, Reply
 use Rattle.sheep_world.specs.World.{Host, World, is_host_up}
 use Rattle.sheep_world.specs.Opening.{format_entry}
 use Rattle.sheep_world.specs.Ranges.{RecoveriesAreInRange}
-use Rattle.sheep_world.specs.NodeCauses.{NodeCause, GuestAsks, RequestComes, ReplyComes, LossIsTold, EntryIsRead, EntryIsPut, RecoveryTicks, WorkIsRetried, input_of_cause, IsCause}
+use Rattle.sheep_world.specs.NodeCauses.{NodeCause, GuestAsks, RequestComes, ReplyComes, LossIsTold, EntryIsRead, EntryIsPut, RecoveryTicks, WorkIsRetried, ClientAsks, input_of_cause, IsCause}
 use Rattle.sheep_world.specs.EventKinds.{log_after_return}
 use Rattle.sheep_world.specs.HostChanges.{host_after_return, HostsKeep}
 use Rattle.sheep_world.specs.Began.{Began}
@@ -77,6 +77,7 @@ module _ (statements : List Statement) (script : IsScript statements) (grows : (
     step_range (EntryIsPut entry) first = put_range host.node range
     step_range RecoveryTicks may = recovered_range host.node may (numbers_left host up) range
     step_range WorkIsRetried may = stepped_range inputs.RetryTick host.node range
+    step_range (ClientAsks req ask) may = stepped_range (inputs.Guest req 0 ask) host.node range
 
   -- so it is of each host, where the log holds
   abbrev IsInRangeWhere : World → ℕ → Host → Type 0

@@ -21,7 +21,7 @@ use Rattle.sheep_world.specs.Conditions.{joins}
 use Rattle.sheep_world.proofs.WireAtOpening.{opening_found}
 use Rattle.sheep_world.specs.ControlsToCome.{controls_to_come, used_after, failed_after, EachFits, has_host, ControlsFit}
 use Rattle.sheep_world.specs.Began.{Began}
-use Rattle.sheep_world.proofs.EventInversion.{happens}
+use Rattle.sheep_world.proofs.ClientReads.{goes_by_kind}
 use Rattle.sheep_world.proofs.BegunWorlds.{by_induction}
 use Rattle.sheep_world.proofs.ControlLaws.{fits_by, or_false_right, behind_next, keeps_fit}
 
@@ -234,5 +234,5 @@ pub controls-fit : (statements : List Statement) (world : World) → IsScript st
 controls-fit statements world script =
     by_induction statements (ControlsFit statements) (record {
       opens = opening_fits statements script;
-      keeps = λ event world made began is fit. keeps_fit statements event world made fit (happens statements event world made is);
+      keeps = λ event world made began is fit. keeps_fit statements event world made fit (goes_by_kind statements event world made is);
     }) world

@@ -22,7 +22,7 @@ use Rattle.sheep_world.specs.Opening.{initial_world}
 use Rattle.sheep_world.specs.Messages.{wire_with_reply}
 use Rattle.sheep_world.specs.NodeSteps.{wire_with_request}
 use Rattle.sheep_world.specs.Step.{EventOutcome}
-use Rattle.sheep_world.specs.NodeCauses.{NodeCause, GuestAsks, RequestComes, ReplyComes, LossIsTold, EntryIsRead, EntryIsPut, RecoveryTicks, WorkIsRetried, input_of_cause, wire_at_cause, is_up_among, wire_after_cause}
+use Rattle.sheep_world.specs.NodeCauses.{NodeCause, GuestAsks, RequestComes, ReplyComes, LossIsTold, EntryIsRead, EntryIsPut, RecoveryTicks, WorkIsRetried, ClientAsks, input_of_cause, wire_at_cause, is_up_among, wire_after_cause}
 use Rattle.sheep_world.specs.EventKinds.{log_after_return, EventKind, NodeStep, UntoldLoss, UnreadDelivery, NodeLoss, NodeLeave, NodeReweight, NodeJoin, NodeReturn, PhaseEnd}
 use Rattle.sheep_world.specs.HostChanges.{host_after_step}
 use Rattle.sheep_world.specs.Began.{Began}
@@ -31,7 +31,7 @@ use Rattle.sheep_world.proofs.WireAfterSends.{Wire, IsSent, got_sent}
 use Rattle.sheep_world.proofs.RecoveryMessages.{without_got}
 use Rattle.sheep_world.proofs.LostReplies.{got_before}
 use Rattle.message_wire.proofs.NameOrder.{name_cmp_total}
-use Rattle.sheep_world.proofs.EventInversion.{happens}
+use Rattle.sheep_world.proofs.ClientReads.{goes_by_kind}
 use Rattle.sheep_world.proofs.BegunWorlds.{by_induction}
 
 -- ---- what enters the wire, and what leaves it
@@ -76,6 +76,7 @@ at_cause (EntryIsRead entry) wire spelled = spelled
 at_cause (EntryIsPut entry) wire spelled = spelled
 at_cause RecoveryTicks wire spelled = spelled
 at_cause WorkIsRetried wire spelled = spelled
+at_cause (ClientAsks req ask) wire spelled = spelled
 
 after_cause : (cause : NodeCause) (hosts : tree.FinMap nat_cmp Host) (node : Node) (wire : Wire) → AreSpelled wire
     → AreSpelled (wire_after_cause cause hosts node wire)
@@ -88,6 +89,7 @@ after_cause (EntryIsRead entry) hosts node wire spelled = spelled
 after_cause (EntryIsPut entry) hosts node wire spelled = spelled
 after_cause RecoveryTicks hosts node wire spelled = spelled
 after_cause WorkIsRetried hosts node wire spelled = spelled
+after_cause (ClientAsks req ask) hosts node wire spelled = spelled
 
 -- ---- each kind of event
 
@@ -122,5 +124,5 @@ opens_spelled statements name packet got = absurd (cc (sym (tree.get-empty name_
 pub packets_spelled : (statements : List Statement) (world : World) → Began statements world → PacketsAreSpelled world
 packets_spelled statements = by_induction statements PacketsAreSpelled (record {
   opens = opens_spelled statements;
-  keeps = λ event world made began is spelled. after_event statements event world made spelled (happens statements event world made is);
+  keeps = λ event world made began is spelled. after_event statements event world made spelled (goes_by_kind statements event world made is);
 })

@@ -30,7 +30,8 @@ use Rattle.sheep_world.specs.Meets.{MeetsBeside}
 use Rattle.sheep_node.specs.RecoveryRange.{RecoversInRange}
 use Rattle.sheep_node.specs.OneWork.{HasOneWorkPerRequest}
 use Rattle.sheep_world.specs.BegunRequests.{RequestsWereBegun}
-use Rattle.sheep_world.specs.NodeCauses.{NodeCause, GuestAsks, RequestComes, ReplyComes, LossIsTold, EntryIsRead, EntryIsPut, RecoveryTicks, WorkIsRetried, GuestMayAsk, ReplyIsHere, input_of_cause, IsCause}
+use Rattle.sheep_world.specs.NodeCauses.{NodeCause, GuestAsks, RequestComes, ReplyComes, LossIsTold, EntryIsRead, EntryIsPut, RecoveryTicks, WorkIsRetried, ClientAsks, GuestMayAsk, ClientMayRead, ReplyIsHere, input_of_cause, IsCause}
+use Rattle.sheep_world.specs.ClientAsks.{next_ask_number}
 use Rattle.sheep_world.proofs.BegunRequestLaws.{new-begun}
 use Rattle.sheep_world.proofs.RecoveryMessages.{Other}
 use Rattle.sheep_world.proofs.NodeConditions.{reply_fits, reply_numbered}
@@ -95,6 +96,7 @@ StaysAt (EntryIsRead entry) number = Unit {0}
 StaysAt (EntryIsPut entry) number = Unit {0}
 StaysAt RecoveryTicks number = Unit {0}
 StaysAt WorkIsRetried number = Unit {0}
+StaysAt (ClientAsks req ask) number = Unit {0}
 
 -- what of the world a step of a node needs
 pub record IsReady (statements : List Statement) (world : World) (n : ℕ) (host : Host) : Type 0 where
@@ -103,6 +105,7 @@ pub record IsReady (statements : List Statement) (world : World) (n : ℕ) (host
   pub matches : MatchesHost n host (packets_of world.wire n)
   pub driven : HasOneWorkPerRequest host.node
   pub begun : RequestsWereBegun statements world
+  pub asked : tree.get host.node.requests (next_ask_number world) ≡ None
   pub range : RecoversInRange host.node
 
 pub numbers_left : (host : Host) → is_host_up host ≡ true → has_numbers host.node ≡ true
@@ -113,6 +116,12 @@ asked_new : (statements : List Statement) (world : World) (n : ℕ) (host : Host
     → GuestMayAsk statements world n host session req ask → IsReady statements world n host → tree.get host.node.requests req ≡ None
 asked_new statements world n host session req ask asked ready =
     new-begun statements session.number world ready.begun session req host asked.declared asked.next (ap (tree.get world.hosts) asked.gateway ∙ ready.there)
+
+-- and so is a client's
+read_new : (statements : List Statement) (world : World) (n : ℕ) (host : Host) (req : ℕ) (ask : Ask)
+    → ClientMayRead statements world host req ask → IsReady statements world n host → tree.get host.node.requests req ≡ None
+read_new statements world n host req ask may ready =
+    subst (λ (k : ℕ). tree.get host.node.requests k ≡ None) may.number ready.asked
 
 -- a reply that comes fits
 reply_fits_here : (statements : List Statement) (world : World) (n : ℕ) (host : Host) (name : MessageName) (from : NodeId) (rsp : PeerRsp)
@@ -133,6 +142,8 @@ sound_step statements world n host (EntryIsRead entry) next ready = (tt, ready.d
 sound_step statements world n host (EntryIsPut entry) first ready = (tt, ready.driven)
 sound_step statements world n host RecoveryTicks may ready = (may, ready.driven)
 sound_step statements world n host WorkIsRetried may ready = (tt, ready.driven)
+sound_step statements world n host (ClientAsks req ask) may ready =
+    (ap (λ (o : Option Request). not (is_some o)) (read_new statements world n host req ask may ready), ready.driven)
 
 -- a node waits for what it waited for
 same_asks : (node : Node) → Asking Any node node []
@@ -177,6 +188,8 @@ step_asks statements world n host (EntryIsPut entry) first ready requests = asks
 step_asks statements world n host RecoveryTicks may ready requests = recovered_asks host.node may (numbers_left host ready.up) ready.range
 step_asks statements world n host WorkIsRetried may ready requests = asking_by
     inputs.RetryTick host.node (sound_step statements world n host WorkIsRetried may ready) (same_asks host.node) refl (λ number status told. absurd told) requests
+step_asks statements world n host (ClientAsks req ask) may ready requests = asking_by
+    (inputs.Guest req 0 ask) host.node (sound_step statements world n host (ClientAsks req ask) may ready) (same_asks host.node) refl (λ number status told. absurd told) requests
 
 -- a node steps on what it may
 pub steps_on_may : (statements : List Statement) (world : World) (n : ℕ) (host : Host) (cause : NodeCause) → IsCause statements world n host cause
@@ -205,3 +218,12 @@ steps_on_may statements world n host (EntryIsPut entry) (later, first) ready bes
 }
 steps_on_may statements world n host RecoveryTicks may ready beside = record { numbers = numbers_left host ready.up; condition = may }
 steps_on_may statements world n host WorkIsRetried may ready beside = record { numbers = numbers_left host ready.up; condition = may }
+steps_on_may statements world n host (ClientAsks req ask) may ready beside = record {
+  numbers = numbers_left host ready.up;
+  condition = record {
+    room = beside.0;
+    number = ap (λ (o : Option Request). not (is_some o)) (read_new statements world n host req ask may ready);
+    member = may.member;
+    asked = beside.1;
+  };
+}

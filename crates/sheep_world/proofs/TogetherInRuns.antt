@@ -12,22 +12,23 @@ use Rattle.sheep_node.specs.State.{Node}
 use Rattle.sheep_node.specs.Step.{node_step}
 use Rattle.sheep_node.specs.Changes.{IsSoundStep}
 use Rattle.sheep_node.proofs.NumberChanges.{one_work_after, both_after_step, one_work_at_opening}
-use Rattle.sheep_world.specs.NodeCauses.{NodeCause, GuestAsks, RequestComes, ReplyComes, LossIsTold, EntryIsRead, EntryIsPut, RecoveryTicks, WorkIsRetried, input_of_cause, IsCause}
+use Rattle.sheep_world.specs.NodeCauses.{NodeCause, GuestAsks, RequestComes, ReplyComes, LossIsTold, EntryIsRead, EntryIsPut, RecoveryTicks, WorkIsRetried, ClientAsks, input_of_cause, IsCause}
 use Rattle.sheep_world.specs.World.{Host, World, is_host_up}
 use Rattle.sheep_world.specs.Opening as worlds
 use Rattle.sheep_world.specs.Opening.{format_entry}
-use Rattle.sheep_world.specs.Step.{EventOutcome, step}
+use Rattle.sheep_world.specs.Step.{EventOutcome}
 use Rattle.sheep_world.specs.WireMatch.{WireMatchesNodes}
 use Rattle.sheep_world.specs.OneWork.{IsSentInRange, NodesHaveOneWorkPerRequest, WorksAskInRange}
 use Rattle.sheep_node.specs.OneWork.{HasOneWorkPerRequest}
-use Rattle.sheep_world.specs.Began.{Began, IsInvariant}
+use Rattle.sheep_world.specs.Began.{Began, MakesMove, IsInvariant}
 use Rattle.sheep_world.specs.EventKinds.{outcome_of_step, log_after_return, EventKind, NodeStep, UntoldLoss, UnreadDelivery, NodeLoss, NodeLeave, NodeReweight, NodeJoin, NodeReturn, PhaseEnd}
 use Rattle.sheep_world.specs.HostChanges.{HostsKeep}
 use Rattle.sheep_world.specs.LogHolds.{MayGrow}
 use Rattle.sheep_world.specs.HoldsTogether.{MessagesAreInRange, HoldsTogether}
+use Rattle.sheep_world.proofs.AsksNumbers.{next_is_new}
 use Rattle.sheep_world.proofs.BegunRequestLaws.{were_begun}
 use Rattle.sheep_world.proofs.BegunWorlds.{goes_on, by_induction}
-use Rattle.sheep_world.proofs.EventInversion.{happens}
+use Rattle.sheep_world.proofs.ClientReads.{goes_by_kind}
 use Rattle.sheep_world.proofs.HostChangeLaws.{each_kept, each_opens}
 use Rattle.sheep_world.proofs.WireAtOpening.{opening-wired}
 use Rattle.sheep_world.proofs.ScriptControls.{controls-fit}
@@ -62,10 +63,11 @@ pub opening-together : (statements : List Statement) → GoTogether (worlds.init
 opening-together statements = (opening-wired statements, each_opens statements (HoldsTogether statements) Drives (driven_kept statements))
 
 -- each event keeps it
-pub together_kept : (statements : List Statement) (event : Event) (world : World) (made : EventOutcome) → step statements event world ≡ Some made
+pub together_kept : (statements : List Statement) (event : Event) (world : World) (made : EventOutcome)
+    → MakesMove statements event world made
     → HoldsTogether statements world → IsSentInRange made.world → GoTogether made.world
 together_kept statements event world made is holds requests = (
-  wired_after statements event world made holds (happens statements event world made is) requests,
+  wired_after statements event world made holds (goes_by_kind statements event world made is) requests,
   each_kept statements (HoldsTogether statements) Drives (driven_kept statements) event world made is holds holds.driven,
 )
 
@@ -76,6 +78,7 @@ module _ (statements : List Statement) (script : IsScript statements) (grows : (
     wired = together.0;
     driven = together.1;
     begun = were_begun statements world began;
+    asked = λ n host there. next_is_new statements script world began n host there;
     fit = controls-fit statements world script began;
     recoveries = recoveries_in_range statements script grows world began;
     messages = messages world began;
@@ -104,6 +107,8 @@ module _ (statements : List Statement) (script : IsScript statements) (grows : (
         subst (λ (m : EventOutcome). IsSentInRange m.world) is (ticks_in_range statements script grows world began n host there up may)
     by_cause n host WorkIsRetried there up caused is =
         no_tick (Some inputs.RetryTick) (ap (λ (m : EventOutcome). m.world.input) is) (λ same. absurd (cc (same)))
+    by_cause n host (ClientAsks req ask) there up caused is =
+        no_tick (Some (inputs.Guest req 0 ask)) (ap (λ (m : EventOutcome). m.world.input) is) (λ same. absurd (cc (same)))
 
     at_rest_sent : None ≡ made.world.input → IsSentInRange made.world
     at_rest_sent is = no_tick None is (λ same. absurd (cc (same)))
@@ -126,7 +131,7 @@ module _ (statements : List Statement) (script : IsScript statements) (grows : (
     opens = opening-together statements;
     keeps = λ event world made began is together. together_kept
         statements event world made is (holds_before world began together) (sent_after event world made began
-        (messages made.world (goes_on statements event world made began is)).sent (happens statements event world made is));
+        (messages made.world (goes_on statements event world made began is)).sent (goes_by_kind statements event world made is));
   }
 
   pub holds_together : (world : World) → Began statements world → HoldsTogether statements world

@@ -1,8 +1,13 @@
 -- What nodes have of disks is valid in each world whose log is one, and so what heads an outbox may stand in the log.
-use Rattle.std.proofs.Common.{◌≡◌, ◌≢◌, ℕ, zero, suc, ◌≤◌, List, [], ◌∷◌, ◌++◌, length, slice_get, All, Option, Some, None, subst}
+use Rattle.std.proofs.Common.{◌≡◌, ◌≢◌, ℕ, zero, suc, ◌≤◌, true, List, [], ◌∷◌, ◌++◌, length, slice_get, All, Option, Some, None, refl, sym, subst}
 use native.Mathlib.Omega.{arith}
+use Rattle.std.proofs.lemmas.Bool.{and_parts}
 use Rattle.std.proofs.lemmas.List.Elements.{All-cons, All-filter, All-from_get_or, All-get_or, All-nil, All-push}
 use Rattle.std.proofs.lemmas.Option.{get_or_from_slice_get, slice_get_within}
+use Rattle.object_id.specs.Policy.{IsPolicy}
+use Rattle.object_id.specs.Same.{is_same_policy}
+use Rattle.object_id.specs.declared.entry.VdiSpec.{VdiSpec}
+use Rattle.object_id.proofs.SameLemmas.{policies_decided}
 use Rattle.object_id.specs.Spec.{IsName, IsTag}
 use Rattle.object_id.specs.declared.entry.Entry.{Entry}
 use Rattle.object_id.specs.declared.entry.Entry.TheVariants.{Format, Join, Leave, Reweight, Recovered, Reserve, Publish, Clone, Snapshot, Delete, Lock, Unlock}
@@ -14,20 +19,28 @@ use Rattle.cluster_script.specs.Statements.{is_request, requests_of}
 use Rattle.cluster_script.specs.NumberedRequests.{request_at}
 use Rattle.cluster_script.specs.Settings.{tries_of}
 use Rattle.cluster_script.specs.Language.{IsPrintedName, IsPrintedTag, MayStand, EachMayStand, IsScript}
+use Rattle.peer_proto.specs.declared.work.ObjWork.{ObjWork}
+use Rattle.peer_proto.specs.Work.{oid_of, policy_of}
+use Rattle.peer_service.specs.State.{Peer, spec_of}
 use Rattle.sheep_node.specs.declared.ask.Ask.{Ask}
+use Rattle.sheep_node.specs.declared.ask.Ask.TheVariants as asks
 use Rattle.sheep_node.specs.declared.input.Input.TheVariants as inputs
 use Rattle.sheep_node.specs.State as nodes
+use Rattle.sheep_node.specs.State.{Node}
+use Rattle.sheep_node.specs.MayTests.{is_work_by_spec, is_object_ask, is_guest_ask}
 use Rattle.sheep_node.specs.May.{MayBeFirst}
 use Rattle.sheep_node.specs.ValidDisks.{IsValidAsk, IsValidInput, HasValidDisks}
+use Rattle.sheep_node.proofs.OutsideAskLaws.{known_spec}
 use Rattle.sheep_node.proofs.ValidSteps.{given}
 use Rattle.sheep_node.proofs.ValidLaws.{read_reservable, valid_disks_stay, valid_disks_at_opening}
 use Rattle.sheep_world.specs.World.{Host, World}
 use Rattle.sheep_world.specs.Opening.{format_entry}
 use Rattle.sheep_world.specs.Asking.{ask_of_statement}
 use Rattle.sheep_world.specs.MembershipChanges.{join_of, last_weight}
-use Rattle.sheep_world.specs.NodeCauses.{NodeCause, GuestAsks, RequestComes, ReplyComes, LossIsTold, EntryIsRead, EntryIsPut, RecoveryTicks, WorkIsRetried, input_of_cause, IsCause}
+use Rattle.sheep_world.specs.NodeCauses.{NodeCause, GuestAsks, RequestComes, ReplyComes, LossIsTold, EntryIsRead, EntryIsPut, RecoveryTicks, WorkIsRetried, ClientAsks, input_of_cause, IsCause}
 use Rattle.sheep_world.specs.EventKinds.{log_after_return}
 use Rattle.sheep_world.specs.HostChanges.{HostsKeep}
+use Rattle.sheep_world.specs.ClientAsks.{is_read_ask}
 use Rattle.sheep_world.specs.LogHolds.{LogHolds}
 
 -- ---- a log
@@ -105,22 +118,40 @@ request_valid statements script (suc place) line ask at is =
     (All-filter is_request CanStand statements (each_can_stand [] statements script)) at in
     asked_valid before line ask may is
 
+-- a client's work on an object is by the policy of its disk
+work_valid : (peer : Peer) (work : ObjWork) → All IsReservable peer.entries → is_object_ask peer work ≡ true → IsPolicy (policy_of work)
+work_valid peer work reservable asked = by_spec (spec_of peer (oid_of work)) refl asked
+  where
+    by_spec : (o : Option VdiSpec) → spec_of peer (oid_of work) ≡ o → is_work_by_spec work o ≡ true → IsPolicy (policy_of work)
+    by_spec None known is = absurd (cc (is))
+    by_spec (Some spec) known is =
+        let same : policy_of work ≡ spec.policy
+        = (policies_decided (policy_of work) spec.policy).0 (and_parts (is_same_policy (policy_of work) spec.policy) _ is).0 in
+        subst IsPolicy (sym same) (known_spec peer (oid_of work) spec reservable known).policy
+
+pub read_valid : (node : Node) (ask : Ask) → HasValidDisks node → is_guest_ask node ask ≡ true → is_read_ask ask ≡ true → IsValidAsk ask
+read_valid node (asks.Disk ask) valid asked reads = tt
+read_valid node (asks.Vdi ask) valid asked reads = absurd (cc (reads))
+read_valid node (asks.Object work) valid asked reads = work_valid node.peer work valid.read asked
+read_valid node (asks.Entry entry) valid asked reads = absurd (cc (reads))
+
 -- ---- each node
 
 abbrev pub IsValidHost : World → ℕ → Host → Type 0
 IsValidHost world n host = HasValidDisks host.node
 
 module _ (statements : List Statement) (script : IsScript statements) where
-  valid_cause : (world : World) (n : ℕ) (host : Host) (cause : NodeCause) → All IsReservable world.log → IsCause statements world n host cause
-      → IsValidInput (input_of_cause cause)
-  valid_cause world n host (GuestAsks session req ask) log asked = request_valid statements script req asked.line ask asked.stands asked.asks
-  valid_cause world n host (RequestComes name to request) log here = tt
-  valid_cause world n host (ReplyComes name from rsp) log here = tt
-  valid_cause world n host (LossIsTold name packet) log here = tt
-  valid_cause world n host (EntryIsRead entry) log next = got_is IsReservable world.log (length host.node.peer.entries) entry log next
-  valid_cause world n host (EntryIsPut entry) log first = tt
-  valid_cause world n host RecoveryTicks log may = tt
-  valid_cause world n host WorkIsRetried log may = tt
+  valid_cause : (world : World) (n : ℕ) (host : Host) (cause : NodeCause) → All IsReservable world.log → HasValidDisks host.node
+      → IsCause statements world n host cause → IsValidInput (input_of_cause cause)
+  valid_cause world n host (GuestAsks session req ask) log valid asked = request_valid statements script req asked.line ask asked.stands asked.asks
+  valid_cause world n host (RequestComes name to request) log valid here = tt
+  valid_cause world n host (ReplyComes name from rsp) log valid here = tt
+  valid_cause world n host (LossIsTold name packet) log valid here = tt
+  valid_cause world n host (EntryIsRead entry) log valid next = got_is IsReservable world.log (length host.node.peer.entries) entry log next
+  valid_cause world n host (EntryIsPut entry) log valid first = tt
+  valid_cause world n host RecoveryTicks log valid may = tt
+  valid_cause world n host WorkIsRetried log valid may = tt
+  valid_cause world n host (ClientAsks req ask) log valid may = read_valid host.node ask valid may.asks may.reads
 
   pub hosts_stay_valid : HostsKeep statements LogHolds IsValidHost
   hosts_stay_valid = record {
@@ -129,7 +160,7 @@ module _ (statements : List Statement) (script : IsScript statements) where
         (valid_disks_at_opening member.node (tries_of statements));
     stays = λ event world made h i n host so. so;
     steps = λ world n host cause i there up caused so.
-        valid_disks_stay (input_of_cause cause) host.node (valid_cause world n host cause (log_reservable world.log i.log) caused) so;
+        valid_disks_stay (input_of_cause cause) host.node (valid_cause world n host cause (log_reservable world.log i.log) so caused) so;
     fails = λ world n host i so. so;
     returns = λ world n host i there so.
         valid_disks_stay (inputs.Back (log_after_return statements n world)) host.node

@@ -31,7 +31,7 @@ use Rattle.sheep_world.specs.Step.{EventOutcome}
 use Rattle.sheep_world.specs.WireMatch.{WireMatchesNodes}
 use Rattle.sheep_world.specs.OneWork.{IsSentInRange}
 use Rattle.sheep_world.specs.HoldsTogether.{IsForHost, RepliesFit, HoldsTogether}
-use Rattle.sheep_world.specs.NodeCauses.{NodeCause, GuestAsks, RequestComes, ReplyComes, LossIsTold, EntryIsRead, EntryIsPut, RecoveryTicks, WorkIsRetried, input_of_cause, IsCause, RequestIsHere, wire_at_cause, is_up_among, wire_after_cause, host_with_node}
+use Rattle.sheep_world.specs.NodeCauses.{NodeCause, GuestAsks, RequestComes, ReplyComes, LossIsTold, EntryIsRead, EntryIsPut, RecoveryTicks, WorkIsRetried, ClientAsks, input_of_cause, IsCause, RequestIsHere, wire_at_cause, is_up_among, wire_after_cause, host_with_node}
 use Rattle.sheep_world.specs.EventKinds.{log_after_return, EventKind, NodeStep, UntoldLoss, UnreadDelivery, NodeLoss, NodeLeave, NodeReweight, NodeJoin, NodeReturn, PhaseEnd}
 use Rattle.sheep_world.specs.HostChanges.{host_after_step, host_after_return, joined_host}
 use Rattle.sheep_world.proofs.ReturningNodes.{no_sender, asked_by-renewed, stepped_renewed}
@@ -76,6 +76,7 @@ leaves_at statements world n host (EntryIsRead entry) next = nothing_leaves n wo
 leaves_at statements world n host (EntryIsPut entry) first = nothing_leaves n world.wire
 leaves_at statements world n host RecoveryTicks may = nothing_leaves n world.wire
 leaves_at statements world n host WorkIsRetried may = nothing_leaves n world.wire
+leaves_at statements world n host (ClientAsks req ask) may = nothing_leaves n world.wire
 
 -- ---- a node sends
 
@@ -231,6 +232,7 @@ module _ (statements : List Statement) (world : World) (n : ℕ) (host : Host) (
   step_each (EntryIsPut entry) caused replies requests = sent_each (EntryIsPut entry) caused requests
   step_each RecoveryTicks caused replies requests = sent_each RecoveryTicks caused requests
   step_each WorkIsRetried caused replies requests = sent_each WorkIsRetried caused requests
+  step_each (ClientAsks req ask) caused replies requests = sent_each (ClientAsks req ask) caused requests
 
 -- ---- each kind of event
 
@@ -252,6 +254,7 @@ module _ (statements : List Statement) (world : World) (before : HoldsTogether s
     matches = matches_at n (Some host) there;
     driven = before.driven n host there;
     begun = before.begun;
+    asked = before.asked n host there;
     range = before.recoveries n host there;
   }
 

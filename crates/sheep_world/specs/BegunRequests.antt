@@ -1,10 +1,10 @@
--- Which requests a node may have in every world of a run: those that sessions of its present incarnation have
+-- Which requests of the script a node may have in every world of a run: those that sessions of its present incarnation have
 -- begun, so that a session's next request is new to its gateway.
-use Rattle.std.specs.Prelude.{◌≡◌, ℕ, ◌<◌, List, Some, unwrap_or, slice_get}
+use Rattle.std.specs.Prelude.{◌≡◌, ℕ, ◌<◌, true, List, Some, is_some, unwrap_or, slice_get}
 use Rattle.std.specs.Ordering.{nat_cmp}
 use Rattle.std.specs.FinMap as tree
 use Rattle.cluster_script.specs.declared.statement.Statement.{Statement}
-use Rattle.cluster_script.specs.NumberedRequests.{numbers_of_session}
+use Rattle.cluster_script.specs.NumberedRequests.{request_at, numbers_of_session}
 use Rattle.cluster_script.specs.Sessions.{ScriptSession, session_numbered}
 use Rattle.sheep_node.specs.declared.course.Request.{Request}
 use Rattle.sheep_world.specs.declared.progress.SessionProgress.{SessionProgress}
@@ -28,10 +28,15 @@ pub record IsBegun (statements : List Statement) (guests : tree.FinMap nat_cmp S
   pub lived : session.incarnation ≡ incarnation
   pub begun : WasBegun statements guests session.number req
 
--- each request that the node in a host has is so
+-- the script has a request of this number
+abbrev pub IsOfScript : List Statement → ℕ → Type 0
+IsOfScript statements req = is_some (request_at statements req) ≡ true
+
+-- each request of the script that the node in a host has is so; a client's reads are requests of no script
 abbrev pub HasOnlyBegun : List Statement → tree.FinMap nat_cmp SessionProgress → ℕ → Host → Type 0
 HasOnlyBegun statements guests node host =
-    (req : ℕ) (request : Request) → tree.get host.node.requests req ≡ Some request → IsBegun statements guests node host.incarnation req
+    (req : ℕ) (request : Request) → tree.get host.node.requests req ≡ Some request → IsOfScript statements req
+    → IsBegun statements guests node host.incarnation req
 
 -- each node has only such requests
 abbrev pub AllHaveOnlyBegun : List Statement → tree.FinMap nat_cmp Host → tree.FinMap nat_cmp SessionProgress → Type 0

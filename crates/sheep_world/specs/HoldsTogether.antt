@@ -1,5 +1,6 @@
 -- What holds of a world by which nodes and wire stay together at the next event.
-use Rattle.std.specs.Prelude.{◌≡◌, ℕ, true, List, Some, Ok, IsTrue}
+use Rattle.std.specs.Prelude.{◌≡◌, ℕ, true, List, Some, None, Ok, IsTrue}
+use Rattle.std.specs.FinMap as tree
 use Rattle.object_id.specs.declared.node.NodeId.{NodeId}
 use Rattle.cluster_script.specs.declared.statement.Statement.{Statement}
 use Rattle.peer_proto.specs.declared.ask.PeerReq.{PeerReq}
@@ -14,6 +15,7 @@ use Rattle.sheep_world.specs.OneWork.{NodesHaveOneWorkPerRequest, WorksAskInRang
 use Rattle.sheep_world.specs.Ranges.{RecoveriesAreInRange}
 use Rattle.sheep_world.specs.WireMatch.{WireMatchesNodes}
 use Rattle.sheep_world.specs.BegunRequests.{RequestsWereBegun}
+use Rattle.sheep_world.specs.ClientAsks.{next_ask_number}
 use Rattle.sheep_world.specs.ControlsToCome.{ControlsFit}
 
 -- a request is in the wire, can be read, and goes to the up node in a host
@@ -37,12 +39,18 @@ pub record MessagesAreInRange (world : World) : Type 0 where
   pub sent : WorksAskInRange world
   pub replies : RepliesFit world
 
--- nodes and wire go together, and so do works and requests; the requests were begun, the controls to come fit, recoveries are in range, and
--- so are messages
+-- no node has a request of the number of the client's next one
+abbrev pub NextAskIsNew : World → Type 0
+NextAskIsNew world = (node : ℕ) (host : Host) → host_at node world ≡ Some host
+    → tree.get host.node.requests (next_ask_number world) ≡ None
+
+-- nodes and wire go together, and so do works and requests; the script's requests were begun, the client's next is new, the controls to
+-- come fit, recoveries are in range, and so are messages
 pub record HoldsTogether (statements : List Statement) (world : World) : Type 0 where
   pub wired : WireMatchesNodes world
   pub driven : NodesHaveOneWorkPerRequest world
   pub begun : RequestsWereBegun statements world
+  pub asked : NextAskIsNew world
   pub fit : ControlsFit statements world
   pub recoveries : RecoveriesAreInRange world
   pub messages : MessagesAreInRange world

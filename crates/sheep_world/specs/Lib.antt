@@ -28,6 +28,8 @@ pub mod NodeCauses
 pub mod EventKinds
 pub mod HostChanges
 pub mod Began
+pub mod AsksOfClients
+pub mod AsksAbsent
 pub mod LogFronts
 pub mod ControlsToCome
 pub mod LogHolds

@@ -4,7 +4,7 @@ use Rattle.peer_service.specs.Serve.{MayServe}
 use Rattle.sheep_node.specs.State.{Node, session_at}
 use Rattle.sheep_node.specs.May.{has_room_for, IsGuestAsk, MayRead}
 use Rattle.sheep_world.specs.NodeCauses.{NodeCause, GuestAsks, RequestComes, ReplyComes, LossIsTold, EntryIsRead, EntryIsPut, RecoveryTicks}
-use Rattle.sheep_world.specs.NodeCauses.{WorkIsRetried}
+use Rattle.sheep_world.specs.NodeCauses.{WorkIsRetried, ClientAsks}
 
 -- what a node must meet beside what was found: room for a guest's request, which asks what it may; a peer's request that may be served;
 -- an entry that may be read
@@ -17,3 +17,4 @@ MeetsBeside (EntryIsRead entry) node = MayRead node.peer.entries entry
 MeetsBeside (EntryIsPut entry) node = Unit {0}
 MeetsBeside RecoveryTicks node = Unit {0}
 MeetsBeside WorkIsRetried node = Unit {0}
+MeetsBeside (ClientAsks req ask) node = IsTrue (has_room_for ask (session_at 0 node)) × IsGuestAsk node ask

@@ -22,6 +22,7 @@ use Rattle.sheep_node.specs.declared.input.Input.TheVariants as inputs
 use Rattle.sheep_node.specs.State.{Node}
 use Rattle.sheep_node.specs.May.{may_tick, has_work_to_retry}
 use Rattle.sheep_node.specs.LogReading.{is_epoch_member}
+use Rattle.sheep_node.specs.MayTests.{is_guest_ask}
 use Rattle.sheep_node.specs.Step.{node_step}
 use Rattle.message_wire.specs.declared.name.MessageName.{MessageName}
 use Rattle.message_wire.specs.declared.packet.Packet.{Packet}
@@ -30,6 +31,7 @@ use Rattle.message_wire.specs.Message.{name_cmp}
 use Rattle.sheep_world.specs.declared.progress.SessionProgress.{SessionProgress}
 use Rattle.sheep_world.specs.World.{Host, World, is_host_up, message_at, progress_at}
 use Rattle.sheep_world.specs.declared.progress.ClientAsk.{ClientAsk}
+use Rattle.sheep_world.specs.ClientAsks.{next_ask_number, is_answered, is_read_ask}
 use Rattle.sheep_world.specs.Conditions.{next_request, may_begin_request, may_go}
 use Rattle.sheep_world.specs.Asking.{ask_of_statement}
 use Rattle.sheep_world.specs.Messages.{losses_after_loss, wire_with_reply}
@@ -56,6 +58,8 @@ pub data NodeCause : Type 0 where
   RecoveryTicks : NodeCause
   -- a work is tried again
   WorkIsRetried : NodeCause
+  -- a client reads an object, under this number; this is no event
+  ClientAsks : ℕ → Ask → NodeCause
 
 -- the input that the node steps on
 abbrev pub input_of_cause : NodeCause → Input
@@ -67,8 +71,9 @@ input_of_cause (EntryIsRead entry) = inputs.LogEntry entry
 input_of_cause (EntryIsPut entry) = inputs.Put
 input_of_cause RecoveryTicks = inputs.RecoverTick
 input_of_cause WorkIsRetried = inputs.RetryTick
+input_of_cause (ClientAsks req ask) = inputs.Guest req 0 ask
 
--- the event by which it does
+-- the event by which it does. A client's read is none; what it makes is told of as what a retry of its node would have made
 abbrev pub event_of_cause : ℕ → NodeCause → Event
 event_of_cause n (GuestAsks session req ask) = events.Guest session.number
 event_of_cause n (RequestComes name to request) = events.Deliver name.sender name.number
@@ -79,6 +84,7 @@ event_of_cause n (EntryIsRead entry) = events.LogNext (record { 0 = n })
 event_of_cause n (EntryIsPut entry) = events.Put (record { 0 = n })
 event_of_cause n RecoveryTicks = events.RecoverTick (record { 0 = n })
 event_of_cause n WorkIsRetried = events.RetryTick (record { 0 = n })
+event_of_cause n (ClientAsks req ask) = events.RetryTick (record { 0 = n })
 
 -- a session's next request may begin at its gateway
 pub record GuestMayAsk (statements : List Statement) (world : World) (n : ℕ) (host : Host) (session : ScriptSession)
@@ -93,6 +99,16 @@ pub record GuestMayAsk (statements : List Statement) (world : World) (n : ℕ) (
   pub stands : request_at statements req ≡ Some line
   pub own : session_of line ≡ Some session.number
   pub asks : ask_of_statement line ≡ Some ask
+
+-- a client may ask this read of a node that is up: the node is a member by what it has read, and may be asked this, a read of an object by
+-- its id; the client's last read has its reply; and this is its next number, of which the script has no request
+pub record ClientMayRead (statements : List Statement) (world : World) (host : Host) (req : ℕ) (ask : Ask) : Type 0 where
+  pub number : next_ask_number world ≡ req
+  pub none : request_at statements req ≡ None
+  pub answered : is_answered world ≡ true
+  pub member : is_epoch_member host.node ≡ true
+  pub asks : is_guest_ask host.node ask ≡ true
+  pub reads : is_read_ask ask ≡ true
 
 -- a request in the wire goes to the node, and can be read
 pub record RequestIsHere (world : World) (n : ℕ) (name : MessageName) (to : NodeId) (request : PeerReq) : Type 0 where
@@ -124,6 +140,7 @@ IsCause statements world n host (EntryIsRead entry) = slice_get world.log (lengt
 IsCause statements world n host (EntryIsPut entry) = (later : List Entry) × (host.node.outbox ≡ entry ∷ later)
 IsCause statements world n host RecoveryTicks = may_tick host.node ≡ true
 IsCause statements world n host WorkIsRetried = has_work_to_retry host.node ≡ true
+IsCause statements world n host (ClientAsks req ask) = ClientMayRead statements world host req ask
 
 -- the sessions, as the step finds them: a request that begins is counted
 abbrev pub progress_at_cause : NodeCause → World → tree.FinMap nat_cmp SessionProgress
@@ -137,6 +154,19 @@ progress_at_cause (EntryIsRead entry) world = world.guests
 progress_at_cause (EntryIsPut entry) world = world.guests
 progress_at_cause RecoveryTicks world = world.guests
 progress_at_cause WorkIsRetried world = world.guests
+progress_at_cause (ClientAsks req ask) world = world.guests
+
+-- the client's last ask, as the step finds it: one that begins has no reply
+abbrev pub asked_at_cause : NodeCause → Option ClientAsk → Option ClientAsk
+asked_at_cause (GuestAsks session req ask) asked = asked
+asked_at_cause (RequestComes name to request) asked = asked
+asked_at_cause (ReplyComes name from rsp) asked = asked
+asked_at_cause (LossIsTold name packet) asked = asked
+asked_at_cause (EntryIsRead entry) asked = asked
+asked_at_cause (EntryIsPut entry) asked = asked
+asked_at_cause RecoveryTicks asked = asked
+asked_at_cause WorkIsRetried asked = asked
+asked_at_cause (ClientAsks req ask) asked = Some (record { req = req; reply = None })
 
 -- the wire, as the step finds it: what the node gets or is told of is gone
 abbrev pub wire_at_cause : NodeCause → tree.FinMap name_cmp Packet → tree.FinMap name_cmp Packet
@@ -148,6 +178,7 @@ wire_at_cause (EntryIsRead entry) wire = wire
 wire_at_cause (EntryIsPut entry) wire = wire
 wire_at_cause RecoveryTicks wire = wire
 wire_at_cause WorkIsRetried wire = wire
+wire_at_cause (ClientAsks req ask) wire = wire
 
 -- the losses that the step leaves
 abbrev pub losses_after_cause : NodeCause → World → ℕ
@@ -159,6 +190,7 @@ losses_after_cause (EntryIsRead entry) world = world.losses
 losses_after_cause (EntryIsPut entry) world = world.losses
 losses_after_cause RecoveryTicks world = world.losses
 losses_after_cause WorkIsRetried world = world.losses
+losses_after_cause (ClientAsks req ask) world = world.losses
 
 -- the log that the step leaves
 abbrev pub log_after_cause : NodeCause → List Entry → List Entry
@@ -170,6 +202,7 @@ log_after_cause (EntryIsRead entry) log = log
 log_after_cause (EntryIsPut entry) log = log ++ entry ∷ []
 log_after_cause RecoveryTicks log = log
 log_after_cause WorkIsRetried log = log
+log_after_cause (ClientAsks req ask) log = log
 
 -- whether a node among these is up
 abbrev pub is_up_among : tree.FinMap nat_cmp Host → ℕ → Bool
@@ -186,6 +219,7 @@ wire_after_cause (EntryIsRead entry) hosts node wire = wire
 wire_after_cause (EntryIsPut entry) hosts node wire = wire
 wire_after_cause RecoveryTicks hosts node wire = wire
 wire_after_cause WorkIsRetried hosts node wire = wire
+wire_after_cause (ClientAsks req ask) hosts node wire = wire
 
 -- a host with the node as it is then
 abbrev pub host_with_node : Host → Node → Host
@@ -204,7 +238,7 @@ world_after_cause statements n host cause world =
       phase = world.phase;
       controls = world.controls;
       losses = losses_after_cause cause world;
-      asked = option_map (ask_after_replies so_far.outputs.replies) world.asked;
+      asked = option_map (ask_after_replies so_far.outputs.replies) (asked_at_cause cause world.asked);
       input = Some (input_of_cause cause);
       outputs = so_far.outputs;
     }
@@ -220,3 +254,4 @@ history_of_cause statements (EntryIsRead entry) before after = replies_grown sta
 history_of_cause statements (EntryIsPut entry) before after = entry_adds before.log entry
 history_of_cause statements RecoveryTicks before after = replies_grown statements before None after
 history_of_cause statements WorkIsRetried before after = replies_grown statements before None after
+history_of_cause statements (ClientAsks req ask) before after = replies_grown statements before None after

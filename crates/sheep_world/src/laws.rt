@@ -1,5 +1,5 @@
 //! Laws of the definitions, for the proofs of the layers above: each is the contract of a function that does nothing.
-ghost use Rattle.std.specs.Prelude.{◌≡◌, ◌≢◌, ◌+◌, ◌/◌, map, flat_map, cond, ◌<◌, ℕ, true, false, List, [], ◌∷◌, ◌++◌, Contains, length};
+ghost use Rattle.std.specs.Prelude.{◌≡◌, ◌≢◌, ◌+◌, ◌/◌, map, flat_map, cond, ◌<◌, ◌↔◌, ℕ, true, false, List, [], ◌∷◌, ◌++◌, Contains, length};
 ghost use Rattle.std.specs.Prelude.{slice_get, Some, None, Ok, is_some, Bool, Option, not, ◌&&◌};
 ghost use Rattle.std.specs.FinMap as tree;
 ghost use Rattle.std.specs.Prelude.{All, ◌^◌, ◌≤◌};
@@ -48,7 +48,7 @@ ghost use Rattle.sheep_world.specs.Step.{EventOutcome, step};
 ghost use Rattle.sheep_world.specs.NodeCauses.{NodeCause, input_of_cause, IsCause};
 ghost use Rattle.sheep_world.specs.EventKinds.{EventKind};
 ghost use Rattle.sheep_world.specs.HoldsTogether.{MessagesAreInRange, HoldsTogether};
-ghost use Rattle.sheep_world.specs.Began.{Began};
+ghost use Rattle.sheep_world.specs.Began.{Began, MakesMove};
 ghost use Rattle.sheep_world.specs.LogFronts.{AllReadTheLog};
 ghost use Rattle.sheep_world.specs.ControlsToCome.{ControlsFit};
 ghost use Rattle.sheep_world.specs.LogHolds.{MayGrow, LogHolds};
@@ -58,10 +58,15 @@ ghost use Rattle.sheep_world.specs.WireMatch.{WireMatchesNodes};
 ghost use Rattle.sheep_world.specs.Ranges.{RecoveriesAreInRange};
 ghost use Rattle.sheep_world.specs.SpelledWire.{PacketsAreSpelled};
 ghost use Rattle.sheep_node.specs.WorkRange.{IsWorkInRange};
-ghost use Rattle.sheep_world.specs.BegunRequests.{RequestsWereBegun};
+ghost use Rattle.sheep_world.specs.AsksAbsent.{BeganWithoutAsks};
+ghost use Rattle.sheep_world.specs.BegunRequests.{IsBegun, RequestsWereBegun};
+ghost use Rattle.sheep_node.specs.declared.course.Request.{Request};
 ghost use Rattle.sheep_world.specs.OneWork.{NodesHaveOneWorkPerRequest, IsSentInRange, IsNewRequest};
-ghost use Rattle.sheep_world.specs.RunsWithAsks.{Happens, Asks, next_move, run_with_asks, BeganWithAsks};
-ghost use Rattle.sheep_world.specs.ClientAsks.{next_ask_number, answer_of, may_client_ask, may_be_asked};
+ghost use Rattle.sheep_world.specs.RunsWithAsks.{Happens, Asks, made_by, next_move, run_with_asks};
+ghost use Rattle.sheep_world.specs.AsksOfClients.{ClientsAsk};
+ghost use Rattle.sheep_world.specs.NodeCauses.{ClientMayRead};
+ghost use Rattle.sheep_node.specs.SessionQueues.{CommandsAreAlone};
+ghost use Rattle.sheep_world.specs.ClientAsks.{next_ask_number, answer_of, may_client_ask, may_be_asked, is_read_ask, ReadsAnObject};
 ghost use Rattle.sheep_world.specs.ClientSteps.{ask_begun, ask_effect, brings_answers, next_driven, world_driven};
 ghost use Rattle.sheep_world.specs.NodeSteps.{node_stepped};
 ghost use Rattle.sheep_node.specs.declared.check_write.CheckWrite.{CheckWrite};
@@ -141,7 +146,7 @@ pub fn nodes_and_wire_stay_together()
     ensures opening { (statements : List Statement)
         → WireMatchesNodes (initial_world statements) × NodesHaveOneWorkPerRequest (initial_world statements) }
     ensures kept { (statements : List Statement) (event : Event) (world : World) (made : EventOutcome)
-        → step statements event world ≡ Some made → HoldsTogether statements world → IsSentInRange made.world
+        → MakesMove statements event world made → HoldsTogether statements world → IsSentInRange made.world
         → WireMatchesNodes made.world × NodesHaveOneWorkPerRequest made.world }
     ensures began { (statements : List Statement) → IsScript statements
         → ((world : World) → Began statements world → MayGrow world)
@@ -181,10 +186,13 @@ pub fn each_event_is_of_a_kind()
         → step statements event world ≡ Some made → EventKind statements event world made }
 {}
 
-/// In each world of a run a request that a node has is one that a session has begun whose gateway the node is, in its present incarnation.
-/// So the next request of a session is new to its gateway.
+/// In each world of a run a request of the script that a node has is one that a session has begun whose gateway the node is, in its present
+/// incarnation; where no client asks, each request that it has is. So the next request of a session is new to its gateway.
 pub fn requests_were_begun()
     ensures began { (statements : List Statement) (world : World) → Began statements world → RequestsWereBegun statements world }
+    ensures without_asks { (statements : List Statement) (world : World) → BeganWithoutAsks statements world → (node : ℕ) (host : Host)
+        → host_at node world ≡ Some host → (req : ℕ) (request : Request) → tree.get host.node.requests req ≡ Some request
+        → IsBegun statements world.guests node host.incarnation req }
     ensures new { (statements : List Statement) (session : ℕ) (world : World)
         → RequestsWereBegun statements world → IsNewRequest statements session world }
 {}
@@ -255,14 +263,40 @@ pub fn a_small_world_worked_out()
     ensures { enabled_events small_script (initial_world small_script) ≡ events.Guest 1 ∷ [] }
 {}
 
-/// A run of events is a run with asks of these events, so each world that a run reaches is reached with asks too; an ask adds nothing
-/// to the history.
+/// A run of events is a run with asks of these events, so each world that a run of events reaches is reached; an ask adds nothing to the
+/// history; and where it may be made, it is made under a number of which the script has no request, as the client's next number always is.
 pub fn asks_stand_between_the_events_of_a_run()
     ensures events { (statements : List Statement) (events : List Event)
         → run_with_asks statements (map Happens events) ≡ run statements events }
-    ensures began { (statements : List Statement) (world : World) → Began statements world → BeganWithAsks statements world }
+    ensures began { (statements : List Statement) (events : List Event) (moment : Moment) → run statements events ≡ Some moment
+        → Began statements moment.world }
+    ensures number { (statements : List Statement) (world : World) → IsScript statements → Began statements world
+        → request_at statements (next_ask_number world) ≡ None }
     ensures silent { (statements : List Statement) (node : NodeId) (ask : Ask) (moment after : Moment)
         → next_move statements (Asks node ask) moment ≡ Some after → after.history ≡ moment.history }
+{}
+
+/// A client's read is made in a run exactly where `World::ask` takes it, and makes what that makes; it adds nothing to the history. A client
+/// reads only objects that it names by their ids, and may read each of these so.
+pub fn a_clients_read_is_made_as_asked()
+    ensures made { (statements : List Statement) (world : World) (node : NodeId) (ask : Ask) → IsScript statements
+        → Began statements world → may_client_ask node.0 world ≡ true → may_be_asked ask node.0 world ≡ true → is_read_ask ask ≡ true
+        → made_by statements (Asks node ask) world ≡ Some (record { world = ask_effect node.0 ask world; grown = [] }) }
+    ensures taken { (statements : List Statement) (world : World) (node : NodeId) (ask : Ask) (made : EventOutcome)
+        → made_by statements (Asks node ask) world ≡ Some made
+        → (may_client_ask node.0 world ≡ true) × (may_be_asked ask node.0 world ≡ true) × (is_read_ask ask ≡ true)
+        × (made.world ≡ ask_effect node.0 ask world) }
+    ensures reads { (ask : Ask) → (is_read_ask ask ≡ true) ↔ ReadsAnObject ask }
+{}
+
+/// In each world of a run session 0 is the client's at each node: its requests are reads, with numbers above those of a script's; one node
+/// has each at most, and a node that isn't lost has the last ask alone, while that has no reply. So a node of which a client may read may
+/// step on that, where each command is alone in its session.
+pub fn clients_ask_one_at_a_time()
+    ensures asks { (statements : List Statement) → IsScript statements → (world : World) → Began statements world → ClientsAsk world }
+    ensures may { (statements : List Statement) (world : World) → ClientsAsk world → (node : ℕ) (host : Host)
+        → host_at node world ≡ Some host → is_host_up host ≡ true → (req : ℕ) (ask : Ask)
+        → ClientMayRead statements world host req ask → CommandsAreAlone host.node → May (inputs.Guest req 0 ask) host.node }
 {}
 
 /// A client's ask is the step that it would be with any script that has no request of its number: its reply is told to no session.

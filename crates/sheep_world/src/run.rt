@@ -51,7 +51,7 @@ impl Run {
         }
     }
 
-    /// Goes on with an event, and what it added to the history. Out of memory nothing more is said of the run.
+    /// MakesMove on with an event, and what it added to the history. Out of memory nothing more is said of the run.
     pub fn push(&mut self, event: Event, grown: HistList) -> Result<(), NoMemory>
         ensures { OnOk result (self.new
             ≡ record { events = self.old.events ++ event ∷ []; history = self.old.history ++ grown }) }

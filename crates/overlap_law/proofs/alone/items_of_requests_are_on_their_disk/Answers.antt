@@ -4,7 +4,7 @@ use Rattle.overlap_law.proofs.alone.items_of_requests_are_on_their_disk.Goals as
 
 pub returns : goal.returns
 returns c = record {
-  in_run = λ script events moment range ran. on_their_disk-in_run script range events moment ran;
-  in_step = λ script events start stepping so_far range ran is by leads req request got opened at.
-      on_disk_in_step script range events start ran stepping is by so_far leads req request got opened at;
+  in_run = λ script moves moment range ran. on_their_disk-in_run script range moves moment ran;
+  in_step = λ script moves start stepping so_far range ran is by leads req request got opened at.
+      on_disk_in_step script range moves start ran stepping is by so_far leads req request got opened at;
 }

@@ -8,7 +8,7 @@ use Rattle.overlap_law.proofs.NoneBehind.{none_begins}
 use Rattle.overlap_law.proofs.alone.no_attempt_begins_behind_a_write.Goals as goal
 
 pub returns : goal.returns
-returns c = λ script events start before after range ran trail change attempt grows n host at_host up req request opened payload stage piece
+returns c = λ script moves start before after range ran trail change attempt grows n host at_host up req request opened payload stage piece
     one rest front offset there at course cut behind object.
     let got : slice_get after.past.attempts (length before.past.attempts) ≡ Some attempt
     = ap (λ (all : List AttemptRecord). slice_get all (length before.past.attempts)) grows ∙ got_last before.past.attempts attempt in
@@ -18,7 +18,7 @@ returns c = λ script events start before after range ran trail change attempt g
     = slice_get_within before.past.attempts (length before.past.attempts) w.was w.at in
     absurd (omega (arith, within)))
     (λ (o : IsOpened script start after attempt).
-    none_begins script range events start before after ran trail change n host at_host up req request there opened at payload stage piece
+    none_begins script range moves start before after ran trail change n host at_host up req request there opened at payload stage piece
     rest
     course offset front cut one behind attempt o object)
-    (come_from script range start (began-with_past script events start ran) change (length before.past.attempts) attempt got)
+    (come_from script range start (began-with_past script moves start ran) change (length before.past.attempts) attempt got)

@@ -8,7 +8,7 @@ use Rattle.overlap_law.proofs.NoRecoveredDue.{began-with_past}
 use Rattle.overlap_law.proofs.alone.only_a_check_writes_its_disk.Goals as goal
 
 pub returns : goal.returns
-returns c = λ script events start before after range ran trail change attempt grows n host at_host up req index request opened check there at
+returns c = λ script moves start before after range ran trail change attempt grows n host at_host up req index request opened check there at
     course few object.
     let got : slice_get after.past.attempts (length before.past.attempts) ≡ Some attempt
     = ap (λ (all : List AttemptRecord). slice_get all (length before.past.attempts)) grows ∙ got_last before.past.attempts attempt in
@@ -18,6 +18,6 @@ returns c = λ script events start before after range ran trail change attempt g
     = slice_get_within before.past.attempts (length before.past.attempts) w.was w.at in
     absurd (omega (arith, within)))
     (λ (o : IsOpened script start after attempt).
-    check_begins_it script range events start before after ran trail change n host at_host up req index request there opened at check course
+    check_begins_it script range moves start before after ran trail change n host at_host up req index request there opened at check course
     few attempt o object)
-    (come_from script range start (began-with_past script events start ran) change (length before.past.attempts) attempt got)
+    (come_from script range start (began-with_past script moves start ran) change (length before.past.attempts) attempt got)

@@ -5,6 +5,6 @@ use Rattle.overlap_law.proofs.WrittenAlone.{alone_outcomes}
 use Rattle.overlap_law.proofs.alone.outcomes_of_what_is_written_are_its_bytes.Goals as goal
 
 pub returns : goal.returns
-returns c = λ script events start moment range ran trail vid payload piece is unit inside.
+returns c = λ script moves start moment range ran trail vid payload piece is unit inside.
     alone_outcomes moment.world.hosts moment.past.attempts
-    (on_the_way script IsTied (kept_tied script range) events start moment ran trail).fates.whole vid payload piece is unit inside
+    (on_the_way script IsTied (kept_tied script range) moves start moment ran trail).fates.whole vid payload piece is unit inside

@@ -9,8 +9,8 @@ use Rattle.overlap_law.proofs.WholeInRuns.{whole-on_the_way}
 use Rattle.overlap_law.proofs.bytes.copies_stay_of_attempts.Goals as goal
 
 pub returns : goal.returns
-returns c = λ script events start before after live range is trail change told copies.
-    copies_after script range start before after (began-with_past script events start is) change live
-    (on_the_way script AreShaped (kept_shaped script range) events start before is trail)
-    (on_the_way script HasMakersOfAttempts (kept_makers script range) events start before is trail)
-    (whole-on_the_way script range events start before is trail) told copies
+returns c = λ script moves start before after live range is trail change told copies.
+    copies_after script range start before after (began-with_past script moves start is) change live
+    (on_the_way script AreShaped (kept_shaped script range) moves start before is trail)
+    (on_the_way script HasMakersOfAttempts (kept_makers script range) moves start before is trail)
+    (whole-on_the_way script range moves start before is trail) told copies

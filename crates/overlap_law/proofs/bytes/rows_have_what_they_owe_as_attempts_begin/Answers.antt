@@ -11,13 +11,13 @@ use Rattle.overlap_law.proofs.StoodNodes.{TheUpHaveStood, kept_stood}
 use Rattle.overlap_law.proofs.bytes.rows_have_what_they_owe_as_attempts_begin.Goals as goal
 
 pub returns : goal.returns
-returns c = λ script events start stepping so_far next live good range is stepped by within trail good_live ordered placed begun since.
+returns c = λ script moves start stepping so_far next live good range is stepped by within trail good_live ordered placed begun since.
     let after : MomentWithPast = moment_in_step script stepping start next in
     let way = moments.Then trail (moments.StepGoesOn stepping so_far next stepped by within) in
-    let holds : RowsHold after = on_the_way script RowsHold (kept_rows script range) events start after is way in
+    let holds : RowsHold after = on_the_way script RowsHold (kept_rows script range) moves start after is way in
     let stood : TheUpHaveStood after.world.log after.world.hosts
-    = on_the_way script (λ (moment : MomentWithPast). TheUpHaveStood moment.world.log moment.world.hosts) (kept_stood script range) events
+    = on_the_way script (λ (moment : MomentWithPast). TheUpHaveStood moment.world.log moment.world.hosts) (kept_stood script range) moves
     start after is way in
-    let have = on_the_way script (Have script range) (kept_messages script range) events start after is way in
-    since_goes_on script range start (began-with_past script events start is) stepping stepped by so_far next within live good good_live
+    let have = on_the_way script (Have script range) (kept_messages script range) moves start after is way in
+    since_goes_on script range start (began-with_past script moves start is) stepping stepped by so_far next within live good good_live
     holds.shaped holds.tied stood holds.sound holds.turns have ordered placed begun since

@@ -14,11 +14,11 @@ use Rattle.overlap_law.proofs.StayingRows.{RowsHold, kept_rows}
 use Rattle.overlap_law.proofs.bytes.rows_have_what_they_owe_as_entries_are_read.Goals as goal
 
 pub returns : goal.returns
-returns c = λ script events start n host entry steps good range is reads stepped placed since.
-    let began = began-with_past script events start is in
+returns c = λ script moves start n host entry steps good range is reads stepped placed since.
+    let began = began-with_past script moves start is in
     let own : IsStepping script start.world (record { n = n; host = host; cause = EntryIsRead entry })
     = subst (IsStepping script start.world) reads stepped in
-    let holds : RowsHold start = run-kept script RowsHold (kept_rows script range) events start is in
+    let holds : RowsHold start = run-kept script RowsHold (kept_rows script range) moves start is in
     let change = moments.StepBegins (record { n = n; host = host; cause = EntryIsRead entry }) own tt in
     let after : MomentWithPast
     = moment_in_step script (record { n = n; host = host; cause = EntryIsRead entry }) start

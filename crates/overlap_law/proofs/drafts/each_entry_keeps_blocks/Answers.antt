@@ -4,7 +4,7 @@ use Rattle.overlap_law.proofs.PlacesKeepBlocks.{entries_keep-by_tests}
 use Rattle.overlap_law.proofs.drafts.each_entry_keeps_blocks.Goals as goal
 
 pub returns : goal.returns
-returns c = λ script events event start end before after range run happens trail change left.
-    entries_keep-by_tests script range events event start end before after
+returns c = λ script moves move start end before after range run happens trail change left.
+    entries_keep-by_tests script range moves move start end before after
     (record { run = run; happens = happens; behind = trail; change = change; left = left }) (good_id_at end)
-    (test_of_end script event start end happens left)
+    (test_of_end script move start end happens left)

@@ -3,6 +3,6 @@ use Rattle.overlap_law.proofs.drafts.requests_and_commands_are_kept.Goals as goa
 
 pub returns : goal.returns
 returns c = record {
-  drawn = λ script events moment range is. (courses_kept-in_run script range events moment is).drawn;
-  group = λ script events moment range is. courses_kept-in_run script range events moment is;
+  drawn = λ script moves moment range is. (courses_kept-in_run script range moves moment is).drawn;
+  group = λ script moves moment range is. courses_kept-in_run script range moves moment is;
 }

@@ -2,4 +2,4 @@ use Rattle.overlap_law.proofs.FactsOfRuns.{gateways-in_run}
 use Rattle.overlap_law.proofs.facts.lost_gateways_are_fenced.Goals as goal
 
 pub returns : goal.returns
-returns c = λ script range events moment is. gateways-in_run script range events moment is
+returns c = λ script range moves moment is. gateways-in_run script range moves moment is

@@ -4,6 +4,6 @@ use Rattle.overlap_law.proofs.history.creates_are_of_their_pieces.Goals as goal
 
 pub returns : goal.returns
 returns c = record {
-  pieces = λ script events start moment range is trail. creates_of_pieces script range events start moment is trail;
-  bytes = λ script events start moment range is trail. created-in_run script range events start moment is trail;
+  pieces = λ script moves start moment range is trail. creates_of_pieces script range moves start moment is trail;
+  bytes = λ script moves start moment range is trail. created-in_run script range moves start moment is trail;
 }

@@ -3,7 +3,7 @@ use Rattle.overlap_law.proofs.inodes.inodes_are_as_the_tables_say.Goals as goal
 
 pub returns : goal.returns
 returns c = record {
-  in_run = λ script events moment range is. inodes-in_run script range events moment is;
-  on_the_way = λ script events event start moment end range is happens trail left.
-      inodes-on_the_way script range events event start end is happens trail left;
+  in_run = λ script moves moment range is. inodes-in_run script range moves moment is;
+  on_the_way = λ script moves move start moment end range is happens trail left.
+      inodes-on_the_way script range moves move start end is happens trail left;
 }

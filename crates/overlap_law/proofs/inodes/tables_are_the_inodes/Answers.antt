@@ -3,13 +3,13 @@ use Rattle.overlap_law.proofs.TablesKept.{table-in_run, frozen-in_run, tables_ke
 use Rattle.overlap_law.proofs.inodes.tables_are_the_inodes.Goals as goal
 
 pub returns-clause-created : goal.returns-clause-created
-returns-clause-created c = λ script events moment range is. open_inodes script range events moment is
+returns-clause-created c = λ script moves moment range is. open_inodes script range moves moment is
 
 pub returns-clause-table : goal.returns-clause-table
-returns-clause-table c = λ script events moment range is. table-in_run script range events moment is
+returns-clause-table c = λ script moves moment range is. table-in_run script range moves moment is
 
 pub returns-clause-frozen : goal.returns-clause-frozen
-returns-clause-frozen c = λ script events moment range is. frozen-in_run script range events moment is
+returns-clause-frozen c = λ script moves moment range is. frozen-in_run script range moves moment is
 
 pub returns-clause-group : goal.returns-clause-group
-returns-clause-group c = λ script events moment range is. tables_kept script range events moment is
+returns-clause-group c = λ script moves moment range is. tables_kept script range moves moment is

@@ -2,4 +2,4 @@ use Rattle.overlap_law.proofs.StandingPieces.{written-in_run}
 use Rattle.overlap_law.proofs.items.what_is_left_to_write_has_its_items.Goals as goal
 
 pub returns : goal.returns
-returns c = λ script events moment range is. written-in_run script range events moment is
+returns c = λ script moves moment range is. written-in_run script range moves moment is

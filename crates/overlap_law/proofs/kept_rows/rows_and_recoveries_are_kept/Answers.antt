@@ -4,6 +4,6 @@ use Rattle.overlap_law.proofs.kept_rows.rows_and_recoveries_are_kept.Goals as go
 
 pub returns : goal.returns
 returns c = record {
-  rows = λ script range events moment is. rows-in_run script range (creates_first-in_run script range) events moment is;
-  recoveries = λ script range events moment is. searches-in_run script range (creates_first-in_run script range) events moment is;
+  rows = λ script range moves moment is. rows-in_run script range (creates_first-in_run script range) moves moment is;
+  recoveries = λ script range moves moment is. searches-in_run script range (creates_first-in_run script range) moves moment is;
 }

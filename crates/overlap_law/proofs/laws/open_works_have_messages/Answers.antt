@@ -8,4 +8,4 @@ pub returns-clause-change : goal.returns-clause-change
 returns-clause-change c = λ script start before after range began change have. change_has script range start began change have
 
 pub returns-clause-run : goal.returns-clause-run
-returns-clause-run c = λ script events moment range is. messages_in_run script range events moment is
+returns-clause-run c = λ script moves moment range is. messages_in_run script range moves moment is

@@ -5,7 +5,8 @@ pub returns-clause-opening : goal.returns-clause-opening
 returns-clause-opening c = λ script. opening_awaited script
 
 pub returns-clause-change : goal.returns-clause-change
-returns-clause-change c = λ script start before after range began change tied awaited. change_awaited script range start before after began change tied awaited
+returns-clause-change c =
+    λ script start before after range began change tied awaited. change_awaited script range start before after began change tied awaited
 
 pub returns-clause-run : goal.returns-clause-run
-returns-clause-run c = λ script events moment range is. awaited-in_run script range events moment is
+returns-clause-run c = λ script moves moment range is. awaited-in_run script range moves moment is

@@ -5,5 +5,5 @@ use Rattle.overlap_law.proofs.laws.peers_of_another_epoch_change_nothing.Goals a
 pub returns : goal.returns
 returns c = record {
   nothing = run-changes_nothing;
-  rested = λ script events moment n host e got. run-rested script events moment e n host got;
+  rested = λ script moves moment n host e got. run-rested script moves moment e n host got;
 }

@@ -2,4 +2,4 @@ use Rattle.overlap_law.proofs.UntouchedInRuns.{nothing_made-in_run}
 use Rattle.overlap_law.proofs.laws.refused_requests_make_nothing.Goals as goal
 
 pub returns : goal.returns
-returns c = λ script events moment range is. nothing_made-in_run script range events moment is
+returns c = λ script moves moment range is. nothing_made-in_run script range moves moment is

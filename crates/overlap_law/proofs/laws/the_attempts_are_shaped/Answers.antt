@@ -11,7 +11,7 @@ returns-clause-change c = λ script start before after range began change are. c
 
 pub returns-clause-event : goal.returns-clause-event
 returns-clause-event c =
-    λ script event before after range began is are. event_kept script AreShaped (kept_shaped script range) event before after began is are
+    λ script move before after range began is are. event_kept script AreShaped (kept_shaped script range) move before after began is are
 
 pub returns-clause-run : goal.returns-clause-run
-returns-clause-run c = λ script events moment range is. run-kept script AreShaped (kept_shaped script range) events moment is
+returns-clause-run c = λ script moves moment range is. run-kept script AreShaped (kept_shaped script range) moves moment is

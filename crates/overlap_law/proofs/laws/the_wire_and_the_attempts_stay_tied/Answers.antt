@@ -11,7 +11,7 @@ returns-clause-change c = λ script start before after range began change tied. 
 
 pub returns-clause-event : goal.returns-clause-event
 returns-clause-event c =
-    λ script event before after range began is tied. event_kept script IsTied (kept_tied script range) event before after began is tied
+    λ script move before after range began is tied. event_kept script IsTied (kept_tied script range) move before after began is tied
 
 pub returns-clause-run : goal.returns-clause-run
-returns-clause-run c = λ script events moment range is. run-kept script IsTied (kept_tied script range) events moment is
+returns-clause-run c = λ script moves moment range is. run-kept script IsTied (kept_tied script range) moves moment is

@@ -2,4 +2,4 @@ use Rattle.overlap_law.proofs.KeptSoFar.{flight-in_run}
 use Rattle.overlap_law.proofs.laws.the_wire_is_kept.Goals as goal
 
 pub returns : goal.returns
-returns c = λ script events moment range is. flight-in_run script range events moment is
+returns c = λ script moves moment range is. flight-in_run script range moves moment is

@@ -3,6 +3,6 @@ use Rattle.overlap_law.proofs.losses.few_losses_leave_the_whole_history_legal.Go
 
 pub returns : goal.returns
 returns c = record {
-  available = λ script events moment range run few. all_available script range events moment run few;
-  legal = λ script events moment range run few. whole_legal script range events moment run few;
+  available = λ script moves moment range run few. all_available script range moves moment run few;
+  legal = λ script moves moment range run few. whole_legal script range moves moment run few;
 }

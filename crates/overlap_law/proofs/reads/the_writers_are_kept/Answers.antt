@@ -2,4 +2,4 @@ use Rattle.overlap_law.proofs.KeptSoFar.{writers-in_run}
 use Rattle.overlap_law.proofs.reads.the_writers_are_kept.Goals as goal
 
 pub returns : goal.returns
-returns c = λ script events moment range is. writers-in_run script range events moment is
+returns c = λ script moves moment range is. writers-in_run script range moves moment is

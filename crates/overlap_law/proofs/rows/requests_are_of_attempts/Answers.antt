@@ -7,4 +7,4 @@ returns-clause-change c = λ script start before after range began change makers
     (kept_makers script range).keeps start before after began change makers
 
 pub returns-clause-run : goal.returns-clause-run
-returns-clause-run c = λ script events moment range is. run-kept script HasMakersOfAttempts (kept_makers script range) events moment is
+returns-clause-run c = λ script moves moment range is. run-kept script HasMakersOfAttempts (kept_makers script range) moves moment is

@@ -2,4 +2,4 @@ use Rattle.overlap_law.proofs.PlacedInMoments.{placed-in_run}
 use Rattle.overlap_law.proofs.rows.rows_are_at_targets.Goals as goal
 
 pub returns : goal.returns
-returns c = λ script events moment range is. placed-in_run script range events moment is
+returns c = λ script moves moment range is. placed-in_run script range moves moment is

@@ -3,5 +3,5 @@ use Rattle.overlap_law.proofs.BegunInMoments.{begun-in_run}
 use Rattle.overlap_law.proofs.rows.rows_are_begun.Goals as goal
 
 pub returns : goal.returns
-returns c = λ script events moment range is.
-    begun-in_run script range events moment is (is_live_object moment.world.log moment.past.attempts)
+returns c = λ script moves moment range is.
+    begun-in_run script range moves moment is (is_live_object moment.world.log moment.past.attempts)

@@ -7,7 +7,7 @@ use Rattle.overlap_law.proofs.StayingRows.{RowsHold, kept_rows}
 use Rattle.overlap_law.proofs.since.rows_have_what_they_owe_as_no_node_steps.Goals as goal
 
 pub returns : goal.returns
-returns c = λ script events start event made good range is happened kind none since.
-    let holds = run-kept script RowsHold (kept_rows script range) events start is in
-    since_elsewhere script range start (began-with_past script events start is) good
-    (run-kept script TermsHold (kept_terms script range) events start is) holds.shaped holds.tied since event made happened kind none
+returns c = λ script moves start event made good range is happened kind none since.
+    let holds = run-kept script RowsHold (kept_rows script range) moves start is in
+    since_elsewhere script range start (began-with_past script moves start is) good
+    (run-kept script TermsHold (kept_terms script range) moves start is) holds.shaped holds.tied since event made happened kind none

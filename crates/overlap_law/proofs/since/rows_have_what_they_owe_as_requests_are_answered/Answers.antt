@@ -18,16 +18,16 @@ use Rattle.overlap_law.proofs.WorksOfAttempts.{AreOfWorks, kept_works}
 use Rattle.overlap_law.proofs.since.rows_have_what_they_owe_as_requests_are_answered.Goals as goal
 
 pub returns : goal.returns
-returns c = λ script events start n host name to request stepping good range is answers stepped since.
+returns c = λ script moves start n host name to request stepping good range is answers stepped since.
     let own : IsStepping script start.world (record { n = n; host = host; cause = RequestComes name to request })
     = subst (IsStepping script start.world) answers stepped in
-    let holds = run-kept script RowsHold (kept_rows script range) events start is in
+    let holds = run-kept script RowsHold (kept_rows script range) moves start is in
     subst (λ (s : SteppingNode). RowsAreSince (log_effects (moment_in_step script s start (last_in_step s)).world.log) good
     (moment_in_step script s start (last_in_step s)).world.hosts (moment_in_step script s start (last_in_step s)).past.attempts)
     (sym answers)
-    (since_served script range start (began-with_past script events start is) n host name to request own good
-    (run-kept script TermsHold (kept_terms script range) events start is) holds.shaped holds.tied holds.turns holds.sound
-    (ordered-in_run script range events start start is moments.Still)
-    (run-kept script HasMakersOfAttempts (kept_makers script range) events start is)
-    (run-kept script AreOfWorks (kept_works script range) events start is)
-    (whole-on_the_way script range events start start is moments.Still) since)
+    (since_served script range start (began-with_past script moves start is) n host name to request own good
+    (run-kept script TermsHold (kept_terms script range) moves start is) holds.shaped holds.tied holds.turns holds.sound
+    (ordered-in_run script range moves start start is moments.Still)
+    (run-kept script HasMakersOfAttempts (kept_makers script range) moves start is)
+    (run-kept script AreOfWorks (kept_works script range) moves start is)
+    (whole-on_the_way script range moves start start is moments.Still) since)

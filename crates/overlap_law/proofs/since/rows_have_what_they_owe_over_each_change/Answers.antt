@@ -4,9 +4,9 @@ use Rattle.overlap_law.proofs.SinceKept.{since_kept}
 use Rattle.overlap_law.proofs.since.rows_have_what_they_owe_over_each_change.Goals as goal
 
 pub returns : goal.returns
-returns c = λ script events start before after range is trail change good alive kept carried passed told since.
-    since_kept script range events start is trail change good (record {
-      has = has_made script range events start before is trail good alive kept carried;
+returns c = λ script moves start before after range is trail change good alive kept carried passed told since.
+    since_kept script range moves start is trail change good (record {
+      has = has_made script range moves start before is trail good alive kept carried;
       passed = passed;
       since = since;
       told = told;

@@ -2,4 +2,4 @@ use Rattle.overlap_law.proofs.SoundCodedRuns.{coded-in_run}
 use Rattle.overlap_law.proofs.sound.items_of_strips_are_coded.Goals as goal
 
 pub returns : goal.returns
-returns c = λ script events moment range is. coded-in_run script range events moment is
+returns c = λ script moves moment range is. coded-in_run script range moves moment is

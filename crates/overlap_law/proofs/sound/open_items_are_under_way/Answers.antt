@@ -2,4 +2,4 @@ use Rattle.overlap_law.proofs.SoundInRuns.{open_under_way-in_run}
 use Rattle.overlap_law.proofs.sound.open_items_are_under_way.Goals as goal
 
 pub returns : goal.returns
-returns c = λ script events moment range is. open_under_way-in_run script range events moment is
+returns c = λ script moves moment range is. open_under_way-in_run script range moves moment is

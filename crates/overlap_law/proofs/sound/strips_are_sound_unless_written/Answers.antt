@@ -11,12 +11,12 @@ use Rattle.overlap_law.proofs.TiedInRuns.{kept_tied}
 use Rattle.overlap_law.proofs.sound.strips_are_sound_unless_written.Goals as goal
 
 pub returns-clause-alike : goal.returns-clause-alike
-returns-clause-alike c = λ script events moment range is.
+returns-clause-alike c = λ script moves moment range is.
     come_alike (ledger_of moment.past.history) (log_effects moment.world.log) (good_id_at moment) moment.world.hosts moment.past.attempts
-    (coded-in_run script range events moment is) (stands-in_run script range events moment is).written
+    (coded-in_run script range moves moment is) (stands-in_run script range moves moment is).written
 
 pub returns-clause-sound : goal.returns-clause-sound
-returns-clause-sound c = λ script events moment range is.
+returns-clause-sound c = λ script moves moment range is.
     sound_unless_written (ledger_of moment.past.history) (log_effects moment.world.log) (good_id_at moment) moment.world.hosts
-    moment.past.attempts (coded-in_run script range events moment is) (stands-in_run script range events moment is).written
-    (on_the_way script IsTied (kept_tied script range) events moment moment is Still).fates.whole
+    moment.past.attempts (coded-in_run script range moves moment is) (stands-in_run script range moves moment is).written
+    (on_the_way script IsTied (kept_tied script range) moves moment moment is Still).fates.whole

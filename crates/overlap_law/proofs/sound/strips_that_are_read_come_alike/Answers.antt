@@ -10,8 +10,8 @@ use Rattle.overlap_law.proofs.UnwrittenInRuns.{reads_unwritten-on_the_way}
 use Rattle.overlap_law.proofs.sound.strips_that_are_read_come_alike.Goals as goal
 
 pub returns : goal.returns
-returns c = λ script events moment range is.
+returns c = λ script moves moment range is.
     reads_alike (ledger_of moment.past.history) (log_effects moment.world.log) (good_id_at moment) moment.world.hosts moment.past.attempts
     (come_alike (ledger_of moment.past.history) (log_effects moment.world.log) (good_id_at moment) moment.world.hosts moment.past.attempts
-    (coded-in_run script range events moment is) (stands-in_run script range events moment is).written)
-    (reads_unwritten-on_the_way script range events moment is Still)
+    (coded-in_run script range moves moment is) (stands-in_run script range moves moment is).written)
+    (reads_unwritten-on_the_way script range moves moment is Still)

@@ -7,11 +7,11 @@ use Rattle.overlap_law.specs.StepMoments.{moment_in_step}
 use Rattle.overlap_law.proofs.tables.what_is_done_was_made.Goals as goal
 
 pub returns : goal.returns
-returns c = λ script events start stepping so_far range is step by leads trail req number work current status learns done j attempt at
+returns c = λ script moves start stepping so_far range is step by leads trail req number work current status learns done j attempt at
     opened.
-    let holds = holds_then script range events start is in
+    let holds = holds_then script range moves start is in
     done_made script range start holds.begun holds.tied holds.fit stepping step by so_far leads req number work current status learns done
     j attempt
     at opened
-    ((on_the_way script IsTied (kept_tied script range) events start (moment_in_step script stepping start so_far) is trail).fates.whole j
+    ((on_the_way script IsTied (kept_tied script range) moves start (moment_in_step script stepping start so_far) is trail).fates.whole j
     attempt at)

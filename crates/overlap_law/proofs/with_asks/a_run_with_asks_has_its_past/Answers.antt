@@ -1,5 +1,15 @@
-use Rattle.overlap_law.proofs.AskedRuns.{with_asks-events, with_asks-follows, with_asks-more, ask-leaves_past}
+use Rattle.std.proofs.Common.{map, ◌∙◌}
+use Rattle.sheep_world.specs.RunsWithAsks.{Happens}
+use Rattle.sheep_world.proofs.ClientLaws.{run-events}
+use Rattle.overlap_law.proofs.AskedPast.{read-leaves_past}
+use Rattle.overlap_law.proofs.RunLemmas.{past-follows}
+use Rattle.overlap_law.proofs.RunsWithOneMore.{run_with_next}
 use Rattle.overlap_law.proofs.with_asks.a_run_with_asks_has_its_past.Goals as goal
 
 pub returns : goal.returns
-returns c = record { events = with_asks-events; without = with_asks-follows; longer = with_asks-more; past = ask-leaves_past }
+returns c = record {
+  events = λ script events. past-follows script (map Happens events) ∙ run-events script events;
+  without = past-follows;
+  longer = λ script next moves before after run is. run_with_next script next moves before after is run;
+  past = λ script moves node ask before after range run is. read-leaves_past script range moves node ask before after run is;
+}

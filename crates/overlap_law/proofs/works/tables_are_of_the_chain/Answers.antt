@@ -3,6 +3,6 @@ use Rattle.overlap_law.proofs.works.tables_are_of_the_chain.Goals as goal
 
 pub returns : goal.returns
 returns c = record {
-  chain = λ script events start moment range ran trail. entries_of_chain script range events start moment ran trail;
-  whole = λ script events start moment range ran trail. whole_tables script range events start moment ran trail;
+  chain = λ script moves start moment range ran trail. entries_of_chain script range moves start moment ran trail;
+  whole = λ script moves start moment range ran trail. whole_tables script range moves start moment ran trail;
 }

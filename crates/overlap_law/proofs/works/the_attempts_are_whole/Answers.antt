@@ -6,4 +6,4 @@ returns-clause-change c =
     λ script start before after range began change shaped are. change_whole script range start before after began change shaped are
 
 pub returns-clause-run : goal.returns-clause-run
-returns-clause-run c = λ script events start moment range is trail. whole-on_the_way script range events start moment is trail
+returns-clause-run c = λ script moves start moment range is trail. whole-on_the_way script range moves start moment is trail

@@ -5,4 +5,4 @@ pub returns-clause-change : goal.returns-clause-change
 returns-clause-change c = λ script start before after range began change. makers_apart-after script range start began change
 
 pub returns-clause-run : goal.returns-clause-run
-returns-clause-run c = λ script events start moment range is trail. makers_apart-in_run script range events start moment is trail
+returns-clause-run c = λ script moves start moment range is trail. makers_apart-in_run script range moves start moment is trail
