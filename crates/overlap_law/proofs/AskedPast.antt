@@ -25,7 +25,7 @@ use Rattle.sheep_node.specs.OneWork.{NumbersAreBelow}
 use Rattle.sheep_node.specs.Step.{node_step}
 use Rattle.sheep_world.specs.Asking.{session_asking}
 use Rattle.sheep_world.specs.Began.{Began}
-use Rattle.sheep_world.specs.ClientAsks.{next_ask_number}
+use Rattle.sheep_world.specs.ClientAsks.{is_read_ask, may_be_asked, may_client_ask, next_ask_number}
 use Rattle.sheep_world.specs.ClientSteps.{ask_effect}
 use Rattle.sheep_world.specs.HistoryAdditions.{replies_grown}
 use Rattle.sheep_world.specs.Incarnations.{incarnation_in, incarnations_after, is_incarnation_kept}
@@ -35,11 +35,12 @@ use Rattle.sheep_world.specs.Step.{EventOutcome, with_replies}
 use Rattle.sheep_world.specs.World.{Host, World, host_at}
 use Rattle.sheep_world.proofs.AskReplies.{AreToIt, guest-replies, read-adds_nothing}
 use Rattle.sheep_world.proofs.ClientReads.{may_read, read_made}
+use Rattle.sheep_world.proofs.ReadMoves.{read_is_made}
 use Rattle.overlap_law.specs.Attempts.{AttemptRecord}
 use Rattle.overlap_law.specs.BegunAttempts.{attempts_after, attempts_begun}
 use Rattle.overlap_law.specs.Holders.{is_object_among, unavailable_in}
 use Rattle.overlap_law.specs.MomentChanges.{RunsAreInRange}
-use Rattle.overlap_law.specs.Past.{MomentWithPast, moment_after, next_moment, first_moment, run_with_past, past_after_event}
+use Rattle.overlap_law.specs.Past.{Past, MomentWithPast, moment_after, next_moment, first_moment, run_with_past, past_after_event}
 use Rattle.overlap_law.specs.PastWords.{FinishedList, counts, finishes, is_counted, is_refusal, listed_by, listed_in, refused_in}
 use Rattle.overlap_law.specs.PastWords.{refuses_request}
 use Rattle.overlap_law.specs.PastWords.{unavailable_at}
@@ -49,6 +50,7 @@ use Rattle.overlap_law.proofs.KnownSteps.{together}
 use Rattle.overlap_law.proofs.NoRecoveredDue.{began-with_past}
 use Rattle.overlap_law.proofs.RefusedInMoments.{among_of}
 use Rattle.overlap_law.proofs.RunsByEvents.{run-kept_by_events}
+use Rattle.overlap_law.proofs.RunsWithOneMore.{run_with_next}
 
 -- ---- lists
 
@@ -284,3 +286,21 @@ read-leaves_past script range moves node ask before after run = by_may (may_read
         (sym (same_Some (moment_after script (events.RetryTick node) before made) after is))
         ∙ past_stays script node ask before host there caused ((together script range before.world began).driven node.0 host there).given
         (noted-in_run script moves before run)
+
+-- so a run goes on with each read that a client may ask for
+pub run_with_read : (script : List Statement) → RunsAreInRange script → (moves : List Move) (node : NodeId) (ask : Ask)
+    (before : MomentWithPast) → run_with_past script moves ≡ Some before → may_client_ask node.0 before.world ≡ true
+    → may_be_asked ask node.0 before.world ≡ true → is_read_ask ask ≡ true
+    → run_with_past script (moves ++ Asks node ask ∷ []) ≡ Some (record { world = ask_effect node.0 ask before.world; past = before.past })
+run_with_read script range moves node ask before run takes asked reads =
+    run_with_next script (Asks node ask) moves before after next run
+    ∙ ap (λ (past : Past). Some (record { world = ask_effect node.0 ask before.world; past = past }))
+    (read-leaves_past script range moves node ask before after run next)
+  where
+    after : MomentWithPast
+    after = moment_after script (events.RetryTick node) before (record { world = ask_effect node.0 ask before.world; grown = [] })
+
+    next : next_moment script (Asks node ask) before ≡ Some after
+    next =
+        ap (option_map (moment_after script (events.RetryTick node) before))
+        (read_is_made script before.world node ask range.is_script (began-with_past script moves before run) takes asked reads)

@@ -13,7 +13,7 @@ use Rattle.overlap_law.proofs.TouchedInMoments.{BeginsWith}
 use Rattle.overlap_law.proofs.AsksInCauses.{not_begun}
 
 -- the request with which an event begins was begun by no session: it is the next of one, or a client's
-guest_new : (script : List Statement) (world : World) (n : ℕ) (host : Host) (cause : NodeCause) → IsCause script world n host cause
+pub guest_new : (script : List Statement) (world : World) (n : ℕ) (host : Host) (cause : NodeCause) → IsCause script world n host cause
     → (req session : ℕ) (ask : Ask) → input_of_cause cause ≡ inputs.Guest req session ask → IsStarted script world.guests req → ⊥
 guest_new script world n host (GuestAsks asking begins a) so req session ask from started =
     let same : begins ≡ req = cc (from) in

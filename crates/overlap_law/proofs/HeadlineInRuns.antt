@@ -15,6 +15,7 @@ use Rattle.overlap_law.proofs.EpochLemmas.{run-changes_nothing}
 use Rattle.overlap_law.proofs.HistoryCarried.{tells}
 use Rattle.overlap_law.proofs.ItemsInRuns.{refused_none-in_run}
 use Rattle.overlap_law.proofs.LegalReplies.{legal-in_run}
+use Rattle.overlap_law.proofs.RefusedCommandsHold.{commands-in_run}
 use Rattle.overlap_law.proofs.RunLemmas.{past-follows}
 use Rattle.overlap_law.proofs.UntouchedInRuns.{nothing_made-in_run}
 
@@ -23,6 +24,7 @@ headline_holds script range is_script events moment run = record {
   legal = legal-in_run script range (tells script range) events moment run;
   no_items = λ req disk block refused. refused_none-in_run script range req events moment run refused disk block;
   nothing_made = nothing_made-in_run script range events moment run;
+  commands = commands-in_run script range events moment run;
   other_epochs = run-changes_nothing script events moment run;
 }
 

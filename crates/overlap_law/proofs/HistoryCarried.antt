@@ -214,7 +214,7 @@ module _ (script : List Statement) (range : RunsAreInRange script) where
 
   -- ---- what reads are told
 
-  serves_reads : EachChangeServesReads script
+  pub serves_reads : EachChangeServesReads script
   serves_reads = record {
     each = λ events event start end before after way.
         let at_start = test_of_start script way.change in

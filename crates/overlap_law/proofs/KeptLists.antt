@@ -85,7 +85,7 @@ wanted_some (Coded d p) Block is = let some = need-some (Coded d p) Block is in 
 wanted_some (Coded d p) Inode is = omega arith
 
 -- the policy of an object of the log is one
-policy_valid : (log : List Entry) → IsLog log → (oid : ℕ) (policy : Policy) → policy_in (log_effects log) oid ≡ Some policy
+pub policy_valid : (log : List Entry) → IsLog log → (oid : ℕ) (policy : Policy) → policy_in (log_effects log) oid ≡ Some policy
     → IsPolicy policy
 policy_valid log is_log oid policy is = by_header (header_of (log_effects log) (vid_of oid)) refl is
   where

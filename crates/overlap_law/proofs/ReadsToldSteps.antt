@@ -15,6 +15,7 @@ use Rattle.cluster_script.specs.NumberedRequests.{request_at}
 use Rattle.disk_history.specs.declared.event.HistEvent.{HistEvent}
 use Rattle.disk_history.specs.declared.event.HistEvent.TheVariants.{Read}
 use Rattle.disk_history.specs.Ledger.{Ledger, empty_ledger, ledger_after}
+use Rattle.guest_driver.specs.declared.disk.Disk.{Disk}
 use Rattle.peer_proto.specs.declared.guest.DiskAsk.TheVariants as disk_asks
 use Rattle.peer_proto.specs.declared.guest.GuestRsp.{GuestRsp}
 use Rattle.peer_proto.specs.declared.guest.GuestRsp.TheVariants as answers
@@ -38,7 +39,7 @@ use Rattle.overlap_law.specs.HistoryGrowth.{added_at_cause, added_by_reply, chec
 use Rattle.overlap_law.specs.MomentChanges.{MomentChange, MomentTrail, TrailLeft, AtEnd, Next, StepGoesOn, RunsAreInRange}
 use Rattle.overlap_law.specs.Past.{MomentWithPast, next_moment, run_with_past}
 use Rattle.overlap_law.specs.RequestsOfScript.{IsCourseOfAsk, IsOnDisk}
-use Rattle.overlap_law.specs.StandingReads.{asked_in, EachChangeServesReads, IsServingReads, ReadsMayGoOn, ReadsStand}
+use Rattle.overlap_law.specs.StandingReads.{asked_in, EachChangeServesReads, IsServingReads, IsToldAll, ReadsMayGoOn, ReadsStand}
 use Rattle.overlap_law.specs.StepMoments.{SteppingNode, IsStepping, StepsByChanges, LeadsInStep, IsWithinStep, first_in_step, last_in_step}
 use Rattle.overlap_law.specs.StepMoments.{moment_in_step}
 use Rattle.overlap_law.specs.ToldReads.{MayStayReadAs, Reading}
@@ -200,6 +201,16 @@ module _ (script : List Statement) (range : RunsAreInRange script) (serves : Eac
           by_course (DoingWork work) is_disk placed = absurd (cc (is_disk))
           by_course (AwaitingDecision entry) is_disk placed = absurd (cc (is_disk))
 
+      -- its reply tells all that it asked for, of the disk that its session has open
+      pub told_all : (disk : Disk) → (session_at session so_far.node).disk ≡ Some disk
+          → IsToldAll (Stays so_far) (ledger_of (at so_far).past.history) (log_effects (at so_far).world.log) good_id disk.inode
+          (asked_in script req) rsp
+      told_all disk opened =
+          reads_are_told (Stays so_far) (ledger_of (at so_far).past.history) (log_effects (at so_far).world.log) good_id (asked_in script)
+          (input_of_cause stepping.cause) stepping.host.node so_far moved session req rsp disk (may script range start began stepping is by)
+          (queued script range start began stepping is by) (sole script range start began stepping is by)
+          (alone_so_far script range start began stepping is by so_far within.leads) steps opened goes stand
+
       reads_so : (vid line offset size : ℕ) → disk_of script req (world_at_cause start.world stepping.cause) ≡ Some vid
           → request_at script req ≡ Some (lines.Read line offset size)
           → AreReadAs (Stays so_far) (ledger_of (at so_far).past.history) good_id (blocks_read vid offset rsp)
@@ -215,12 +226,7 @@ module _ (script : List Statement) (range : RunsAreInRange script) (serves : Eac
           subst (λ (id : ℕ). AreReadAs (Stays so_far) (ledger_of (at so_far).past.history) good_id (blocks_read id offset rsp)) same
           (read_read script (Stays so_far) (ledger_of (at so_far).past.history) good_id req (log_effects (at so_far).world.log) opened.disk
           (disk_in_step script range events start run stepping is by so_far within.leads trail session req own.course own.there own.is_disk
-          opened.disk opened.there) line offset size at_line rsp
-          (reads_are_told (Stays so_far) (ledger_of (at so_far).past.history) (log_effects (at so_far).world.log) good_id (asked_in script)
-          (input_of_cause stepping.cause) stepping.host.node so_far moved session req rsp opened.disk
-          (may script range start began stepping is by) (queued script range start began stepping is by)
-          (sole script range start began stepping is by) (alone_so_far script range start began stepping is by so_far within.leads) steps
-          opened.there goes stand) rsp refl)
+          opened.disk opened.there) line offset size at_line rsp (told_all opened.disk opened.there) rsp refl)
 
     -- behind what it adds itself it is as it was
     module _ (reply : ℕ × GuestRsp) (given : IsTold script range start began stepping so_far next reply) where

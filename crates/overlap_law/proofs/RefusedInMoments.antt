@@ -109,10 +109,10 @@ module _ (script : List Statement) where
       by_test false refuses is rest = behind (rest is)
 
   -- what refuses a request of the script is a refusal
-  refusal_is : (reply : ℕ × GuestRsp) → refuses_request script reply ≡ true → is_refusal reply.1 ≡ true
+  pub refusal_is : (reply : ℕ × GuestRsp) → refuses_request script reply ≡ true → is_refusal reply.1 ≡ true
   refusal_is reply refuses = (and_parts (is_refusal reply.1) (is_some (session_asking script reply.0)) refuses).0
 
-among_cases : (req : ℕ) (one more : List ℕ) → is_object_among req (one ++ more) ≡ true → (is_object_among req one ≡ true) ⊎ (is_object_among req more ≡ true)
+pub among_cases : (req : ℕ) (one more : List ℕ) → is_object_among req (one ++ more) ≡ true → (is_object_among req one ≡ true) ⊎ (is_object_among req more ≡ true)
 among_cases req one more is =
     or_cases (is_object_among req one) (is_object_among req more) (sym (list_any-append (λ other. other == req) one more) ∙ is)
 
@@ -139,7 +139,7 @@ put_silent : (outbox : List Entry) (node : Node) → (on_put outbox (at_first no
 put_silent [] node = refl
 put_silent (entry ∷ later) node = refl
 
-made_silent : (cause : NodeCause) (node : Node) → StepsAtOnce cause → (node_step (input_of_cause cause) node).outputs.replies ≡ []
+pub made_silent : (cause : NodeCause) (node : Node) → StepsAtOnce cause → (node_step (input_of_cause cause) node).outputs.replies ≡ []
 unfolding node_step on_input on_request on_recover_tick
 made_silent (GuestAsks session req ask) node by = absurd by
 made_silent (RequestComes name to request) node by = due_silent (on_request request (at_first node))

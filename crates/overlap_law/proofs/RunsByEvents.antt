@@ -16,7 +16,7 @@ abbrev pub KeptByEvents : List Statement → (MomentWithPast → Type 0) → Typ
 KeptByEvents script P = (event : Event) (before : MomentWithPast) (made : EventOutcome) → Began script before.world
     → MakesMove script event before.world made → P before → P (moment_after script event before made)
 
-module _ (script : List Statement) (P : MomentWithPast → Type 0) (opens : P (first_moment script)) (keeps : KeptByEvents script P) where
+module _ (script : List Statement) (P : MomentWithPast → Type 0) (keeps : KeptByEvents script P) where
   along_events : (event : Move) (events : List Move) (first last : MomentWithPast) → Began script first.world → P first
       → ((next : MomentWithPast) → Began script next.world → P next → run_on script next events ≡ Some last → P last)
       → (o : Option EventOutcome) → made_by script event first.world ≡ o
@@ -28,7 +28,8 @@ module _ (script : List Statement) (P : MomentWithPast → Type 0) (opens : P (f
       later (moment_after script (event_of_move event) first made) (goes_on script (event_of_move event) first.world made began goes)
       (keeps (event_of_move event) first made began goes holds) so
 
-  on_events : (events : List Move) (first last : MomentWithPast) → Began script first.world → P first
+  -- so it is after further moves, from wherever it holds
+  pub on_events : (events : List Move) (first last : MomentWithPast) → Began script first.world → P first
       → run_on script first events ≡ Some last → P last
   unfolding run_on
   on_events [] first last began holds is = subst P (same_Some first last is) holds
@@ -36,10 +37,11 @@ module _ (script : List Statement) (P : MomentWithPast → Type 0) (opens : P (f
       along_events event events first last began holds (λ next began_next holds_next so. on_events events next last began_next holds_next
       so) (made_by script event first.world) refl is
 
+module _ (script : List Statement) (P : MomentWithPast → Type 0) (opens : P (first_moment script)) (keeps : KeptByEvents script P) where
   first_began : Began script (first_moment script).world
   unfolding run_with_past run_on
   first_began = began-with_past script [] (first_moment script) refl
 
   pub run-kept_by_events : (events : List Move) (moment : MomentWithPast) → run_with_past script events ≡ Some moment → P moment
   unfolding run_with_past
-  run-kept_by_events events moment is = on_events events (first_moment script) moment first_began opens is
+  run-kept_by_events events moment is = on_events script P keeps events (first_moment script) moment first_began opens is

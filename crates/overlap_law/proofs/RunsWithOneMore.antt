@@ -19,7 +19,7 @@ module _ (script : List Statement) where
   append_from moves later None rest = refl
   append_from moves later (Some after) rest = rest after
 
-  run_on-append : (moves later : List Move) (moment : MomentWithPast) → run_on script moment (moves ++ later)
+  pub run_on-append : (moves later : List Move) (moment : MomentWithPast) → run_on script moment (moves ++ later)
       ≡ option_and_then (λ (next : MomentWithPast). run_on script next later) (run_on script moment moves)
   unfolding run_on
   run_on-append [] later moment = refl

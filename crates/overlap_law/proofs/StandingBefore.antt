@@ -16,6 +16,13 @@ use Rattle.overlap_law.specs.Pieces.{HasItem}
 use Rattle.overlap_law.proofs.BlockItems.{apart_back, new_item, items_then}
 use Rattle.overlap_law.proofs.RequestsInRuns.{at_place}
 
+-- the last item is one of the request's
+pub record IsLastOf (req : ℕ) (items : List Item) : Type 0 where
+  pub earlier : List Item
+  pub item : Item
+  pub is : items ≡ earlier ++ item ∷ []
+  pub of : item.request ≡ Some req
+
 module _ (req : ℕ) (waits : ℕ → Bool) where
   -- an open item of the request
   pub record IsOpenOf (item : Item) : Type 0 where
@@ -185,6 +192,20 @@ module _ (req : ℕ) (waits : ℕ → Bool) where
       by_event (WriteRefused ended) calm = left_stands bytes ended items calm has
       by_event (WriterLost ended) calm = marked_stands bytes Lost ended items calm has (all_lost ended has.back has.behind)
       by_event (Read disk at read) calm = has
+
+  -- ---- where the request alone waits, the last item is one of its own
+
+  last_behind : (front : List Item) (item : Item) (back : List Item) → item.request ≡ Some req → AreWaiting back
+      → ((other : ℕ) → waits other ≡ true → other ≡ req) → IsLastOf req (front ++ item ∷ back)
+  last_behind front item [] of all only = record { earlier = front; item = item; is = refl; of = of }
+  last_behind front item (next ∷ back) of all only =
+      subst (IsLastOf req) (append_assoc front (item ∷ []) (next ∷ back))
+      (last_behind (front ++ item ∷ []) next back (all.0.of ∙ ap Some (only all.0.other all.0.waiting)) all.1 only)
+
+  pub stands_last : (bytes : List ℕ) (items : List Item) → ((other : ℕ) → waits other ≡ true → other ≡ req) → Stands bytes items
+      → IsLastOf req items
+  stands_last bytes items only has =
+      subst (IsLastOf req) (sym has.is) (last_behind has.front has.item has.back has.own.of has.behind only)
 
   -- ---- so it is among those by which the block may be read
 

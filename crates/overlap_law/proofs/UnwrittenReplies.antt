@@ -1,12 +1,13 @@
 -- Requests in the middle of a step of a run in range: one that was there and has no reply is there still, a reply ends the writes of one
 -- that writes, and who begins to write in the step is the guest's that asks, or a check that comes to a write.
-use Rattle.std.proofs.Common.{◌≡◌, inl, inr, ⊎_elim, ℕ, ◌||◌, true, false, List, Contains, Option, Some}
+use Rattle.std.proofs.Common.{◌≡◌, inl, inr, ⊎_elim, ℕ, ◌||◌, true, false, List, [], Contains, Option, Some}
 use Rattle.std.proofs.Common.{option_map, is_some, refl, sym, ap, subst, ◌∙◌}
 use Rattle.std.specs.Prelude.{flat_map}
 use Rattle.std.specs.List.{list_any}
 use Rattle.std.specs.Option.{option_map_or, option_and_then}
 use Rattle.std.specs.FinMap as tree
 use Rattle.std.proofs.lemmas.Bool.{both_ways, eq-eqb}
+use Rattle.proof_tools.proofs.Lists.{Contains-flat_map, Contains-head}
 use Rattle.cluster_script.specs.declared.statement.Statement.{Statement}
 use Rattle.cluster_script.specs.NumberedRequests.{request_at}
 use Rattle.cluster_script.specs.Sessions.{ScriptSession}
@@ -23,7 +24,7 @@ use Rattle.sheep_node.specs.State.{Node}
 use Rattle.sheep_node.specs.StepState.{StepState}
 use Rattle.sheep_node.proofs.StepChain.{kept_by_chain}
 use Rattle.sheep_world.specs.Began.{Began}
-use Rattle.sheep_world.specs.HistoryAdditions.{gateway_of, has_begun_check_write, is_write_of}
+use Rattle.sheep_world.specs.HistoryAdditions.{disk_of, gateway_of, has_begun_check_write, is_write_of, write_ended}
 use Rattle.sheep_world.specs.NodeCauses.{NodeCause, GuestAsks, RequestComes, ReplyComes, LossIsTold, EntryIsRead, EntryIsPut, RecoveryTicks}
 use Rattle.sheep_world.specs.NodeCauses.{WorkIsRetried, ClientAsks, input_of_cause, IsCause, progress_at_cause}
 use Rattle.sheep_world.specs.World.{Host, World, node_at}
@@ -42,7 +43,7 @@ use Rattle.overlap_law.proofs.CoursesOfScript.{asked_by, BeganOn, found_began}
 use Rattle.overlap_law.proofs.DisksOfWriters.{AsksToWrite, IsWriterAt, plain_course, of_writer}
 use Rattle.overlap_law.proofs.HoldersInWorlds.{open_here}
 use Rattle.overlap_law.proofs.ItemsAtBegin.{check_begins, on_open_disk, request_begins}
-use Rattle.overlap_law.proofs.ItemsOfReplies.{check_does, does_write_at, is_check_at, is_write_at, write_does}
+use Rattle.overlap_law.proofs.ItemsOfReplies.{check_does, does_write_at, is_check_at, is_write_at, write_adds, write_does}
 use Rattle.overlap_law.proofs.ItemsOfRequests.{begins_write_of}
 use Rattle.overlap_law.proofs.ItemsOfWriters.{Writing, gateway_here}
 use Rattle.overlap_law.proofs.NoRecoveredDue.{began-with_past}
@@ -89,7 +90,7 @@ module _ (script : List Statement) (range : RunsAreInRange script) (events : Lis
   guests_so WorkIsRetried by = refl
   guests_so (ClientAsks req ask) by = refl
 
-  hosts_so : (cause : NodeCause) → (world_at_cause start.world cause).hosts ≡ start.world.hosts
+  pub hosts_so : (cause : NodeCause) → (world_at_cause start.world cause).hosts ≡ start.world.hosts
   hosts_so (GuestAsks session req ask) = refl
   hosts_so (RequestComes name to request) = refl
   hosts_so (ReplyComes name from rsp) = refl
@@ -120,6 +121,18 @@ module _ (script : List Statement) (range : RunsAreInRange script) (events : Lis
       replied_ends script q found write so_far.outputs.replies rsp among
       (ap is_some (disk_of_began script found single q disk
       (subst (λ (guests : Guests). BeganOn script guests q disk) (sym (guests_so on.cause by)) began_on)) ∙ on_disk) does
+
+  pub told_adds : (q : ℕ) → Does q → (disk : Option ℕ) → is_some disk ≡ true
+      → BeganOn script (progress_at_cause on.cause start.world) q disk → (rsp : GuestRsp) → Contains so_far.outputs.replies (q, rsp)
+      → Contains (flat_map (added_by_reply script start.world on.cause) so_far.outputs.replies) (write_ended q rsp)
+  told_adds q does disk on_disk began_on rsp among =
+      let there : is_some (disk_of script q found) ≡ true
+      = ap is_some (disk_of_began script found single q disk
+      (subst (λ (guests : Guests). BeganOn script guests q disk) (sym (guests_so on.cause by)) began_on)) ∙ on_disk in
+      Contains-flat_map (added_by_reply script start.world on.cause) so_far.outputs.replies (q, rsp) (write_ended q rsp) among
+      (subst (λ (events : List HistEvent). Contains events (write_ended q rsp))
+      (sym (write_adds script (has_begun_check_write script q found write) q rsp (disk_of script q found) (request_at script q) there does))
+      (Contains-head (write_ended q rsp) []))
 
   -- ---- a request that was at the node
 

@@ -25,6 +25,7 @@ use Rattle.overlap_law.specs.Words.{is_mute}
 use Rattle.overlap_law.specs.Holders.{is_object_among}
 use Rattle.overlap_law.specs.Each.{EachAttempt}
 use Rattle.overlap_law.specs.Past.{Past, MomentWithPast, run_with_past}
+use Rattle.overlap_law.specs.RefusedCommands.{RefusedCommandsChangeNothing}
 
 -- the replies are one legal history, where the reads of disks that weren't available up to there are left out. A block that is
 -- torn, since a gateway was lost within a coded write, may be read as anything until its next acknowledged write
@@ -83,6 +84,7 @@ pub record KeepsHeadline (script : List Statement) (moment : MomentWithPast) : T
   pub legal : IsLegalWhereAvailable moment.past
   pub no_items : RefusedHaveNoItems moment.past.refused moment.past.history
   pub nothing_made : RefusedMakeNothing moment.past.refused moment.past.lost moment.past.attempts
+  pub commands : RefusedCommandsChangeNothing script moment
   pub other_epochs : OtherEpochsChangeNothing script moment.world
 
 -- For every script and interleaving of requests, deliveries, losses, epoch changes and recoveries, the replies are one legal

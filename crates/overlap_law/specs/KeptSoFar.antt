@@ -1,5 +1,6 @@
 -- Parts of the invariant of the overlap, some of them of more objects than it says them of, and the six facts: what each moment has that a
--- run in range leads to. The whole invariant is in specs/Overlap.
+-- run in range leads to. The whole invariant, in specs/Overlap, says most of these once more; they stand by themselves as what is proved of
+-- runs before it.
 use Rattle.std.specs.Prelude.{ℕ, Bool, false, List}
 use Rattle.cluster_script.specs.declared.statement.Statement.{Statement}
 use Rattle.vdi_directory.specs.Decisions.{log_effects}
@@ -28,8 +29,8 @@ use Rattle.overlap_law.specs.ToDo.{WorksNameWhatIsMade}
 use Rattle.overlap_law.specs.Pieces.{WritesHaveItems, WhatIsWrittenIsAlone}
 use Rattle.overlap_law.specs.Headline.{OtherEpochsChangeNothing, RefusedHaveNoItems, RefusedMakeNothing, ledger_of}
 
--- the groups of the wire, of the writers and of epochs, conjuncts on attempts, commands, rows and recoveries, and the headline's parts on
--- refused requests and on peers of another epoch
+-- what doesn't rest on which objects and ids are good: the groups of the wire, of the writers and of epochs, conjuncts on attempts,
+-- commands, rows and recoveries, and the headline's parts on refused requests and on peers of another epoch
 pub record IsKeptSoFar (script : List Statement) (moment : MomentWithPast) : Type 0 where
   pub wire : FlightIsKept moment.world.log moment.world.hosts moment.world.wire moment.past.attempts
   pub epochs : TermsAreKept moment.world.log moment.world.hosts

@@ -97,3 +97,7 @@ pub mod ApartTold
 pub mod UnwrittenReads
 pub mod GoodInodes
 pub mod FewLossesInRuns
+pub mod CheckDone
+pub mod RefusedCommands
+pub mod PrintedReads
+pub mod DrivenEvents

@@ -30,7 +30,7 @@ pub record HasGiven (works : tree.FinMap nat_cmp Work) (req : ℕ) (work : Work)
   pub some : 1 ≤ length bytes
 
 -- each piece that an open read of a session was given of a good object is of bytes that have what a target of the object owed in the
--- read's epoch. A client's read may be overtaken by attempts of a later epoch
+-- read's epoch. A client's read may be overtaken by attempts, of the same epoch or a later one
 pub record GivenPiecesAreSince (log : List Entry) (good : ℕ → Bool) (hosts : Hosts) (attempts : List AttemptRecord) : Type 0 where
   pub each : EachUp hosts (λ n node. (req place : ℕ) (work : Work) (current : gateways.Attempt) (message : Message) (bytes : List ℕ)
       → HasGiven node.gateway.works req work current place message bytes → is_making work.work ≡ false → is_of_client_at req node ≡ false

@@ -93,7 +93,7 @@ GaveStrip d offset unit block message =
     piece_at (bytes_in message.status) (BLOCK_BYTES * unit / d - offset / d) (BLOCK_BYTES / d) ≡ strip d block message.index
 
 -- a piece of a good object, of a copy or of strips, that is on its way back to an open read of a session, is of bytes that have what their
--- node owed in the read's epoch. A client's read may be overtaken by attempts of a later epoch
+-- node owed in the read's epoch. A client's read may be overtaken by attempts, of the same epoch or a later one
 pub record ToldPiecesAreSince (effects : List Effect) (good : ℕ → Bool) (hosts : Hosts) (wire : Wire) (attempts : List AttemptRecord)
     : Type 0 where
   pub each : EachUp hosts (λ n node. (req place : ℕ) (work : Work) (current : gateways.Attempt) (message : Message) (from : NodeId)

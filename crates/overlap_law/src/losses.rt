@@ -1,5 +1,6 @@
 //! Laws of losses: how few of them leave what the headline asks for.
-ghost use Rattle.std.specs.Prelude.{◌≡◌, ℕ, ◌≤◌, Bool, List, [], IsTrue, Some};
+ghost use Rattle.std.specs.Prelude.{◌≡◌, ℕ, ◌≤◌, Bool, false, List, [], map, IsTrue, Some};
+ghost use Rattle.std.specs.List.{list_any};
 ghost use Rattle.object_id.specs.declared.node.NodeId.{NodeId};
 ghost use Rattle.object_id.specs.declared.entry.Entry.{Entry};
 ghost use Rattle.object_id.specs.declared.policy.Policy.{Policy};
@@ -7,10 +8,10 @@ ghost use Rattle.epoch_log.specs.Appending.{IsLog};
 ghost use Rattle.epoch_log.specs.Epochs.{epoch_of};
 ghost use Rattle.cluster_script.specs.declared.statement.Statement.{Statement};
 ghost use Rattle.disk_history.specs.Legal.{IsLegal};
-ghost use Rattle.sheep_world.specs.RunsWithAsks.{Move};
+ghost use Rattle.sheep_world.specs.RunsWithAsks.{Move, event_of_move};
 ghost use Rattle.overlap_law.specs.Attempts.{AttemptRecord};
 ghost use Rattle.overlap_law.specs.FewLosses.{LossesAreFew, LossesStayFew};
-ghost use Rattle.overlap_law.specs.FewLossesInRuns.{LossesAreFewInRun};
+ghost use Rattle.overlap_law.specs.FewLossesInRuns.{LossesAreFewInRun, changes_nodes};
 ghost use Rattle.overlap_law.specs.Holders.{is_kept_in, is_available};
 ghost use Rattle.overlap_law.specs.MomentChanges.{RunsAreInRange};
 ghost use Rattle.overlap_law.specs.Past.{MomentWithPast, run_with_past};
@@ -32,4 +33,14 @@ pub fn few_losses_leave_the_whole_history_legal()
         → run_with_past script moves ≡ Some moment → LossesAreFewInRun script moves → moment.past.unavailable ≡ [] }
     ensures legal { (script : List Statement) (moves : List Move) (moment : MomentWithPast) → RunsAreInRange script
         → run_with_past script moves ≡ Some moment → LossesAreFewInRun script moves → IsLegal moment.past.history }
+{}
+
+/// So it is where no node is lost, leaves or joins in a run: then few losses hold at each moment, since each member counts for each epoch,
+/// and each object was born where there are as many zones as it has copies or strips; other weights leave the members in their zones.
+pub fn unchanged_members_leave_the_whole_history_legal()
+    ensures few { (script : List Statement) (moves : List Move) → RunsAreInRange script
+        → list_any changes_nodes (map event_of_move moves) ≡ false → LossesAreFewInRun script moves }
+    ensures legal { (script : List Statement) (moves : List Move) (moment : MomentWithPast) → RunsAreInRange script
+        → run_with_past script moves ≡ Some moment → list_any changes_nodes (map event_of_move moves) ≡ false
+        → IsLegal moment.past.history }
 {}

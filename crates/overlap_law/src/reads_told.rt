@@ -1,6 +1,6 @@
 //! Laws of what reads were told: what each change of a moment keeps of it, and what strips give.
 
-ghost use Rattle.std.specs.Prelude.{◌≡◌, ℕ, ◌*◌, ◌-◌, ◌<◌, Bool, true, false, List, slice_get, Some};
+ghost use Rattle.std.specs.Prelude.{◌≡◌, ℕ, ◌*◌, ◌-◌, ◌<◌, Bool, true, false, Contains, List, slice_get, Some};
 ghost use Rattle.gateway.specs.Attempt as gateways;
 ghost use Rattle.gateway.specs.declared.message.Status.{Status};
 ghost use Rattle.gateway.specs.State.{Work};
@@ -16,7 +16,6 @@ ghost use Rattle.sheep_node.specs.declared.course.Course.{Course};
 ghost use Rattle.sheep_node.specs.Changes.{EndsWork};
 ghost use Rattle.sheep_node.specs.StepState.{StepState};
 ghost use Rattle.sheep_world.specs.NodeCauses.{input_of_cause};
-ghost use Rattle.sheep_world.specs.RunsWithAsks.{Move};
 ghost use Rattle.vdi_directory.specs.Decisions.{log_effects};
 ghost use Rattle.overlap_law.specs.Attempts.{AttemptRecord, attempts_on};
 ghost use Rattle.overlap_law.specs.Each.{policy_in};
@@ -38,6 +37,38 @@ ghost use Rattle.overlap_law.specs.StandingReads.{AllReadsAreKept};
 ghost use Rattle.overlap_law.specs.StandingReads.{StripPiecesAreToCome};
 ghost use Rattle.overlap_law.specs.HistoryStands.{CallsAvailable};
 ghost use Rattle.overlap_law.specs.MomentChanges.{IsOnTheWay};
+ghost use Rattle.peer_proto.specs.declared.guest.DiskAsk.{DiskAsk};
+ghost use Rattle.peer_proto.specs.declared.guest.GuestRsp.{GuestRsp};
+ghost use Rattle.peer_proto.specs.declared.guest.VdiAsk.TheVariants.{Check};
+ghost use Rattle.sheep_node.specs.declared.ask.Ask.TheVariants.{Disk, Vdi};
+ghost use Rattle.sheep_node.specs.declared.event.Event.{Event};
+ghost use Rattle.sheep_world.specs.Began.{MakesMove};
+ghost use Rattle.sheep_world.specs.Run.{Moment};
+ghost use Rattle.sheep_world.specs.RunsWithAsks.{Move, run_with_asks};
+ghost use Rattle.sheep_world.specs.Step.{EventOutcome};
+ghost use Rattle.overlap_law.specs.PastWords.{is_refusal};
+ghost use Rattle.overlap_law.specs.PrintedReads.{IsCheckedOnDisk, IsDoneOnDisk, world_without_reply};
+ghost use Rattle.overlap_law.specs.StandingReads.{asked_in};
+
+/// In each run in range a reply to a read or write of a disk that isn't a refusal tells all that was asked, of the disk that the session of
+/// the request had open as it began: as many bytes as were to be read, or that what was to be written is. So each reply that tells of a
+/// read or write as done has added its events to the history.
+pub fn what_is_done_is_of_an_open_disk()
+    ensures { (script : List Statement) → RunsAreInRange script → (moves : List Move) (last : Moment)
+        → run_with_asks script moves ≡ Some last
+        → (event : Event) (made : EventOutcome) → MakesMove script event last.world made → (req : ℕ) (ask : DiskAsk) (rsp : GuestRsp)
+        → asked_in script req ≡ Some (Disk ask) → Contains made.world.outputs.replies (req, rsp) → is_refusal rsp ≡ false
+        → IsDoneOnDisk script (world_without_reply script event last.world) req ask rsp }
+{}
+
+/// So is a reply to a check that isn't a refusal: it tells what was found on the disk that the session had open as the check began.
+pub fn what_is_checked_is_of_an_open_disk()
+    ensures { (script : List Statement) → RunsAreInRange script → (moves : List Move) (last : Moment)
+        → run_with_asks script moves ≡ Some last
+        → (event : Event) (made : EventOutcome) → MakesMove script event last.world made → (req : ℕ) (rsp : GuestRsp)
+        → asked_in script req ≡ Some (Vdi Check) → Contains made.world.outputs.replies (req, rsp) → is_refusal rsp ≡ false
+        → IsCheckedOnDisk script (world_without_reply script event last.world) req rsp }
+{}
 
 /// In each run in range, whatever a change of a moment on the way of an event adds to the history keeps what open reads were told of the
 /// blocks before their pieces, and what the event told so far: a write that begins takes nothing away, one that is done has no item in

@@ -1,5 +1,5 @@
 //! Laws of a client's reads between the events of a run.
-ghost use Rattle.std.specs.Prelude.{◌≡◌, ◌≢◌, ℕ, true, List, [], ◌∷◌, ◌++◌, map, Some};
+ghost use Rattle.std.specs.Prelude.{◌≡◌, ◌≢◌, ◌≤◌, ℕ, true, List, [], ◌∷◌, ◌++◌, length, map, Some};
 ghost use Rattle.std.specs.Option.{option_map};
 ghost use Rattle.object_id.specs.declared.node.NodeId.{NodeId};
 ghost use Rattle.cluster_script.specs.declared.statement.Statement.{Statement};
@@ -8,11 +8,13 @@ ghost use Rattle.sheep_node.specs.declared.ask.Ask.{Ask};
 ghost use Rattle.sheep_node.specs.declared.event.Event.{Event};
 ghost use Rattle.sheep_node.specs.OneWork.{NumbersAreBelow};
 ghost use Rattle.sheep_world.specs.World.{Host, World, host_at};
-ghost use Rattle.sheep_world.specs.ClientAsks.{is_read_ask};
-ghost use Rattle.sheep_world.specs.ClientSteps.{ask_effect};
+ghost use Rattle.sheep_world.specs.Began.{Began};
+ghost use Rattle.sheep_world.specs.ClientAsks.{is_read_ask, may_be_asked, may_client_ask};
+ghost use Rattle.sheep_world.specs.ClientSteps.{ask_effect, world_driven};
 ghost use Rattle.sheep_world.specs.Run.{run};
 ghost use Rattle.sheep_world.specs.RunsWithAsks.{Move, Happens, Asks, run_with_asks};
 ghost use Rattle.overlap_law.specs.BegunAttempts.{attempts_begun};
+ghost use Rattle.overlap_law.specs.DrivenEvents.{driven_events};
 ghost use Rattle.overlap_law.specs.MomentChanges.{RunsAreInRange};
 ghost use Rattle.overlap_law.specs.Past.{MomentWithPast, next_moment, run_with_past, without_past};
 
@@ -29,6 +31,12 @@ pub fn a_run_with_asks_has_its_past()
     ensures past { (script : List Statement) (moves : List Move) (node : NodeId) (ask : Ask) (before after : MomentWithPast)
         → RunsAreInRange script → run_with_past script moves ≡ Some before → next_moment script (Asks node ask) before ≡ Some after
         → after.past ≡ before.past }
+    // So a run in range goes on with each read for which a client may ask.
+    ensures asked { (script : List Statement) (moves : List Move) (node : NodeId) (ask : Ask) (before : MomentWithPast)
+        → RunsAreInRange script → run_with_past script moves ≡ Some before → may_client_ask node.0 before.world ≡ true
+        → may_be_asked ask node.0 before.world ≡ true → is_read_ask ask ≡ true
+        → run_with_past script (moves ++ Asks node ask ∷ [])
+        ≡ Some (record { world = ask_effect node.0 ask before.world; past = before.past }) }
 {}
 
 /// Why it leaves the past so: what a client reads begins no attempt to create or write at its node, where that gave the numbers that
@@ -49,4 +57,17 @@ pub fn a_clients_read_makes_nothing()
     ensures others { (node : ℕ) (ask : Ask) (world : World) (other : ℕ) → other ≢ node
         → host_at other (ask_effect node ask world) ≡ host_at other world }
     ensures log { (node : ℕ) (ask : Ask) (world : World) → (ask_effect node ask world).log ≡ world.log }
+{}
+
+/// A world of a run, driven on to a client's answer, is one of a run again: that of the same moves, and behind them the events by which it
+/// was driven, one for each turn at most. So the past goes on with them.
+pub fn a_driven_world_is_reached()
+    ensures reached { (statements : List Statement) (world : World) → Began statements world → (turns : ℕ)
+        → Began statements (world_driven statements turns world) }
+    ensures behind { (script : List Statement) (moves : List Move) (before : MomentWithPast) (turns : ℕ)
+        → run_with_past script moves ≡ Some before
+        → option_map (λ (after : MomentWithPast). after.world)
+        (run_with_past script (moves ++ map Happens (driven_events script turns before.world)))
+        ≡ Some (world_driven script turns before.world) }
+    ensures few { (script : List Statement) (turns : ℕ) (world : World) → length (driven_events script turns world) ≤ turns }
 {}

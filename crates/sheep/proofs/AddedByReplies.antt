@@ -24,7 +24,7 @@ use Rattle.sheep_world.specs.Effects.{guest_begun, with_entries, put_effect}
 use Rattle.sheep_world.specs.NodeSteps.{world_after_step, node_stepped, at_rest}
 use Rattle.sheep_world.specs.MembershipChanges.{host_changed, lost_host, control_taken, node_lost, node_left, node_joined, node_reweighted, revived_host}
 use Rattle.sheep_world.specs.MembershipChanges.{join_of, last_weight, node_rejoined, came_back, phase_ended}
-use Rattle.sheep_world.specs.HistoryAdditions.{writes_grown, each_block, write_ended, reply_adds, added_by, has_begun_check_write, reply_grown}
+use Rattle.sheep_world.specs.HistoryAdditions.{writes_grown, each_block, write_ended, reply_adds, added_by, reply_grown}
 use Rattle.sheep_world.specs.HistoryAdditions.{check_write_grown, check_write_by, replies_grown}
 use Rattle.sheep_world.specs.MadeWorlds.{world_after_event, event_adds}
 use Rattle.sheep_world.specs.Step.{EventOutcome, step}
@@ -34,7 +34,8 @@ use Rattle.dog_report.specs.Fates.{Answered}
 use Rattle.dog_report.specs.Counts.{is_ok, is_refused}
 use Rattle.message_wire.specs.declared.name.MessageName.{MessageName}
 use Rattle.message_wire.specs.Message.{without_replies}
-use Rattle.sheep.specs.PrintedReplies.{IsGiven, world_without_reply, check_write_at, world_asked, disk_begun_on, reply_added, HasPart}
+use Rattle.overlap_law.specs.PrintedReads.{world_without_reply}
+use Rattle.sheep.specs.PrintedReplies.{IsGiven, check_write_at, world_asked, disk_begun_on, has_written, reply_added, HasPart}
 use Rattle.sheep.proofs.ReplyLists.{flat_map-part, part-between, part-contains}
 use Rattle.sheep_node.proofs.StepReplies.{put-silent, back-silent}
 
@@ -168,14 +169,10 @@ module _ (statements : List Statement) (all : List Event) (history : List HistEv
   module _ (disk : ℕ) (on : disk_begun_on given ≡ Some disk) where
     -- of a request of the script that began on a disk
     added_of : (s : Statement) → request_at statements req ≡ Some s
-        → reply_added given
-        ≡ reply_adds (has_begun_check_write statements req (world_asked given) (check_write_at given.event given.moment.world given.made.world))
-        req rsp disk s
+        → reply_added given ≡ reply_adds (has_written given) req rsp disk s
     added_of s asks =
-        let written : Bool = has_begun_check_write statements req (world_asked given)
-        (check_write_at given.event given.moment.world given.made.world) in
-        ap (λ (o : Option ℕ). added_by written req rsp o (request_at statements req)) on
-        ∙ ap (λ (o : Option Statement). added_by written req rsp (Some disk) o) asks
+        ap (λ (o : Option ℕ). added_by (has_written given) req rsp o (request_at statements req)) on
+        ∙ ap (λ (o : Option Statement). added_by (has_written given) req rsp (Some disk) o) asks
 
     write_part : (session offset length : ℕ) (pattern : Pattern) → request_at statements req ≡ Some (lines.Write session offset length pattern)
         → HasPart history (write_ended req rsp ∷ [])
@@ -199,7 +196,13 @@ module _ (statements : List Statement) (all : List Event) (history : List HistEv
     blocks-read session offset length bytes asks is =
         subst (λ (part : List HistEvent). HasPart history part)
         (added_of (lines.Read session offset length) asks
-        ∙ ap (λ (rsp : GuestRsp). reply_adds
-        (has_begun_check_write statements req (world_asked given) (check_write_at given.event given.moment.world given.made.world))
-        req rsp disk (lines.Read session offset length)) is)
+        ∙ ap (λ (rsp : GuestRsp). reply_adds (has_written given) req rsp disk (lines.Read session offset length)) is)
         given-added
+
+    pub check-done : (session : ℕ) → request_at statements req ≡ Some (lines.Check session) → is_ok (Answered rsp) ≡ true
+        → has_written given ≡ true → Contains history (WriteDone req)
+    check-done session asks ok written =
+        let added : reply_added given ≡ write_ended req rsp ∷ []
+        = added_of (lines.Check session) asks ∙ ap (λ (b : Bool). reply_adds b req rsp disk (lines.Check session)) written in
+        subst (λ (event : HistEvent). Contains history event) (write_done req rsp ok)
+        (part-contains history (write_ended req rsp) (subst (λ (part : List HistEvent). HasPart history part) added given-added))

@@ -32,10 +32,11 @@ use Rattle.sheep.specs.declared.status.Status.TheVariants as statuses
 use Rattle.sheep.specs.Reading.{Reads, ReadsAll, ReadsTooMuch}
 use Rattle.sheep.specs.Answer.{run_answer, replayed_answer, bad_script_answer, too_long_text, bad_words_text, answer_to, AnswersCall}
 use Rattle.sheep.proofs.PrintedReplies.{prints-replies}
+use Rattle.sheep.proofs.PrintedReads.{done-on_open_disks}
 use Rattle.sheep.proofs.GeneratedRange.{generated_in_range}
 use Rattle.sheep.specs.Outcome.{reads_input, takes_words, MakesRun, IsDone, IsBadScript, NamesBadEvent, HasInput, CanBeDone}
 
--- a whole run in range has a history, which has the replies that are printed, and they are one legal history
+-- a whole run in range has a history, which has the replies that are printed, and what is done by them; and they are one legal history
 pub makes_run : (statements : List Statement) (events : List Event) → RunsAreInRange statements → IsWholeRun statements events
     → (history : List HistEvent) × MakesRun statements events history
 makes_run statements events range whole = (
@@ -44,6 +45,7 @@ makes_run statements events range whole = (
     whole = whole;
     kept = ap (option_map (λ (moment : Moment). moment.history)) whole.1;
     replies = prints-replies statements events whole.0 range.is_script whole.1;
+    done = done-on_open_disks statements range events whole.0.history;
     headline = run_keeps_headline statements range events whole.0 whole.1;
   },
 )

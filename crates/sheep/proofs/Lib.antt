@@ -5,6 +5,7 @@ pub mod EndedRequests
 pub mod GivenReplies
 pub mod PrintedReplies
 pub mod AddedByReplies
+pub mod PrintedReads
 pub mod ToldRuns
 pub mod MakingRuns
 pub mod GeneratedRange

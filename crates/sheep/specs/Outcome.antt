@@ -18,6 +18,7 @@ use Rattle.sheep_words.specs.declared.mode.Mode.{Mode}
 use Rattle.sheep_words.specs.declared.mode.Mode.TheVariants.{Run, Replay, Gen, Live}
 use Rattle.sheep.specs.Reading.{ReadsAll}
 use Rattle.sheep.specs.PrintedReplies.{PrintsReplies}
+use Rattle.sheep.specs.PrintedReads.{DoneAreOnOpenDisks}
 use Rattle.sheep.specs.Answer.{printed_text, told_text, generated_line, bad_line_text, bad_event_text}
 
 -- whether a call with these words reads its source
@@ -37,11 +38,12 @@ takes_words (Some (Gen number)) = true
 takes_words (Some (Live trace)) = false
 
 -- events are a run of a script, in which every phase is ended, and made this history, in which the replies that its report prints were
--- given; and they are one legal history
+-- given; each read, write and check that is printed as done is done there on an open disk; and they are one legal history
 pub record MakesRun (statements : List Statement) (events : List Event) (history : List HistEvent) : Type 0 where
   pub whole : IsWholeRun statements events
   pub kept : history_of statements events ≡ Some history
   pub replies : PrintsReplies statements events history
+  pub done : DoneAreOnOpenDisks statements events history
   pub headline : RunKeepsHeadline statements events history
 
 module _ (Given : List ℕ → Type 0) (old new : Option (List ℕ)) where

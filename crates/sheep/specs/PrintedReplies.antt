@@ -1,5 +1,5 @@
 -- The replies that a report prints, and the events of its run that gave them.
-use Rattle.std.specs.Prelude.{◌≡◌, ℕ, List, ◌∷◌, ◌++◌, Contains, Option, Some, None}
+use Rattle.std.specs.Prelude.{◌≡◌, ℕ, Bool, List, ◌∷◌, ◌++◌, Contains, Option, Some, None}
 use Rattle.cluster_script.specs.declared.statement.Statement.{Statement}
 use Rattle.disk_history.specs.declared.event.HistEvent.{HistEvent}
 use Rattle.peer_proto.specs.declared.guest.GuestRsp.{GuestRsp}
@@ -7,10 +7,10 @@ use Rattle.sheep_node.specs.declared.event.Event.{Event}
 use Rattle.sheep_node.specs.declared.event.Event.TheVariants as events
 use Rattle.sheep_node.specs.declared.check_write.CheckWrite.{CheckWrite}
 use Rattle.sheep_world.specs.World.{World}
-use Rattle.sheep_world.specs.Effects.{guest_begun}
 use Rattle.sheep_world.specs.Step.{EventOutcome, step}
-use Rattle.sheep_world.specs.HistoryAdditions.{check_write_by, disk_of, reply_grown}
+use Rattle.sheep_world.specs.HistoryAdditions.{check_write_by, disk_of, has_begun_check_write, reply_grown}
 use Rattle.sheep_world.specs.Run.{Moment, run}
+use Rattle.overlap_law.specs.PrintedReads.{world_without_reply}
 use Rattle.dog_report.specs.Fates.{ReportLine, Answered, Told}
 use Rattle.dog_report.specs.Report.{report_of}
 
@@ -40,11 +40,6 @@ pub record PrintsReplies (statements : List Statement) (all : List Event) (histo
 
 -- ---- what a reply that was given added to the history
 
--- the world in which a request that an event replies to had no reply yet: the request that the event itself begins has begun by then
-abbrev pub world_without_reply : List Statement → Event → World → World
-world_without_reply statements (events.Guest session) world = guest_begun statements session world
-world_without_reply statements event world = world
-
 -- the write that a check comes to by an event
 abbrev pub check_write_at : Event → World → World → Option CheckWrite
 check_write_at (events.Deliver node number) before after = check_write_by (record { sender = node; number = number }) before after
@@ -59,6 +54,10 @@ module _ {statements : List Statement} {all : List Event} {history : List HistEv
   -- the disk on which the request began, if it began on one
   abbrev pub disk_begun_on : Option ℕ
   disk_begun_on = disk_of statements req world_asked
+
+  -- whether the request is a check that had come to a write by then, or comes to one by the event
+  abbrev pub has_written : Bool
+  has_written = has_begun_check_write statements req world_asked (check_write_at given.event given.moment.world given.made.world)
 
   -- what the reply added
   abbrev pub reply_added : List HistEvent

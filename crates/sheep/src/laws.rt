@@ -15,6 +15,8 @@ ghost use Rattle.sheep_world.specs.Run.{Moment, run};
 ghost use Rattle.dog_report.specs.Fates.{Answered};
 ghost use Rattle.dog_report.specs.Counts.{is_ok, is_refused};
 ghost use Rattle.sheep.specs.PrintedReplies.{IsGiven, PrintsReplies, disk_begun_on, reply_added, HasPart};
+ghost use Rattle.sheep.specs.PrintedReads.{DoneAreOnOpenDisks};
+ghost use Rattle.overlap_law.specs.MomentChanges.{RunsAreInRange};
 
 /// The report of a run of a script prints the replies that the run's events gave, each of them and no others, whether the run is whole or
 /// not.
@@ -48,4 +50,13 @@ pub fn the_history_has_what_replies_added()
         (given : IsGiven statements all history req rsp) (disk : ℕ) → disk_begun_on given ≡ Some disk
         → (session offset length : ℕ) (bytes : List ℕ) → request_at statements req ≡ Some (lines.Read session offset length)
         → rsp ≡ Piece bytes → HasPart history (each_block (λ block piece. Read disk block piece) offset bytes) }
+{}
+
+/// Nothing that is printed as done escapes the history, in each run in range, whole or not: a read that is told as `ok` began on a disk
+/// that its session had open, it is told as many bytes as it asked for, and the history has the reads of their blocks of this disk; a write
+/// that is told so began on an open disk, and the history has that it is done; and so a check, which tells what it found, and of which the
+/// history has that its write is done, if it came to one.
+pub fn what_is_printed_as_done_is_on_an_open_disk()
+    ensures { (statements : List Statement) (all : List Event) (history : List HistEvent) → RunsAreInRange statements
+        → DoneAreOnOpenDisks statements all history }
 {}

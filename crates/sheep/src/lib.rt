@@ -4,8 +4,9 @@
 //! gives, or that a trace gives, and for a script that a number generates one line. Its contract says what is written for every input,
 //! with each status, over the definitions of `schedule`, `trace_text` and `dog_report`.
 //!
-//! The replies that are printed are those that the events of the run gave, in its history (`specs/PrintedReplies.antt`, `laws.rt`); and
-//! they are one legal history, as `overlap_law` shows of every run (`specs/Outcome.antt`).
+//! The replies that are printed are those that the events of the run gave, in its history (`specs/PrintedReplies.antt`, `laws.rt`); each
+//! read, write and check that is printed as done is done there, on an open disk (`specs/PrintedReads.antt`); and they are one legal
+//! history, as `overlap_law` shows of every run (`specs/Outcome.antt`).
 //!
 //! [`sheep_live`] does the same on threads (`live_run`): the report is that of the run into which the steps merge that the cluster kept.
 //!
@@ -25,7 +26,7 @@ mod top;
 
 pub use laws::{
     a_report_prints_the_replies_of_its_run, a_request_gets_one_reply,
-    the_history_has_what_replies_added,
+    the_history_has_what_replies_added, what_is_printed_as_done_is_on_an_open_disk,
 };
 pub use live::sheep_live;
 pub use live_run::{FreeGate, Gate, Kept};

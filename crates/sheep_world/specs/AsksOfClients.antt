@@ -1,7 +1,6 @@
 -- What is so of a client's asks in every world of a run: a request of session 0 is a read that a client asked, and has a number
 -- above those of any script's requests; at most one node has it, and where that isn't lost it is the last ask, and has no reply. So where
--- the last ask has its reply, session 0 is free at each node that isn't lost; where its node was lost before the reply came, no client
--- reads any more.
+-- the last ask has its reply, session 0 is free at each node that isn't lost.
 use Rattle.std.specs.Prelude.{◌≡◌, ℕ, ◌<◌, true, false, [], Some, None}
 use Rattle.std.specs.Ordering.{nat_cmp}
 use Rattle.std.specs.FinMap as tree

@@ -179,8 +179,9 @@ pub fn what_is_in_the_wire_was_spelled()
     ensures { (statements : List Statement) (world : World) → Began statements world → PacketsAreSpelled world }
 {}
 
-/// An event is of one of nine kinds: a node steps, for one of eight causes; a message is lost and no node is told; bytes come that are
-/// no message; a node is lost, leaves, gets another weight, joins or comes back; a phase ends.
+/// An event is of one of nine kinds: a node steps, for one of the causes that a step may have; a message is lost and no node is told; bytes
+/// come that are no message; a node is lost, leaves, gets another weight, joins or comes back; a phase ends. A client's read is a cause of
+/// steps, but no event: that no event's step is for one shows by the input that the world keeps, and isn't said here.
 pub fn each_event_is_of_a_kind()
     ensures { (statements : List Statement) (event : Event) (world : World) (made : EventOutcome)
         → step statements event world ≡ Some made → EventKind statements event world made }

@@ -73,13 +73,14 @@ mod written_checks;
 
 pub use fault::ApplyFault;
 pub use laws::{
-    a_check_reads_what_it_writes, a_clients_read_is_made_as_asked, a_history_only_grows, a_lost_node_gets_no_reply,
-    a_node_may_step_on_an_ask, a_phase_brings_its_losses, a_run_is_cut_anywhere,
-    a_small_world_worked_out, a_write_begins_each_block_once, an_answer_is_brought_by_events,
-    an_ask_is_told_to_no_session, asks_stand_between_the_events_of_a_run,
-    clients_ask_one_at_a_time, each_event_is_of_a_kind, lives_worked_out, members_make_no_disk,
-    nodes_and_wire_stay_together, nodes_have_read_fronts_of_the_log, nodes_step_on_what_they_may,
-    recoveries_stay_in_range, requests_have_inputs, requests_were_begun, the_controls_to_come_fit,
+    a_check_reads_what_it_writes, a_clients_read_is_made_as_asked, a_history_only_grows,
+    a_lost_node_gets_no_reply, a_node_may_step_on_an_ask, a_phase_brings_its_losses,
+    a_run_is_cut_anywhere, a_small_world_worked_out, a_write_begins_each_block_once,
+    an_answer_is_brought_by_events, an_ask_is_told_to_no_session,
+    asks_stand_between_the_events_of_a_run, clients_ask_one_at_a_time, each_event_is_of_a_kind,
+    lives_worked_out, members_make_no_disk, nodes_and_wire_stay_together,
+    nodes_have_read_fronts_of_the_log, nodes_step_on_what_they_may, recoveries_stay_in_range,
+    requests_have_inputs, requests_were_begun, the_controls_to_come_fit,
     the_enabled_list_has_what_may_happen, the_enabled_list_is_in_parts, the_log_holds,
     what_is_asked_can_be_spelled, what_is_in_the_wire_was_spelled, what_may_happen_is_made,
 };

@@ -140,8 +140,8 @@ impl World {
 
     /// A client without a script asks something of a node: a request numbered from 10,001 up, of session 0, which no script has. It is
     /// taken exactly where the node is up, and a member by what it has read, and the last ask has its reply; else the world stays. What is
-    /// asked has to be as it may be then. An ask is no event of a run, and adds nothing to a history. Costs what the node's step costs,
-    /// and a look-up for each message that it gives.
+    /// asked has to be as it may be then. An ask is no event of a run, and adds nothing to a history; a read of an object by its id is a
+    /// move of a run. Costs what the node's step costs, and a look-up for each message that it gives.
     pub fn ask(&mut self, node: NodeId, ask: Ask) -> Result<(), ApplyFault>
         requires live { self.old.spent ≡ false }
         requires asked { may_client_ask node.0 self.old.world ≡ true → may_be_asked ask node.0 self.old.world ≡ true }
