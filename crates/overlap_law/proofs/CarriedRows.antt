@@ -10,7 +10,6 @@ use Rattle.overlap_law.specs.BornObjects.{IsBorn}
 use Rattle.overlap_law.specs.Fates.{CreatesComeFirst}
 use Rattle.overlap_law.specs.Groups.{RowsAreKept, SearchesAreKept}
 use Rattle.overlap_law.specs.Holders.{is_object_among, targets_by, is_live_object, is_good, is_dead_by_log}
-use Rattle.overlap_law.specs.KeptSoFar.{IsKeptSoFar}
 use Rattle.overlap_law.specs.Lists.{ListsAreComplete, WhatIsNotPendingIsThere}
 use Rattle.overlap_law.specs.MomentChanges.{MomentTrail, TrailLeft, IsOnTheWay, RunsAreInRange, Still, Then, AtEnd, Next}
 use Rattle.overlap_law.specs.Past.{MomentWithPast, first_moment, next_moment, run_with_past}
@@ -22,7 +21,7 @@ use Rattle.overlap_law.proofs.EndTargets.{carried_to_the_end}
 use Rattle.overlap_law.proofs.EndTests.{speaks, lived, was_good}
 use Rattle.overlap_law.proofs.FewerObjects.{rows_of_fewer, searches_of_fewer}
 use Rattle.overlap_law.proofs.HeldLevels.{has_made}
-use Rattle.overlap_law.proofs.KeptSoFar.{kept_so_far}
+use Rattle.overlap_law.proofs.KeptByMoves.{IsKeptByMoves, kept_by_moves}
 use Rattle.overlap_law.proofs.KeptTogether.{complete_after, nothing_missing, there_after, kept_rows_after}
 use Rattle.overlap_law.proofs.LevelsAskedInRuns.{levels_asked-on_the_way}
 use Rattle.overlap_law.proofs.LogsInMoments.{log_grows}
@@ -82,21 +81,21 @@ module _ (script : List Statement) (range : RunsAreInRange script) where
 
   module _ (events : List Move) (moment : MomentWithPast) (is : run_with_past script events ≡ Some moment)
       (carries : CarriesRows (good_at moment) moment) where
-    so_far : IsKeptSoFar script moment
-    so_far = kept_so_far script range events moment is
+    of_run : IsKeptByMoves script moment
+    of_run = kept_by_moves script range events moment is
 
     rows_kept : RowsAreKept (targets_by moment.world.log) moment.world.log (log_effects moment.world.log) (live_at moment) (good_at moment)
         moment.world.hosts moment.past.attempts
     rows_kept = record {
-      ends = so_far.ends;
-      one_open = so_far.one_open;
-      apart = so_far.rows_apart;
-      row_shape = so_far.row_shape;
-      placed = so_far.placed;
-      begun = so_far.rows_begun;
-      stays = so_far.stays;
+      ends = of_run.ends;
+      one_open = of_run.one_open;
+      apart = of_run.rows_apart;
+      row_shape = of_run.row_shape;
+      placed = of_run.placed;
+      begun = of_run.rows_begun;
+      stays = of_run.stays;
       since = carries.since;
-      of_attempts = so_far.of_attempts (live_at moment);
+      of_attempts = of_run.of_attempts (live_at moment);
       kept = carries.kept;
       carried = carries.carried;
     }
@@ -104,18 +103,18 @@ module _ (script : List Statement) (range : RunsAreInRange script) where
     searches_kept : SearchesAreKept (targets_by moment.world.log) moment.world.log (log_effects moment.world.log) (live_at moment)
         (good_at moment) moment.past.listed moment.world.hosts moment.world.wire moment.past.attempts
     searches_kept = record {
-      listing = so_far.listing;
-      told_beyond = so_far.told_beyond;
-      list_told = so_far.list_told (live_at moment);
+      listing = of_run.listing;
+      told_beyond = of_run.told_beyond;
+      list_told = of_run.list_told (live_at moment);
       complete = carries.complete;
-      pending = so_far.pending (live_at moment);
+      pending = of_run.pending (live_at moment);
       has = carries.has;
-      search_first = so_far.search_first;
+      search_first = of_run.search_first;
       asked = levels_asked-on_the_way script range events moment moment is Still (good_at moment);
-      row_told = so_far.row_told (good_at moment);
+      row_told = of_run.row_told (good_at moment);
       row_told_since = carries.row_told_since;
-      told_of_attempts = so_far.told_of_attempts (live_at moment);
-      norow_told = so_far.norow_told (good_at moment);
+      told_of_attempts = of_run.told_of_attempts (live_at moment);
+      norow_told = of_run.norow_told (good_at moment);
       passed = passed-on_the_way script range events moment moment is Still (good_at moment);
       not_missing = carries.not_missing;
     }

@@ -8,7 +8,6 @@ use Rattle.overlap_law.specs.Contents.{RowContents, AttemptsStand}
 use Rattle.overlap_law.specs.Facts.{EachGood, HoldersOfTheBase, CompleteLists, LostGatewaysAreFenced, MeetsFacts}
 use Rattle.overlap_law.specs.FirstCreates.{CreatesAlwaysComeFirst}
 use Rattle.overlap_law.specs.Holders.{targets_by, is_live_object, is_object_among, born_objects, is_dead_by_log}
-use Rattle.overlap_law.specs.KeptSoFar.{IsKeptSoFar}
 use Rattle.overlap_law.specs.MomentChanges.{RunsAreInRange, Still}
 use Rattle.overlap_law.specs.Attempts.{AttemptRecord}
 use Rattle.overlap_law.specs.BornObjects.{IsBorn}
@@ -22,7 +21,7 @@ use Rattle.overlap_law.proofs.FencedGateways.{lost_gateways}
 use Rattle.overlap_law.proofs.GoneInRuns.{all_fenced}
 use Rattle.overlap_law.proofs.EntriesOfInodes.{entries_named}
 use Rattle.overlap_law.proofs.HolderLemmas.{holders, good-live, counted-there, gives-holders}
-use Rattle.overlap_law.proofs.KeptSoFar.{kept_so_far}
+use Rattle.overlap_law.proofs.KeptByMoves.{IsKeptByMoves, kept_by_moves}
 use Rattle.overlap_law.proofs.NoRecoveredDue.{began-with_past}
 use Rattle.overlap_law.proofs.OverlapLemmas.{complete_lists, gives-complete}
 use Rattle.overlap_law.proofs.TablesOfRuns.{copies-in_run}
@@ -35,25 +34,25 @@ live-born log attempts oid is = (and_parts (is_object_among oid (born_objects at
 
 module _ (script : List Statement) (range : RunsAreInRange script) (events : List Move) (moment : MomentWithPast)
     (is : run_with_past script events ≡ Some moment) where
-  so_far : IsKeptSoFar script moment
-  so_far = kept_so_far script range events moment is
+  of_run : IsKeptByMoves script moment
+  of_run = kept_by_moves script range events moment is
 
   pub gateways-in_run : LostGatewaysAreFenced moment.world.log moment.world.hosts moment.world.wire moment.past.attempts
   gateways-in_run =
-      lost_gateways so_far.tied so_far.wire.from_past so_far.wire.fenced
-      (all_fenced script range moment.world (began-with_past script events moment is)) so_far.writers.one_writer
+      lost_gateways of_run.tied of_run.wire.from_past of_run.wire.fenced
+      (all_fenced script range moment.world (began-with_past script events moment is)) of_run.writers.one_writer
       (early_in_run script range events moment is)
 
   module _ (first : CreatesAlwaysComeFirst script) where
     pub contents-in_run : EachGood moment.world moment.past (RowContents moment.world.hosts)
     contents-in_run =
         let rows = rows-in_run script range first events moment is in
-        contents so_far.tied.fates so_far.shaped.shape so_far.whole so_far.ordered
+        contents of_run.tied.fates of_run.shaped.shape of_run.whole of_run.ordered
         (first events moment moment is Still) rows.ends rows.placed
         rows.since
 
     pub stand-in_run : EachGood moment.world moment.past (AttemptsStand moment.world.hosts)
-    stand-in_run = stand so_far.shaped.shape (rows-in_run script range first events moment is).since
+    stand-in_run = stand of_run.shaped.shape (rows-in_run script range first events moment is).since
 
     pub holders-in_run : EachGood moment.world moment.past (HoldersOfTheBase (targets_by moment.world.log)
         (counts moment.past.ended moment.world) (settled_of moment.world.log) moment.world.hosts)
@@ -61,7 +60,7 @@ module _ (script : List Statement) (range : RunsAreInRange script) (events : Lis
         let rows = rows-in_run script range first events moment is in
         holders
         (good-live moment.world.log moment.past.attempts moment.past.unavailable)
-        so_far.tied.fates so_far.shaped.shape so_far.shaped.known so_far.epochs rows.stays rows.kept
+        of_run.tied.fates of_run.shaped.shape of_run.shaped.known of_run.epochs rows.stays rows.kept
         (counts moment.past.ended moment.world) (counted-there moment.past.ended moment.world)
 
     pub lists-in_run : EachGood moment.world moment.past (CompleteLists moment.past.listed moment.world.hosts)
@@ -79,7 +78,7 @@ module _ (script : List Statement) (range : RunsAreInRange script) (events : Lis
           lists = lists-in_run;
           fenced = gateways-in_run;
           entries = entries_named (good-live moment.world.log moment.past.attempts moment.past.unavailable)
-              (live-born moment.world.log moment.past.attempts) so_far.tied.fates so_far.shaped.shape rows.ends rows.row_shape rows.placed
+              (live-born moment.world.log moment.past.attempts) of_run.tied.fates of_run.shaped.shape rows.ends rows.row_shape rows.placed
               rows.of_attempts rows.since own;
           tables = copies-in_run script range events moment is;
         }

@@ -1,11 +1,11 @@
 -- Moves of a run: what goes on is a move, and the event as which it is told of.
-use Rattle.std.proofs.Common.{◌≡◌, List, Option, Some, None, option_map, refl, sym, ap, ◌∙◌}
+use Rattle.std.proofs.Common.{◌≡◌, List, Option, Some, None, option_map, refl, sym, ap, subst, ◌∙◌}
 use Rattle.std.proofs.lemmas.Option.{same_Some}
 use Rattle.cluster_script.specs.declared.statement.Statement.{Statement}
 use Rattle.sheep_node.specs.declared.event.Event.{Event}
 use Rattle.sheep_world.specs.Began.{MakesMove}
-use Rattle.sheep_world.specs.RunsWithAsks.{Move, made_by, event_of_move}
-use Rattle.sheep_world.specs.Step.{EventOutcome}
+use Rattle.sheep_world.specs.RunsWithAsks.{Move, Happens, made_by, event_of_move}
+use Rattle.sheep_world.specs.Step.{EventOutcome, step}
 use Rattle.sheep_world.specs.World.{World}
 use Rattle.overlap_law.specs.Past.{MomentWithPast, moment_after, next_moment}
 
@@ -42,3 +42,12 @@ pub goes_as : (script : List Statement) (world : World) {event own : Event} {mad
     → MakesMove script event world made → MakesMove script own world its
 goes_as script world is so goes =
     record { move = goes.move; event_so = goes.event_so ∙ sym is; made_so = goes.made_so ∙ ap (λ (m : EventOutcome). Some m) (sym so) }
+
+-- what an event makes of a world, it makes of a moment that has it
+abbrev pub event_makes : (script : List Statement) (event : Event) (made : EventOutcome) (world : World) (moment : MomentWithPast)
+    → moment.world ≡ world → step script event world ≡ Some made → MakesMove script event moment.world made
+event_makes script event made world moment at is = record {
+  move = Happens event;
+  event_so = refl;
+  made_so = subst (λ (world : World). step script event world ≡ Some made) (sym at) is;
+}

@@ -132,7 +132,7 @@ pub mod RefusingNothing
 pub mod RefusedUntouched
 pub mod UntouchedInRuns
 pub mod RunsWithOneMore
-pub mod KeptSoFar
+pub mod KeptByMoves
 pub mod ReservedIds
 pub mod SessionCommands
 pub mod CountedEntries
@@ -865,3 +865,4 @@ pub mod PrintedReplies
 pub mod PrintedReads
 pub mod PrintedChecks
 pub mod DrivenWorlds
+pub mod RunsKeepHeadline

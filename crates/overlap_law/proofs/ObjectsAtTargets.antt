@@ -59,7 +59,7 @@ use Rattle.overlap_law.proofs.ClaimsInRuns.{claimed_in_worlds}
 use Rattle.overlap_law.proofs.CoursesOfScript.{asked_by, BeganOn, requests_placed}
 use Rattle.overlap_law.proofs.FirstSearchesInRuns.{listing-on_the_way}
 use Rattle.overlap_law.proofs.HolderLemmas.{target-member}
-use Rattle.overlap_law.proofs.KeptSoFar.{writers-in_run}
+use Rattle.overlap_law.proofs.KeptByMoves.{writers-in_run}
 use Rattle.overlap_law.proofs.LackedInRuns.{index-has_node}
 use Rattle.overlap_law.proofs.LatestInRuns.{latest-in_run}
 use Rattle.overlap_law.proofs.MadeForDisks.{IsForMade, IsFoundIn, work_found}

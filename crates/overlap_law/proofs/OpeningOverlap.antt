@@ -38,14 +38,13 @@ use Rattle.sheep_world.proofs.WireAtOpening.{opening_found, nobody_asks}
 use Rattle.overlap_law.specs.Tables.{candidates, is_snapshot_effect}
 use Rattle.overlap_law.specs.Drafts.{published_by}
 use Rattle.overlap_law.specs.Past.{MomentWithPast, first_moment, run_with_past, run_on}
-use Rattle.overlap_law.specs.KeptSoFar.{IsKeptSoFar}
 use Rattle.overlap_law.specs.ToldRows.{IsRowUnderWay, IsRowKept, ToldRow}
 use Rattle.overlap_law.specs.MomentChanges.{RunsAreInRange}
 use Rattle.overlap_law.specs.ToDo.{IsOpen, IsInLine, IsToDo}
 use Rattle.overlap_law.specs.Overlap.{Overlap, OverlapOf}
 use Rattle.overlap_law.proofs.BornInRuns.{born-in_run}
 use Rattle.overlap_law.proofs.JoinsInRuns.{joins_in_run}
-use Rattle.overlap_law.proofs.KeptSoFar.{kept_so_far}
+use Rattle.overlap_law.proofs.KeptByMoves.{IsKeptByMoves, kept_by_moves}
 
 -- ---- the nodes
 
@@ -187,8 +186,8 @@ module _ (script : List Statement) where
     unfolding run_with_past run_on
     is_run = refl
 
-    so_far : IsKeptSoFar script first
-    so_far = kept_so_far script range [] first is_run
+    of_run : IsKeptByMoves script first
+    of_run = kept_by_moves script range [] first is_run
 
     no_row : {P : Type 0} (n : ℕ) (host : Host) → tree.get first.world.hosts n ≡ Some host → (oid i : ℕ) (row : SeenRow)
         → slice_get (rows_of host.node.peer.rows oid) i ≡ Some row → P
@@ -199,33 +198,33 @@ module _ (script : List Statement) where
     overlap_at_opening : Overlap first
     unfolding initial_world
     overlap_at_opening = record {
-      flight = so_far.wire;
+      flight = of_run.wire;
       attempts = record {
-        fates = so_far.tied.fates;
-        incarnations = so_far.tied.incarnations;
-        reached = so_far.tied.reached;
-        shape = so_far.shaped.shape;
+        fates = of_run.tied.fates;
+        incarnations = of_run.tied.incarnations;
+        reached = of_run.tied.reached;
+        shape = of_run.shaped.shape;
         units = record { each = λ j attempt there. absurd (cc (there)) };
-        known = so_far.shaped.known;
+        known = of_run.shaped.known;
         ordered = record { each = λ j attempt there. absurd (cc (there)) };
         latest = record { each = λ n host got up req work current there. no_work n host got req work there };
-        of_works = so_far.works;
-        worked = so_far.fates;
-        touched = so_far.touched;
-        losers = so_far.losers;
-        untouched = so_far.untouched;
+        of_works = of_run.works;
+        worked = of_run.fates;
+        touched = of_run.touched;
+        losers = of_run.losers;
+        untouched = of_run.untouched;
         create_first = record { each = λ j attempt there. absurd (cc (there)) };
       };
-      writers = so_far.writers;
-      terms = so_far.epochs;
+      writers = of_run.writers;
+      terms = of_run.epochs;
       rows = record {
-        ends = so_far.ends;
-        one_open = so_far.one_open;
-        apart = so_far.rows_apart;
+        ends = of_run.ends;
+        one_open = of_run.one_open;
+        apart = of_run.rows_apart;
         row_shape = record { each = λ n host got oid i row there. no_row n host got oid i row there };
         placed = record { each = λ n host got oid i row there. no_row n host got oid i row there };
         begun = record { each = λ n host got oid i row there. no_row n host got oid i row there };
-        stays = so_far.stays;
+        stays = of_run.stays;
         since = record { each = λ n host got oid i row there. no_row n host got oid i row there };
         of_attempts = record { each = λ n host got oid i row there. no_row n host got oid i row there };
         kept = record { each = λ n host got oid epoch policy good. absurd (cc (good)) };
@@ -305,7 +304,7 @@ module _ (script : List Statement) where
           opened = λ n host got up req work there. no_work n host got req work there;
           lined = λ n host got up number place session waiting there. no_session n host got number session there;
         };
-        granted = so_far.granted;
+        granted = of_run.granted;
         drawn = record { each = λ vid index entry draft candidate. absurd (no_candidate vid index candidate.entries candidate.there) };
         created = record {
           created = λ n host got up place entry vid there published.
@@ -348,14 +347,14 @@ module _ (script : List Statement) where
       };
       legal = refl;
       no_items = λ req disk block refused. absurd (cc (refused));
-      nothing_made = so_far.nothing_made;
+      nothing_made = of_run.nothing_made;
     }
 
     pub overlap_opens : OverlapOf script first
     overlap_opens = record {
       overlap = overlap_at_opening;
       asked = record { each = λ n req host request got up there. no_request n host got req request there };
-      began = so_far.scripts;
-      answered = so_far.refused;
+      began = of_run.scripts;
+      answered = of_run.refused;
       joins = joins_in_run script range.is_script [] first is_run;
     }

@@ -5,7 +5,6 @@ use Rattle.sheep_world.specs.RunsWithAsks.{Move}
 use Rattle.vdi_directory.specs.Decisions.{log_effects}
 use Rattle.overlap_law.specs.Groups.{WrittenIsKept, PiecesAreKept}
 use Rattle.overlap_law.specs.Headline.{ledger_of}
-use Rattle.overlap_law.specs.KeptSoFar.{IsKeptSoFar, KeepsFacts}
 use Rattle.overlap_law.specs.MomentChanges.{RunsAreInRange, Still}
 use Rattle.overlap_law.specs.Overlap.{OverlapOf}
 use Rattle.overlap_law.specs.Past.{MomentWithPast, next_moment, run_with_past}
@@ -16,8 +15,8 @@ use Rattle.overlap_law.proofs.CheckedAlone.{checks_have-in_run}
 use Rattle.overlap_law.proofs.HistoryCarried.{stands-in_run, tells}
 use Rattle.overlap_law.proofs.HistoryToMake.{works_made}
 use Rattle.overlap_law.proofs.JoinsInRuns.{joins_in_run}
-use Rattle.overlap_law.proofs.KeptFacts.{facts_kept}
-use Rattle.overlap_law.proofs.KeptSoFar.{kept_so_far}
+use Rattle.overlap_law.proofs.KeptFacts.{KeepsFacts, facts_kept}
+use Rattle.overlap_law.proofs.KeptByMoves.{IsKeptByMoves, kept_by_moves}
 use Rattle.overlap_law.proofs.LegalReplies.{legal-in_run}
 use Rattle.overlap_law.proofs.NoRecoveredDue.{began-with_past}
 use Rattle.overlap_law.proofs.ReadSoFar.{read_so_far}
@@ -59,14 +58,14 @@ module _ (script : List Statement) (range : RunsAreInRange script) (events : Lis
 
   pub overlap_holds : OverlapOf script moment
   overlap_holds =
-      let so_far : IsKeptSoFar script moment = kept_so_far script range events moment run in
+      let of_run : IsKeptByMoves script moment = kept_by_moves script range events moment run in
       let facts : KeepsFacts moment = facts_kept script range events moment run in
       record {
         overlap = record {
-          flight = so_far.wire;
+          flight = of_run.wire;
           attempts = facts.attempts;
-          writers = so_far.writers;
-          terms = so_far.epochs;
+          writers = of_run.writers;
+          terms = of_run.epochs;
           rows = facts.rows;
           searches = facts.recoveries;
           tables = facts.tables;
@@ -75,12 +74,12 @@ module _ (script : List Statement) (range : RunsAreInRange script) (events : Lis
           pieces = pieces_kept;
           lacked = facts.lacked;
           legal = legal-in_run script range (tells script range) events moment run;
-          no_items = so_far.no_items;
-          nothing_made = so_far.nothing_made;
+          no_items = of_run.no_items;
+          nothing_made = of_run.nothing_made;
         };
-        asked = so_far.asked;
-        began = so_far.scripts;
-        answered = so_far.refused;
+        asked = of_run.asked;
+        began = of_run.scripts;
+        answered = of_run.refused;
         joins = joins_in_run script range.is_script events moment run;
       }
 

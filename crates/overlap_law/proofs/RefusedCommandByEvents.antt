@@ -126,30 +126,16 @@ module _ (script : List Statement) (range : RunsAreInRange script) (earlier : Li
 
   log_behind : (cause : NodeCause) (log more : List Entry) → log ≡ earlier ++ entry ∷ more
       → log_after_cause cause log ≡ earlier ++ entry ∷ log_after_cause cause more
-  log_behind (GuestAsks asking number ask) log more is = is
-  log_behind (RequestComes name to request) log more is = is
-  log_behind (ReplyComes name of rsp) log more is = is
-  log_behind (LossIsTold name packet) log more is = is
-  log_behind (EntryIsRead read) log more is = is
   log_behind (EntryIsPut put) log more is =
       ap (λ (l : List Entry). l ++ put ∷ []) is
       ∙ push_more script range earlier entry node command session req known mine incarnation asked more put
-  log_behind RecoveryTicks log more is = is
-  log_behind WorkIsRetried log more is = is
-  log_behind (ClientAsks number ask) log more is = is
+  log_behind cause log more is = is
 
   behind_stays : (cause : NodeCause) (more : List Entry) (one : Entry) → IsFreedIn (earlier ++ entry ∷ []) more one
       → IsFreedIn (earlier ++ entry ∷ []) (log_after_cause cause more) one
-  behind_stays (GuestAsks asking number ask) more one among = among
-  behind_stays (RequestComes name to request) more one among = among
-  behind_stays (ReplyComes name of rsp) more one among = among
-  behind_stays (LossIsTold name packet) more one among = among
-  behind_stays (EntryIsRead read) more one among = among
   behind_stays (EntryIsPut put) more one among =
       more_freed script range earlier entry node command session req known mine incarnation asked more put one among
-  behind_stays RecoveryTicks more one among = among
-  behind_stays WorkIsRetried more one among = among
-  behind_stays (ClientAsks number ask) more one among = among
+  behind_stays cause more one among = among
 
   -- what is to be put is put by the step, or is left
   module _ (world : World) (began : Began script world) (host : Host) (there : tree.get world.hosts node.0 ≡ Some host)
@@ -181,11 +167,6 @@ module _ (script : List Statement) (range : RunsAreInRange script) (earlier : Li
   log_of_step : (world : World) → Began script world → (k : ℕ) (host : Host) → tree.get world.hosts k ≡ Some host → k ≢ node.0
       → (cause : NodeCause) → IsCause script world k host cause
       → GrowsBy script range earlier entry node command session req known mine incarnation asked world.log (log_after_cause cause world.log)
-  log_of_step world began k host there other (GuestAsks asking number ask) so = inl refl
-  log_of_step world began k host there other (RequestComes name to request) so = inl refl
-  log_of_step world began k host there other (ReplyComes name of rsp) so = inl refl
-  log_of_step world began k host there other (LossIsTold name packet) so = inl refl
-  log_of_step world began k host there other (EntryIsRead read) so = inl refl
   log_of_step world began k host there other (EntryIsPut put) so = inr (
     put,
     refl,
@@ -195,9 +176,7 @@ module _ (script : List Statement) (range : RunsAreInRange script) (earlier : Li
         let whose : host.node.me ≡ node = of_one_node node host.node.me entry command (subst (IsEntryOf host.node.me) same own) in
         other (sym (knows_its_number script world began k host there) ∙ ap (λ (m : NodeId). m.0) whose),
   )
-  log_of_step world began k host there other RecoveryTicks so = inl refl
-  log_of_step world began k host there other WorkIsRetried so = inl refl
-  log_of_step world began k host there other (ClientAsks number ask) so = inl refl
+  log_of_step world began k host there other cause so = inl refl
 
   module _ (event : Event) (moment : MomentWithPast) (made : EventOutcome) (began : Began script moment.world)
       (f : Follows script range earlier entry node command session req known mine incarnation asked moment)

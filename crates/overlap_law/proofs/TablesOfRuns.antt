@@ -9,13 +9,12 @@ use Rattle.cluster_script.specs.declared.statement.Statement.{Statement}
 use Rattle.overlap_law.specs.Facts.{CopiesHaveTheTable}
 use Rattle.overlap_law.specs.GoodInodes.{is_available_inode}
 use Rattle.overlap_law.specs.Holders.{is_live_object, is_object_among, IsGood}
-use Rattle.overlap_law.specs.KeptSoFar.{IsKeptSoFar}
 use Rattle.overlap_law.specs.MomentChanges.{RunsAreInRange}
 use Rattle.overlap_law.specs.Past.{MomentWithPast, run_with_past}
 use Rattle.overlap_law.proofs.CarriedInodes.{good_inodes-in_run}
 use Rattle.overlap_law.proofs.CarriedRows.{rows-in_run}
 use Rattle.overlap_law.proofs.HolderLemmas.{good-live}
-use Rattle.overlap_law.proofs.KeptSoFar.{kept_so_far}
+use Rattle.overlap_law.proofs.KeptByMoves.{IsKeptByMoves, kept_by_moves}
 use Rattle.overlap_law.proofs.KnownDisks.{vid-of_inode}
 use Rattle.overlap_law.proofs.MakingInRuns.{creates_first-in_run}
 use Rattle.overlap_law.proofs.StayingRows.{not_dead}
@@ -37,7 +36,7 @@ module _ (script : List Statement) (range : RunsAreInRange script) (events : Lis
 
   pub copies-in_run : CopiesHaveTheTable (log_effects moment.world.log) moment.world.hosts vid moment.past.attempts
   copies-in_run =
-      let so_far : IsKeptSoFar script moment = kept_so_far script range events moment is in
+      let of_run : IsKeptByMoves script moment = kept_by_moves script range events moment is in
       let rows = rows-in_run script range (creates_first-in_run script range) events moment is in
-      copies_have_table so_far.tied.fates so_far.shaped.shape rows.ends rows.placed rows.since
+      copies_have_table of_run.tied.fates of_run.shaped.shape rows.ends rows.placed rows.since
       (good_inodes-in_run script range events moment is).tables vid id good available alive

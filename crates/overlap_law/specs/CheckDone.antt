@@ -1,5 +1,5 @@
 -- What a check leaves of the blocks that it wrote, by the history: each has one value, until a write of it begins.
-use Rattle.std.specs.Prelude.{◌≡◌, ℕ, ◌<◌, ◌==◌, ◌&&◌, ◌||◌, Bool, true, false, List, [], ◌∷◌, ◌++◌, Contains, Some}
+use Rattle.std.specs.Prelude.{◌≡◌, ℕ, ◌+◌, ◌*◌, ◌<◌, ◌==◌, ◌&&◌, ◌||◌, Bool, true, false, List, [], ◌∷◌, ◌++◌, Contains, Some}
 use Rattle.std.specs.FinMap as tree
 use Rattle.std.specs.Str.{bytes_eq}
 use Rattle.disk_history.specs.declared.event.HistEvent.{HistEvent}
@@ -9,13 +9,15 @@ use Rattle.disk_history.specs.Ledger.{Acknowledged, Item, Ledger}
 use Rattle.disk_history.specs.Ledger as histories
 use Rattle.disk_history.specs.Legal.{is_torn, may_read}
 use Rattle.disk_check.specs.Check.{Check}
+use Rattle.disk_check.specs.Table.{own_indexes}
 use Rattle.peer_proto.specs.declared.guest.GuestRsp.{GuestRsp}
 use Rattle.guest_driver.specs.declared.disk.Disk.{Disk}
 use Rattle.sheep_world.specs.World.{Host}
-use Rattle.overlap_law.specs.Checks.{IsCheckOn}
+use Rattle.overlap_law.specs.Checks.{HasBlock, IsCheckOn}
 use Rattle.overlap_law.specs.Headline.{ledger_of}
 use Rattle.overlap_law.specs.Past.{MomentWithPast}
 use Rattle.overlap_law.specs.PastWords.{is_refusal}
+use Rattle.overlap_law.specs.WrittenBlocks.{blocks_per_object}
 
 -- the last write of a block of a disk is a request's, with these bytes, and was acknowledged; the request has ended. So the block isn't
 -- torn, and unless the disk is deleted no other bytes may be read of it
@@ -44,6 +46,13 @@ pub record RepliesToCheck (before after : MomentWithPast) (req : ℕ) (opened : 
   pub reply : GuestRsp
   pub among : Contains after.world.outputs.replies (req, reply)
   pub accepts : is_refusal reply ≡ false
+
+-- each check that a move replies to and doesn't refuse leaves each block that the disk has in its own objects with one value
+abbrev pub ChecksLeaveOneValue : MomentWithPast → MomentWithPast → Type 0
+ChecksLeaveOneValue before after = (req : ℕ) (opened : Disk) (disk : histories.Disk) → RepliesToCheck before after req opened disk
+    → (index unit : ℕ) → Contains (own_indexes opened.inode) index → HasBlock disk opened.inode.spec index unit
+    → (bytes : List ℕ) × HasOneValue (ledger_of after.past.history) opened.inode.vid
+    (index * blocks_per_object opened.inode.spec + unit) req bytes
 
 -- whether an event begins a write of a block of a disk
 abbrev pub begins_on_block : ℕ → ℕ → HistEvent → Bool

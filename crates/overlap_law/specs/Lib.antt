@@ -42,7 +42,7 @@ pub mod Traffic
 pub mod TiedAttempts
 pub mod ShapedAttempts
 pub mod RoomOfScripts
-pub mod KeptSoFar
+pub mod KeptBeside
 pub mod AwaitedEntries
 pub mod CommandDisks
 pub mod WriterClaims

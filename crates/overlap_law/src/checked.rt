@@ -1,29 +1,20 @@
 //! Laws of checks that are done: what one leaves of the blocks of its disk is one value each, until a write of the block begins.
-ghost use Rattle.std.specs.Prelude.{◌≡◌, ℕ, ◌+◌, ◌*◌, false, List, ◌++◌, Contains, Some};
+ghost use Rattle.std.specs.Prelude.{◌≡◌, ℕ, false, List, ◌++◌, Some};
 ghost use Rattle.std.specs.List.{list_any};
 ghost use Rattle.cluster_script.specs.declared.statement.Statement.{Statement};
 ghost use Rattle.disk_history.specs.declared.event.HistEvent.{HistEvent};
-ghost use Rattle.disk_history.specs.Ledger as histories;
-ghost use Rattle.disk_check.specs.Table.{own_indexes};
-ghost use Rattle.guest_driver.specs.declared.disk.Disk.{Disk};
 ghost use Rattle.sheep_world.specs.RunsWithAsks.{Move};
-ghost use Rattle.overlap_law.specs.CheckDone.{HasOneValue, RepliesToCheck, begins_on_block};
-ghost use Rattle.overlap_law.specs.Checks.{HasBlock};
+ghost use Rattle.overlap_law.specs.CheckDone.{ChecksLeaveOneValue, HasOneValue, begins_on_block};
 ghost use Rattle.overlap_law.specs.Headline.{ledger_of};
 ghost use Rattle.overlap_law.specs.MomentChanges.{RunsAreInRange};
 ghost use Rattle.overlap_law.specs.Past.{MomentWithPast, next_moment, run_with_past};
-ghost use Rattle.overlap_law.specs.WrittenBlocks.{blocks_per_object};
 
 /// In each run in range, after a move that replies to a check and doesn't refuse it: each block that the disk has in its own objects, by
 /// the table that the check's session has, has one value. The last write of it is the check's, and acknowledged; so the block isn't torn,
 /// and unless the disk is deleted no read may give other bytes. For the check wrote each, and nobody else begins writes of the disk.
 pub fn what_is_checked_is_one_value()
     ensures { (script : List Statement) (moves : List Move) (move : Move) (before after : MomentWithPast) → RunsAreInRange script
-        → run_with_past script moves ≡ Some before → next_moment script move before ≡ Some after → (req : ℕ) (opened : Disk)
-        (disk : histories.Disk) → RepliesToCheck before after req opened disk → (index unit : ℕ)
-        → Contains (own_indexes opened.inode) index → HasBlock disk opened.inode.spec index unit
-        → (bytes : List ℕ) × HasOneValue (ledger_of after.past.history) opened.inode.vid
-        (index * blocks_per_object opened.inode.spec + unit) req bytes }
+        → run_with_past script moves ≡ Some before → next_moment script move before ≡ Some after → ChecksLeaveOneValue before after }
 {}
 
 /// And it keeps this value, of each run in range, until a write of the block begins: nothing else that comes in the history changes it.

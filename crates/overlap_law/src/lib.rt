@@ -8,8 +8,9 @@
 //! facts on which the overlap rests (`specs/Contents.antt`, `specs/Facts.antt`), the headline (`specs/Headline.antt`), beside it that no
 //! object is missing (`specs/NoObjects.antt`), and the invariant that carries them (`specs/Overlap.antt`).
 //!
-//! All of this is proved of every run in range: the headline and the whole invariant (`headline.rt`), the facts (`facts.rt`), and that no
-//! object is missing (`objects.rt`). What else holds of the parts of a moment, and what the words mean, is said by the laws of the other
+//! All of this is proved of every run in range: the headline and the whole invariant (`headline.rt`), in the headline that refused
+//! commands change nothing (`refused_commands.rt`), the facts (`facts.rt`), that no object is missing (`objects.rt`), and that each block
+//! which a check has gone over has one value (`checked.rt`). What else holds of the parts of a moment, and what the words mean, is said by the laws of the other
 //! files of `src/`; docs/overlap.md names the law behind each conjunct of the invariant. A run is a list of moves, of events and of a
 //! client's reads: what a law says of the end of every event, or of the way of one, it says of such a read too. What the client is told is
 //! no part of the history, and that what a read is told has what is owed is said of the reads of sessions alone.

@@ -12,19 +12,17 @@ ghost use Rattle.sheep_world.specs.Began.{Began};
 ghost use Rattle.sheep_world.specs.ClientAsks.{is_read_ask, may_be_asked, may_client_ask};
 ghost use Rattle.sheep_world.specs.ClientSteps.{ask_effect, world_driven};
 ghost use Rattle.sheep_world.specs.Run.{run};
-ghost use Rattle.sheep_world.specs.RunsWithAsks.{Move, Happens, Asks, run_with_asks};
+ghost use Rattle.sheep_world.specs.RunsWithAsks.{Move, Happens, Asks};
 ghost use Rattle.overlap_law.specs.BegunAttempts.{attempts_begun};
 ghost use Rattle.overlap_law.specs.DrivenEvents.{driven_events};
 ghost use Rattle.overlap_law.specs.MomentChanges.{RunsAreInRange};
 ghost use Rattle.overlap_law.specs.Past.{MomentWithPast, next_moment, run_with_past, without_past};
 
-/// A run of events is one in which a client asks for nothing. Without its past a run with asks is the cluster's own; it goes on with each
-/// move that may be made; and in a run in range a client's read leaves the past as it is.
+/// A run of events is one in which a client asks for nothing. A run with asks goes on with each move that may be made; and in a run in range
+/// a client's read leaves the past as it is.
 pub fn a_run_with_asks_has_its_past()
     ensures events { (script : List Statement) (events : List Event)
         → option_map without_past (run_with_past script (map Happens events)) ≡ run script events }
-    ensures without { (script : List Statement) (moves : List Move)
-        → option_map without_past (run_with_past script moves) ≡ run_with_asks script moves }
     ensures longer { (script : List Statement) (next : Move) (moves : List Move) (before after : MomentWithPast)
         → run_with_past script moves ≡ Some before → next_moment script next before ≡ Some after
         → run_with_past script (moves ++ next ∷ []) ≡ Some after }

@@ -14,7 +14,7 @@ use Rattle.sheep_world.specs.Run.{Moment, IsWholeRun}
 use Rattle.schedule.specs.Schedule.{schedule_of}
 use Rattle.schedule.specs.GeneratedScript.{generated_statements}
 use Rattle.overlap_law.specs.MomentChanges.{RunsAreInRange}
-use Rattle.overlap_law.proofs.HeadlineInRuns.{run_keeps_headline}
+use Rattle.overlap_law.proofs.RunsKeepHeadline.{run_keeps_headline}
 use Rattle.overlap_law.proofs.InputRange.{in_range_input}
 use Rattle.schedule.proofs.WholeLaws.{schedule-is-whole}
 use Rattle.trace_text.specs.Lines.{trace_lines}

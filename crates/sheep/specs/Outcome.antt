@@ -38,7 +38,9 @@ takes_words (Some (Gen number)) = true
 takes_words (Some (Live trace)) = false
 
 -- events are a run of a script, in which every phase is ended, and made this history, in which the replies that its report prints were
--- given; each read, write and check that is printed as done is done there on an open disk; and they are one legal history
+-- given; each read, write and check that is printed as done is done there on an open disk; they are one legal history; and no object of a
+-- disk that was available was missing, each check that wasn't refused left one value of each block that it went over, and no read is left
+-- out of the history where few losses held
 pub record MakesRun (statements : List Statement) (events : List Event) (history : List HistEvent) : Type 0 where
   pub whole : IsWholeRun statements events
   pub kept : history_of statements events ≡ Some history

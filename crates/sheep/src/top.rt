@@ -29,7 +29,8 @@ pub fn sheep<S: Source, K: Sink>(
     // that the number generates. The replies of that run are one legal history: each block read from a disk, snapshot or clone is its last
     // acknowledged write or a later unacknowledged one, and refused requests change nothing, peer requests of another epoch among them,
     // while every epoch since the last finished recovery keeps enough live holders and no gateway dies within a coded write. What a
-    // refused request leaves unchanged is each block, and what nodes keep: no message of it to create or write succeeded or was lost.
+    // refused request leaves unchanged is each block, what nodes keep, as no message of it to create or write succeeded or was lost, and
+    // each disk: a refused command publishes, replaces and deletes none.
     ensures done { result ≡ Status.Done
         → IsDone (Gains K.stops (K.given sink.old) (K.given sink.new)) (S.left source.old) (S.left source.new) (mode_asked_for words.now) }
 

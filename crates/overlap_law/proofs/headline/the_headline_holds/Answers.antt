@@ -1,4 +1,5 @@
-use Rattle.overlap_law.proofs.HeadlineInRuns.{headline_holds, run_keeps_headline}
+use Rattle.overlap_law.proofs.HeadlineInRuns.{headline_holds}
+use Rattle.overlap_law.proofs.RunsKeepHeadline.{run_keeps_headline}
 use Rattle.overlap_law.proofs.InputRange.{in_range_input}
 use Rattle.overlap_law.proofs.headline.the_headline_holds.Goals as goal
 

@@ -1,13 +1,17 @@
-use Rattle.std.proofs.Common.{◌≡◌, Some, refl, subst, sym}
 use Rattle.std.proofs.lemmas.Result.{IfOk-weaker}
-use Rattle.sheep_world.specs.World.{World}
-use Rattle.sheep_world.specs.Step.{step}
-use Rattle.sheep_world.specs.RunsWithAsks.{Happens}
-use Rattle.overlap_law.proofs.RunsWithOneMore.{run_with_one_more}
-use Rattle.overlap_law.proofs.KeptFacts.{facts_kept}
-use Rattle.overlap_law.proofs.KeptSoFar.{kept_so_far}
+use Rattle.overlap_law.specs.Past.{moment_after}
+use Rattle.overlap_law.proofs.CarriedTables.{tables-in_run}
+use Rattle.overlap_law.proofs.CheckDoneInRuns.{checked_value}
+use Rattle.overlap_law.proofs.FewLossesInRuns.{whole_legal}
+use Rattle.overlap_law.proofs.GoingOn.{event_makes, next_by}
 use Rattle.overlap_law.proofs.HeadlineInRuns.{headline_holds}
+use Rattle.overlap_law.proofs.KeptByMoves.{beside_overlap}
+use Rattle.overlap_law.proofs.KeptFacts.{facts_kept}
+use Rattle.overlap_law.proofs.MakingInRuns.{creates_first-in_run}
+use Rattle.overlap_law.proofs.NothingLacked.{missing-in_run}
 use Rattle.overlap_law.proofs.OverlapInRuns.{overlap_holds}
+use Rattle.overlap_law.proofs.RunsWithOneMore.{run_with_one_more}
+use Rattle.overlap_law.proofs.UnchangedMembers.{unchanged_legal}
 use Rattle.overlap_law.proofs.kept_event.keeps_overlap.Goals as goal
 
 pub returns-clause-run : goal.returns-clause-run
@@ -15,25 +19,27 @@ returns-clause-run c =
     IfOk-weaker c.apply.result _ _
     (λ grown made moves moment is at. run_with_one_more c.args.script.now c.args.event
     (record { world = c.apply.new.self.world; grown = grown }) moves moment
-    (record {
-      move = Happens c.args.event;
-      event_so = refl;
-      made_so =
-          subst (λ (world : World). step c.args.script.now c.args.event world
-          ≡ Some (record { world = c.apply.new.self.world; grown = grown })) (sym at) made;
-    }) is)
+    (event_makes c.args.script.now c.args.event (record { world = c.apply.new.self.world; grown = grown }) _ moment at made) is)
     c.apply.ensures.made
 
-pub returns-clause-kept : goal.returns-clause-kept
-returns-clause-kept c =
+pub returns-clause-missing : goal.returns-clause-missing
+returns-clause-missing c =
     IfOk-weaker c.apply.result _ _
-    (λ grown made moves moment range is at. kept_so_far c.args.script.now range moves moment is)
+    (λ grown made moves moment range is at.
+    missing-in_run c.args.script.now range (creates_first-in_run c.args.script.now range)
+    (λ earlier there so. (tables-in_run c.args.script.now range earlier there so).tables.tables) moves moment c.args.event
+    (record { world = c.apply.new.self.world; grown = grown }) is
+    (event_makes c.args.script.now c.args.event (record { world = c.apply.new.self.world; grown = grown }) _ moment at made))
     c.apply.ensures.made
 
-pub returns-clause-facts : goal.returns-clause-facts
-returns-clause-facts c =
+pub returns-clause-checked : goal.returns-clause-checked
+returns-clause-checked c =
     IfOk-weaker c.apply.result _ _
-    (λ grown made moves moment range is at. facts_kept c.args.script.now range moves moment is)
+    (λ grown made moves moment range is at.
+    let makes = event_makes c.args.script.now c.args.event (record { world = c.apply.new.self.world; grown = grown }) _ moment at made in
+    checked_value c.args.script.now range moves moment is makes.move
+    (moment_after c.args.script.now c.args.event moment (record { world = c.apply.new.self.world; grown = grown }))
+    (next_by c.args.script.now c.args.event moment (record { world = c.apply.new.self.world; grown = grown }) makes))
     c.apply.ensures.made
 
 pub returns-clause-overlap : goal.returns-clause-overlap
@@ -42,8 +48,32 @@ returns-clause-overlap c =
     (λ grown made moves moment range is at. overlap_holds c.args.script.now range moves moment is)
     c.apply.ensures.made
 
+pub returns-clause-facts : goal.returns-clause-facts
+returns-clause-facts c =
+    IfOk-weaker c.apply.result _ _
+    (λ grown made moves moment range is at. (facts_kept c.args.script.now range moves moment is).facts)
+    c.apply.ensures.made
+
+pub returns-clause-beside : goal.returns-clause-beside
+returns-clause-beside c =
+    IfOk-weaker c.apply.result _ _
+    (λ grown made moves moment range is at. beside_overlap c.args.script.now range moves moment is)
+    c.apply.ensures.made
+
 pub returns-clause-headline : goal.returns-clause-headline
 returns-clause-headline c =
     IfOk-weaker c.apply.result _ _
     (λ grown made moves moment range is at. headline_holds c.args.script.now range range.is_script moves moment is)
+    c.apply.ensures.made
+
+pub returns-clause-few_losses : goal.returns-clause-few_losses
+returns-clause-few_losses c =
+    IfOk-weaker c.apply.result _ _
+    (λ grown made moves moment range is at few. whole_legal c.args.script.now range moves moment is few)
+    c.apply.ensures.made
+
+pub returns-clause-unchanged_members : goal.returns-clause-unchanged_members
+returns-clause-unchanged_members c =
+    IfOk-weaker c.apply.result _ _
+    (λ grown made moves moment range is at plain. unchanged_legal c.args.script.now range moves moment is plain)
     c.apply.ensures.made

@@ -1,4 +1,4 @@
-use Rattle.overlap_law.proofs.KeptSoFar.{flight-in_run}
+use Rattle.overlap_law.proofs.KeptByMoves.{flight-in_run}
 use Rattle.overlap_law.proofs.laws.the_wire_is_kept.Goals as goal
 
 pub returns : goal.returns

@@ -1,4 +1,4 @@
-use Rattle.overlap_law.proofs.KeptSoFar.{writers-in_run}
+use Rattle.overlap_law.proofs.KeptByMoves.{writers-in_run}
 use Rattle.overlap_law.proofs.reads.the_writers_are_kept.Goals as goal
 
 pub returns : goal.returns

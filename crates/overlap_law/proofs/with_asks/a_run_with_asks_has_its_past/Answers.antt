@@ -9,7 +9,6 @@ use Rattle.overlap_law.proofs.with_asks.a_run_with_asks_has_its_past.Goals as go
 pub returns : goal.returns
 returns c = record {
   events = λ script events. past-follows script (map Happens events) ∙ run-events script events;
-  without = past-follows;
   longer = λ script next moves before after run is. run_with_next script next moves before after is run;
   past = λ script moves node ask before after range run is. read-leaves_past script range moves node ask before after run is;
   asked = λ script moves node ask before range run takes asked reads. run_with_read script range moves node ask before run takes asked reads;
