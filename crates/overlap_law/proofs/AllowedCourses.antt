@@ -36,7 +36,7 @@ use Rattle.sheep_node.specs.Guests.{is_open_disk_deleted, request_refusal, seen_
 use Rattle.sheep_node.specs.May.{May}
 use Rattle.sheep_node.specs.SessionQueues.{QueuesAreDiskRequests, CommandsAreAlone}
 use Rattle.sheep_node.specs.Changes.{input_received, Leads}
-use Rattle.sheep_node.proofs.CourseWalk.{IsKeptByParts, none_so, so_in_chain}
+use Rattle.sheep_node.proofs.CourseWalk.{by_disk, IsKeptByParts, none_so, so_in_chain}
 use Rattle.sheep_node.proofs.OneWorkParts.{Requests, Sessions}
 use Rattle.sheep_node.proofs.SessionViews.{IsSeen}
 use Rattle.sheep_node.proofs.WantedSteps.{driver_begins-wanted, driver_goes_on-wanted}
@@ -196,30 +196,34 @@ check_working (Some disk) inode allowed on = by_kind disk.snapshot refl
 
 module _ {input : Input} {node : Node} (none : (req session : ℕ) (work : ObjWork) → input ≡ inputs.Guest req session (asks.Object work)
     → is_making work ≡ false) where
-  parts_keep_allowed : IsKeptByParts opened_as IsAllowed input node
+  parts_keep_allowed : IsKeptByParts (by_disk opened_as) (λ (req : ℕ). IsAllowed) input node
   parts_keep_allowed = record {
     arrives = λ so_far session req ask disk arrival on.
         ask_allowed disk (is_open_disk_deleted so_far.node.peer (Some disk)) ask
         (ap (λ (o : Option Disk). request_refusal so_far.node.peer o (asks.Disk ask)) (sym on) ∙ arrival.refused);
-    begins = λ disk ask is.
+    begins = λ req disk queue ask runs is.
         subst (λ (vid : ℕ). IsDriverAllowed (Some (disk.snapshot, vid)) (begin_driver disk ask).driver)
         (sym (driver_begins-wanted disk ask).vid) (begins_allowed disk ask);
-    goes_on = λ disk bytes driver step is before.
+    goes_on = λ req disk queue bytes driver step is before.
         subst (λ (vid : ℕ). IsDriverAllowed (Some (disk.snapshot, vid)) step.driver)
         (sym (driver_goes_on-wanted disk.inode bytes driver step is).vid)
         (goes_on_allowed (Some (disk.snapshot, disk.inode.vid)) disk.inode bytes driver step is before);
-    beside = λ disk inode spec vid course is. subst (λ (vid : ℕ). IsAllowed (Some (disk.snapshot, vid)) course) (sym vid) is;
-    commands = λ disk op. tt;
+    commands = λ req opened op. tt;
     checks = λ so_far session req inode arrival on.
         check_working (session_in session so_far).disk inode arrival.refused on
         ∙ ap (λ (v : ℕ). Some (false, v)) (sym (check_begins-vid inode));
-    checked = λ disk bytes check step is before. before ∙ ap (λ (v : ℕ). Some (false, v)) (sym (check_goes_on-vid bytes check step is));
+    checked = λ req opened bytes check step is before.
+        before ∙ ap (λ (v : ℕ). Some (false, v)) (sym (check_goes_on-vid bytes check step is));
     objects = λ so_far session req asked arrival. none req session asked arrival.from;
-    entries = λ disk entry. tt;
+    entries = λ req opened entry. tt;
+    comes_beside = λ req disk queue one other course is. is;
+    ends_beside = λ req other disk queue apart course is. is;
+    drives_beside = λ req disk queue inode spec vid course is.
+        subst (λ (vid : ℕ). IsAllowed (Some (disk.snapshot, vid)) course) (sym vid) is;
   }
 
 pub none_allowed : AreAllowed tree.empty tree.empty
-none_allowed = none_so opened_as IsAllowed
+none_allowed = none_so (by_disk opened_as) (λ (req : ℕ). IsAllowed)
 
 -- in the middle of a step
 pub allowed_in_chain : (input : Input) (node : Node) → May input node → QueuesAreDiskRequests node → CommandsAreAlone node
@@ -227,4 +231,4 @@ pub allowed_in_chain : (input : Input) (node : Node) → May input node → Queu
     → AreAllowed node.requests node.sessions → (so_far : StepState) → Leads input node (input_received input (at_first node)) so_far
     → AllowedSoFar so_far
 allowed_in_chain input node may queued sole none all so_far leads =
-    so_in_chain opened_as IsAllowed input node (parts_keep_allowed none) may queued sole all so_far leads
+    so_in_chain (by_disk opened_as) (λ (req : ℕ). IsAllowed) input node (parts_keep_allowed none) may queued sole all so_far leads

@@ -16,9 +16,9 @@ use Rattle.sheep_node.specs.declared.event.Event.{Event}
 use Rattle.sheep_node.specs.Changes as changes
 use Rattle.sheep_node.specs.StepState.{StepState}
 use Rattle.sheep_node.specs.WantedWorks.{HasWork}
-use Rattle.sheep_world.specs.Began.{Began, MakesMove}
-use Rattle.sheep_world.specs.EventKinds.{outcome_of_step}
-use Rattle.sheep_world.specs.NodeCauses.{event_of_cause, progress_at_cause}
+use Rattle.sheep_world.specs.Began.{Began}
+use Rattle.sheep_world.specs.NodeCauses.{progress_at_cause}
+use Rattle.sheep_world.specs.Began.{MakesMove}
 use Rattle.sheep_world.specs.Step.{EventOutcome}
 use Rattle.sheep_world.specs.World.{Host}
 use Rattle.sheep_world.specs.RunsWithAsks.{Move}
@@ -52,6 +52,7 @@ use Rattle.overlap_law.proofs.RunsWithOneMore.{run_with_one_more}
 use Rattle.overlap_law.proofs.StandingInRuns.{checks_stand-in_run}
 use Rattle.overlap_law.proofs.StandingOnTheWay.{placed_there}
 use Rattle.overlap_law.proofs.WorksInMoments.{HaveWellWorks, well_after}
+use Rattle.overlap_law.proofs.EventsOfChanges.{by_change}
 
 -- ---- one check
 
@@ -213,21 +214,14 @@ module _ (script : List Statement) (range : RunsAreInRange script) (events : Lis
 
   pub checked_after : {before after : MomentWithPast} → MomentChange script start before after
       → CheckedValuesHaveItems (ledger_of after.past.history) after.world.hosts
-  checked_after (moments.StepBegins on is by) =
+  checked_after change =
+      by_change script start (λ before after. CheckedValuesHaveItems (ledger_of after.past.history) after.world.hosts)
+      (λ on is by.
       step_checked-then on is by (first_in_step on) changes.Still
       (well_after script range start began (moments.StepBegins on is by))
-      (begun_after script range events start ran (moments.StepBegins on is by))
-  checked_after (moments.StepGoesOn on so_far next is by within) =
+      (begun_after script range events start ran (moments.StepBegins on is by)))
+      (λ on is by so_far next within.
       step_checked-then on is by next (changes.Then within.leads within.change)
       (well_after script range start began (moments.StepGoesOn on so_far next is by within))
-      (begun_after script range events start ran (moments.StepGoesOn on so_far next is by within))
-  checked_after (moments.StepIsMade on is by) =
-      at_end (event_of_cause on.n on.cause) (outcome_of_step script on.n on.host on.cause start.world) is.made
-  checked_after (moments.LossIsUntold event made happened h) = at_end event made happened
-  checked_after (moments.DeliveryIsUnread event made happened h) = at_end event made happened
-  checked_after (moments.NodeIsLost event made happened h) = at_end event made happened
-  checked_after (moments.NodeLeaves event made happened h) = at_end event made happened
-  checked_after (moments.NodeIsReweighted event made happened h) = at_end event made happened
-  checked_after (moments.NodeJoins event made happened h) = at_end event made happened
-  checked_after (moments.NodeComesBack event made happened h) = at_end event made happened
-  checked_after (moments.PhaseEnds event made happened h) = at_end event made happened
+      (begun_after script range events start ran (moments.StepGoesOn on so_far next is by within)))
+      at_end change

@@ -27,7 +27,7 @@ use Rattle.sheep_node.specs.Changes.{Arrival, Outcome, RequestSteps, DiskBegins,
 use Rattle.sheep_node.specs.Changes.{CheckBegins, CheckGoesOn, ObjectBegins, ObjectIsDone, EntryBegins, EntryDecided, Change}
 use Rattle.sheep_node.specs.Changes.{without_ended_work}
 use Rattle.sheep_node.proofs.OneWorkParts.{Requests, Sessions}
-use Rattle.overlap_law.proofs.ChangeWalk.{freed_holds, kept_by_steps, change_holds}
+use Rattle.sheep_node.proofs.ChangeWalk.{freed_holds, kept_by_steps, change_holds}
 
 module _ (P : List Queued → Type 0) (empty : P [])
     (without : (req : ℕ) (queue : List Queued) → P queue → P (queue_without req queue)) where

@@ -1,6 +1,6 @@
 -- Each attempt on a disk that became a snapshot has ended by then, or is of a gateway that left before: over each change of a moment, and
 -- so in every run in range.
-use Rattle.std.proofs.Common.{◌≡◌, ◌⊎◌, inl, inr, ⊎_elim, arith, ℕ, ◌≤◌, ◌==◌, ◌||◌, Bool, true, false, cond, List, [], ◌∷◌, ◌++◌, length}
+use Rattle.std.proofs.Common.{◌≡◌, ◌⊎◌, inl, inr, ⊎_elim, arith, ℕ, ◌≤◌, ◌==◌, ◌||◌, Bool, true, false, cond, List, [], ◌∷◌, ◌++◌}
 use Rattle.std.proofs.Common.{slice_get, Option, Some, None, refl, sym, ap, subst, ◌∙◌, append-nil, append_assoc}
 use Rattle.std.specs.List.{list_any}
 use Rattle.std.specs.Option.{option_map_or}
@@ -24,31 +24,25 @@ use Rattle.vdi_directory.proofs.LawfulEntries.{lawful-outcome, sound-log_effects
 use Rattle.vdi_directory.proofs.SoundEffects.{state_of-push}
 use Rattle.vdi_directory.proofs.StateLemmas.{log_effects-none, log_effects-push}
 use Rattle.peer_service.specs.State.{Peer}
-use Rattle.message_wire.specs.declared.packet.Packet.TheVariants.{Request, Reply}
 use Rattle.sheep_world.specs.Began.{Began}
-use Rattle.overlap_law.specs.Attempts.{AttemptRecord, MessageFate, Doomed, attempts_with_fate, fate_of_say, object_of}
+use Rattle.overlap_law.specs.Attempts.{AttemptRecord, object_of}
 use Rattle.overlap_law.specs.Each.{EachAttempt}
-use Rattle.overlap_law.specs.Fates.{AttemptsAreOfIncarnations}
 use Rattle.overlap_law.specs.Grants.{reserver, writer_of, takes_writer}
 use Rattle.overlap_law.specs.LastReads.{snaps, was_snapped, snapped_in, SnapshotsAreClosed}
 use Rattle.overlap_law.specs.MomentChanges.{MomentChange, RunsAreInRange}
-use Rattle.overlap_law.specs.Packets.{Wire, message_name_at, is_name_in_wire}
+use Rattle.overlap_law.specs.Packets.{Wire}
 use Rattle.overlap_law.specs.Past.{MomentWithPast}
-use Rattle.overlap_law.specs.Reached.{Hosts}
 use Rattle.overlap_law.specs.TiedAttempts.{IsTied}
-use Rattle.overlap_law.specs.Traffic.{Traffic, NothingMoves, MessageIsLost, ReplyIsReceived, RequestIsAnswered, RequestsAreSent}
-use Rattle.overlap_law.specs.Traffic.{AttemptBegins, RepliesGo}
 use Rattle.overlap_law.specs.WriterClaims.{IsGivenNoMore}
 use Rattle.overlap_law.specs.Writers.{session_holder, bound_of, IsUnderTheGrant, HasEnded, IsFencedOff, ThereIsOneWriter, AttemptsHaveBegun}
 use Rattle.overlap_law.specs.Writers.{EndsInOrder, WritersTakeTurns}
-use Rattle.overlap_law.proofs.AttemptLists.{got_more, got_marked, fates_told}
 use Rattle.overlap_law.proofs.DatedEffects.{by_entries, last_epoch-push, last_epoch-most, epoch_rises}
+use Rattle.overlap_law.proofs.EndsInTraffic.{EndsBy, traffic_keeps, ends_fewer, ends_told}
 use Rattle.overlap_law.proofs.KeptIds.{no_more_stays}
 use Rattle.overlap_law.proofs.LogsOfMoments.{log_of_change}
 use Rattle.overlap_law.proofs.OneWriterAtEntries.{leave_stays, bound_most}
 use Rattle.overlap_law.proofs.ReadInMoments.{HasReadOf}
 use Rattle.overlap_law.proofs.TrafficOfChanges.{traffic}
-use Rattle.overlap_law.proofs.TrafficOrder.{HaveNoMore, traffic_fewer}
 use Rattle.overlap_law.proofs.WriterChanges.{writer-by, found_reserved}
 
 -- ---- a snapshot has no writer
@@ -201,9 +195,7 @@ on_snapshot log n me peer read vid was =
 
 -- what an attempt on a snapshot has come to
 abbrev IsClosed : List Entry → Wire → AttemptRecord → Type 0
-IsClosed log wire attempt =
-    HasEnded wire attempt (snapped_in log (vid_of (object_of attempt)))
-    ⊎ IsFencedOff log attempt (snapped_in log (vid_of (object_of attempt)))
+IsClosed log wire attempt = EndsBy log (snapped_in log (vid_of (object_of attempt))) wire attempt
 
 module _ (log : List Entry) (entry : Entry) (wire : Wire) (attempt : AttemptRecord) where
   abbrev id : ℕ
@@ -300,86 +292,11 @@ closed_after log entry wire attempts began owed one closed =
         (sym (snapped-push log entry id) ∙ snapped)) in
         stays_closed log entry wire attempt other (closed.each j attempt got before)
 
--- ---- each kind of traffic
+-- ---- each change
 
-module _ (log : List Entry) where
-  fewer_closed : (wire later : Wire) (attempts : List AttemptRecord) → HaveNoMore wire later attempts → SnapshotsAreClosed log wire attempts
-      → SnapshotsAreClosed log later attempts
-  fewer_closed wire later attempts fewer closed = record {
-    each = λ j attempt got snapped. ⊎_elim
-        (λ (ended : HasEnded wire attempt (snapped_in log (vid_of (object_of attempt)))). inl (record {
-          quiet = record { none = λ place target among. still j attempt got place target among (ended.quiet.none place target among) };
-          before = ended.before;
-        }))
-        (λ (fenced : IsFencedOff log attempt (snapped_in log (vid_of (object_of attempt)))). inr fenced)
-        (closed.each j attempt got snapped);
-  }
-    where
-      still : (j : ℕ) (attempt : AttemptRecord) → slice_get attempts j ≡ Some attempt → (place : ℕ) (target : NodeId)
-          → slice_get attempt.targets place ≡ Some target
-          → is_name_in_wire wire (message_name_at attempt place) ≡ false → is_name_in_wire later (message_name_at attempt place) ≡ false
-      still j attempt got place target among none = by_test (is_name_in_wire later (message_name_at attempt place)) refl
-        where
-          by_test : (b : Bool) → is_name_in_wire later (message_name_at attempt place) ≡ b
-              → is_name_in_wire later (message_name_at attempt place) ≡ false
-          by_test false is = is
-          by_test true is =
-              absurd (both_ways (is_name_in_wire wire (message_name_at attempt place)) none (fewer j attempt got place target among is))
-
-  -- with what is told of a message
-  told_closed : (wire : Wire) (attempt : AttemptRecord) (fates : List MessageFate) → IsClosed log wire attempt
-      → IsClosed log wire (record attempt { fates = fates })
-  told_closed wire attempt fates (inl ended) = inl (record { quiet = record { none = ended.quiet.none }; before = ended.before })
-  told_closed wire attempt fates (inr fenced) =
-      inr (record { left = fenced.left; leave = fenced.leave; before = fenced.before; granted_later = fenced.granted_later })
-
-  -- if it is one
-  abbrev IsClosedIf : Wire → AttemptRecord → Type 0
-  IsClosedIf wire attempt = was_snapped log (vid_of (object_of attempt)) ≡ true → IsClosed log wire attempt
-
-  marked_closed : (wire : Wire) (told : MessageFate) (sender : NodeId) (number : ℕ) (attempts : List AttemptRecord)
-      → SnapshotsAreClosed log wire attempts
-      → SnapshotsAreClosed log wire (attempts_with_fate told sender number attempts)
-  marked_closed wire told sender number attempts closed = record {
-    each = λ j now got.
-        let (was, there, is) = got_marked told sender number attempts j now got in
-        subst (IsClosedIf wire) is (λ snapped. told_closed wire was (fates_told told sender number was) (closed.each j was there snapped));
-  }
-
-  -- with an attempt more, which is the writer's
-  more_closed : (wire : Wire) (attempts : List AttemptRecord) (new : AttemptRecord) → IsUnderTheGrant log new (vid_of (object_of new))
-      → SnapshotsAreClosed log wire attempts → SnapshotsAreClosed log wire (attempts ++ new ∷ [])
-  more_closed wire attempts new under closed = record {
-    each = λ j attempt got. ⊎_elim
-        (λ (old : slice_get attempts j ≡ Some attempt). closed.each j attempt old)
-        (λ (own : (j ≡ length attempts) × (new ≡ attempt)).
-        subst (IsClosedIf wire) own.1
-        (λ snapped. absurd (snapped-no_writer log (vid_of (object_of new)) (session_holder new.gateway.0 new.session) snapped
-        under.writer))) (got_more attempts new j attempt got);
-  }
-
-  module _ (hosts hosts_after : Hosts) (wire : Wire) (attempts : List AttemptRecord)
-      (of_incarnations : AttemptsAreOfIncarnations hosts wire attempts) where
-    traffic_closed : {later : Wire} {after : List AttemptRecord} → Traffic hosts hosts_after wire attempts later after
-        → ((attempt : AttemptRecord) → after ≡ attempts ++ attempt ∷ [] → IsUnderTheGrant log attempt (vid_of (object_of attempt)))
-        → SnapshotsAreClosed log wire attempts → SnapshotsAreClosed log later after
-    traffic_closed {later} {after} kind begins closed =
-        by_kind kind begins (fewer_closed wire later attempts (traffic_fewer hosts hosts_after wire attempts of_incarnations kind) closed)
-      where
-        by_kind : {later : Wire} {after : List AttemptRecord} → Traffic hosts hosts_after wire attempts later after
-            → ((attempt : AttemptRecord) → after ≡ attempts ++ attempt ∷ [] → IsUnderTheGrant log attempt (vid_of (object_of attempt)))
-            → SnapshotsAreClosed log later attempts → SnapshotsAreClosed log later after
-        by_kind NothingMoves begins closed = closed
-        by_kind {later} (MessageIsLost name (Request to bytes) there) begins closed =
-            marked_closed later Doomed name.sender name.number attempts closed
-        by_kind (MessageIsLost name (Reply from bytes) there) begins closed = closed
-        by_kind (ReplyIsReceived name from bytes there) begins closed = closed
-        by_kind {later} (RequestIsAnswered name to bytes up rsp there answer) begins closed =
-            marked_closed later (fate_of_say rsp.say) name.sender name.number attempts closed
-        by_kind (RequestsAreSent n sends by nothing) begins closed = closed
-        by_kind {later} (AttemptBegins n sends attempt begun) begins closed =
-            more_closed later attempts attempt (begins attempt refl) closed
-        by_kind (RepliesGo n) begins closed = closed
+-- if it is one
+abbrev IsClosedIf : List Entry → Wire → AttemptRecord → Type 0
+IsClosedIf log wire attempt = was_snapped log (vid_of (object_of attempt)) ≡ true → IsClosed log wire attempt
 
 module _ (script : List Statement) (range : RunsAreInRange script) (start : MomentWithPast) (began : Began script start.world)
     {before after : MomentWithPast} (change : MomentChange script start before after) where
@@ -388,13 +305,25 @@ module _ (script : List Statement) (range : RunsAreInRange script) (start : Mome
       → ThereIsOneWriter before.world.log before.world.wire before.past.attempts
       → SnapshotsAreClosed before.world.log before.world.wire before.past.attempts
       → SnapshotsAreClosed after.world.log after.world.wire after.past.attempts
-  keeps_closed tied begun turns one closed =
-      traffic_closed after.world.log before.world.hosts after.world.hosts before.world.wire before.past.attempts tied.incarnations
-      (traffic script range start began change) turns.begins
-      (⊎_elim
-      (λ (same : after.world.log ≡ before.world.log).
-      subst (λ (log : List Entry). SnapshotsAreClosed log before.world.wire before.past.attempts) (sym same) closed)
-      (λ (more : (entry : Entry) × (after.world.log ≡ before.world.log ++ entry ∷ [])).
-      subst (λ (log : List Entry). SnapshotsAreClosed log before.world.wire before.past.attempts) (sym more.1)
-      (closed_after before.world.log more.0 before.world.wire before.past.attempts begun (turns.ends more.0 more.1) one closed))
-      (log_of_change script change))
+  keeps_closed tied begun turns one closed = record {
+    each = traffic_keeps (IsClosedIf after.world.log)
+        (λ wire later attempt fewer is snapped.
+        ends_fewer after.world.log (snapped_in after.world.log (vid_of (object_of attempt))) wire later attempt fewer (is snapped))
+        (λ wire attempt fates is snapped.
+        ends_told after.world.log (snapped_in after.world.log (vid_of (object_of attempt))) wire attempt fates (is snapped))
+        before.world.hosts after.world.hosts before.world.wire before.past.attempts tied.incarnations
+        (traffic script range start began change)
+        -- one that begins is the writer's, and a snapshot has none
+        (λ attempt more snapped.
+        absurd (snapped-no_writer after.world.log (vid_of (object_of attempt)) (session_holder attempt.gateway.0 attempt.session) snapped
+        (turns.begins attempt more).writer)) by_the_log.each;
+  }
+    where
+      by_the_log : SnapshotsAreClosed after.world.log before.world.wire before.past.attempts
+      by_the_log = ⊎_elim
+          (λ (same : after.world.log ≡ before.world.log).
+          subst (λ (log : List Entry). SnapshotsAreClosed log before.world.wire before.past.attempts) (sym same) closed)
+          (λ (more : (entry : Entry) × (after.world.log ≡ before.world.log ++ entry ∷ [])).
+          subst (λ (log : List Entry). SnapshotsAreClosed log before.world.wire before.past.attempts) (sym more.1)
+          (closed_after before.world.log more.0 before.world.wire before.past.attempts begun (turns.ends more.0 more.1) one closed))
+          (log_of_change script change)

@@ -4,43 +4,29 @@ use Rattle.std.proofs.Common.{◌≡◌, ◌≢◌, ⊎_elim, ℕ, List, Some, s
 use Rattle.std.specs.FinMap as tree
 use Rattle.proof_tools.proofs.FiniteMaps.{get-insert_cases}
 use Rattle.cluster_script.specs.declared.statement.Statement.{Statement}
-use Rattle.sheep_node.specs.declared.event.Event.{Event}
 use Rattle.sheep_node.specs.StepState.{StepState}
 use Rattle.sheep_node.specs.Changes as changes
 use Rattle.sheep_world.specs.World.{Host, World}
-use Rattle.sheep_world.specs.Step.{EventOutcome}
-use Rattle.sheep_world.specs.NodeCauses.{event_of_cause, host_with_node}
-use Rattle.sheep_world.specs.EventKinds.{outcome_of_step}
-use Rattle.sheep_world.specs.Began.{Began, MakesMove}
+use Rattle.sheep_world.specs.NodeCauses.{host_with_node}
+use Rattle.sheep_world.specs.Began.{Began}
 use Rattle.sheep_world.proofs.BegunWorlds.{goes_on}
 use Rattle.overlap_law.specs.Past.{MomentWithPast}
 use Rattle.overlap_law.specs.StepMoments.{SteppingNode, IsStepping, StepsByChanges, first_in_step, LeadsInStep, moment_in_step}
 use Rattle.overlap_law.specs.MomentChanges as moments
 use Rattle.overlap_law.specs.MomentChanges.{MomentChange, MomentTrail}
+use Rattle.overlap_law.proofs.EventsOfChanges.{by_change}
 
 module _ (script : List Statement) (P : World → Type 0) (holds : (world : World) → Began script world → P world) (start : MomentWithPast)
     (began : Began script start.world) where
-  at_end : (event : Event) (made : EventOutcome) → MakesMove script event start.world made → P made.world
-  at_end event made happened = holds made.world (goes_on script event start.world made began happened)
-
   module _ (in_step : (stepping : SteppingNode) → IsStepping script start.world stepping → StepsByChanges stepping.cause
       → (so_far : StepState) → LeadsInStep stepping (first_in_step stepping) so_far → P (moment_in_step script stepping start so_far).world)
     where
       pub world_after : {before after : MomentWithPast} → MomentChange script start before after → P after.world
-      world_after (moments.StepBegins stepping is by) = in_step stepping is by (first_in_step stepping) changes.Still
-      world_after (moments.StepGoesOn stepping so_far next is by within) =
-          in_step stepping is by next (changes.Then within.leads within.change)
-      world_after (moments.StepIsMade stepping is by) =
-          at_end (event_of_cause stepping.n stepping.cause) (outcome_of_step script stepping.n stepping.host stepping.cause start.world)
-          is.made
-      world_after (moments.LossIsUntold event made happened h) = at_end event made happened
-      world_after (moments.DeliveryIsUnread event made happened h) = at_end event made happened
-      world_after (moments.NodeIsLost event made happened h) = at_end event made happened
-      world_after (moments.NodeLeaves event made happened h) = at_end event made happened
-      world_after (moments.NodeIsReweighted event made happened h) = at_end event made happened
-      world_after (moments.NodeJoins event made happened h) = at_end event made happened
-      world_after (moments.NodeComesBack event made happened h) = at_end event made happened
-      world_after (moments.PhaseEnds event made happened h) = at_end event made happened
+      world_after change =
+          by_change script start (λ before after. P after.world)
+          (λ stepping is by. in_step stepping is by (first_in_step stepping) changes.Still)
+          (λ stepping is by so_far next within. in_step stepping is by next (changes.Then within.leads within.change))
+          (λ event made happened. holds made.world (goes_on script event start.world made began happened)) change
 
       pub world_along : {moment : MomentWithPast} → MomentTrail script start moment → P moment.world
       world_along moments.Still = holds start.world began

@@ -15,10 +15,10 @@ use Rattle.sheep_node.specs.declared.course.Request.{Request}
 use Rattle.sheep_node.specs.declared.event.Event.{Event}
 use Rattle.sheep_node.specs.SessionQueues.{session_among}
 use Rattle.sheep_node.specs.StepState.{StepState}
-use Rattle.sheep_world.specs.Began.{Began, MakesMove}
-use Rattle.sheep_world.specs.EventKinds.{outcome_of_step}
-use Rattle.sheep_world.specs.NodeCauses.{event_of_cause, host_with_node}
+use Rattle.sheep_world.specs.Began.{Began}
+use Rattle.sheep_world.specs.NodeCauses.{host_with_node}
 use Rattle.sheep_world.specs.Step.{EventOutcome}
+use Rattle.sheep_world.specs.Began.{MakesMove}
 use Rattle.sheep_world.specs.World.{Host}
 use Rattle.sheep_world.specs.RunsWithAsks.{Move}
 use Rattle.overlap_law.specs.AloneItems.{HasOwnItems}
@@ -40,6 +40,7 @@ use Rattle.overlap_law.proofs.PiecesBehind.{piece_at_place}
 use Rattle.overlap_law.proofs.PiecesUnderWay.{whole_blocks}
 use Rattle.overlap_law.proofs.RunsWithOneMore.{run_with_one_more}
 use Rattle.overlap_law.proofs.WorksInMoments.{well_along}
+use Rattle.overlap_law.proofs.EventsOfChanges.{by_change}
 
 -- ---- in the middle of a step
 
@@ -142,20 +143,13 @@ module _ (script : List Statement) (range : RunsAreInRange script) (events : Lis
 
   pub pieces_after : {before after : MomentWithPast} → MomentTrail script start before → MomentChange script start before after
       → ItemsAreOfPieces (ledger_of after.past.history) after.world.hosts
-  pieces_after trail (moments.StepBegins on is by) =
-      of_pieces on is by (first_in_step on) changes.Still (Then trail (moments.StepBegins on is by))
-  pieces_after trail (moments.StepGoesOn on so_far next is by within) =
-      of_pieces on is by next (changes.Then within.leads within.change) (Then trail (moments.StepGoesOn on so_far next is by within))
-  pieces_after trail (moments.StepIsMade on is by) =
-      at_end (event_of_cause on.n on.cause) (outcome_of_step script on.n on.host on.cause start.world) is.made
-  pieces_after trail (moments.LossIsUntold event made happened h) = at_end event made happened
-  pieces_after trail (moments.DeliveryIsUnread event made happened h) = at_end event made happened
-  pieces_after trail (moments.NodeIsLost event made happened h) = at_end event made happened
-  pieces_after trail (moments.NodeLeaves event made happened h) = at_end event made happened
-  pieces_after trail (moments.NodeIsReweighted event made happened h) = at_end event made happened
-  pieces_after trail (moments.NodeJoins event made happened h) = at_end event made happened
-  pieces_after trail (moments.NodeComesBack event made happened h) = at_end event made happened
-  pieces_after trail (moments.PhaseEnds event made happened h) = at_end event made happened
+  pieces_after trail change =
+      by_change script start
+      (λ before after. MomentTrail script start before → ItemsAreOfPieces (ledger_of after.past.history) after.world.hosts)
+      (λ on is by trail. of_pieces on is by (first_in_step on) changes.Still (Then trail (moments.StepBegins on is by)))
+      (λ on is by so_far next within trail.
+      of_pieces on is by next (changes.Then within.leads within.change) (Then trail (moments.StepGoesOn on so_far next is by within)))
+      (λ event made happened trail. at_end event made happened) change trail
 
   -- so they are at each moment on the way
   pub pieces-on_the_way : {moment : MomentWithPast} → MomentTrail script start moment

@@ -43,7 +43,7 @@ use Rattle.overlap_law.proofs.CoursesOfAsks.{course_placed, HasMoved, driven_pla
 use Rattle.overlap_law.proofs.CoursesOfAsks.{object_placed, but_one}
 use Rattle.overlap_law.proofs.StepsOfAsks.{IsCheckAsked, driver_begins-asked, driver_goes_on-asked, check_begins-asked, check_goes_on-asked}
 use Rattle.overlap_law.proofs.StepsOfAsks.{command_begins-asked, command_goes_on-asked, command_decided-asked}
-use Rattle.overlap_law.proofs.ChangeWalk.{ComesNext, IsKeptByParts, change_holds}
+use Rattle.sheep_node.proofs.ChangeWalk.{ComesNext, IsKeptByParts, change_holds}
 use Rattle.guest_driver.specs.InodeQueue.{InodeQueue}
 use Rattle.sheep_node.specs.SessionQueues.{session_among}
 

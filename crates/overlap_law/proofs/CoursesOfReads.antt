@@ -50,8 +50,8 @@ use Rattle.overlap_law.specs.StandingReads.{IsNoDiskAsk, IsCourseStanding, Reads
 use Rattle.overlap_law.specs.ToldReads.{Reading}
 use Rattle.overlap_law.proofs.CoursesOfAsks.{disk_in}
 use Rattle.overlap_law.proofs.LedReads.{IsLed, begins_led, course_alike, goes_led}
-use Rattle.overlap_law.proofs.SeenCourses.{AreSeen, moved_seen, gone_seen, course_seen, lined_seen}
-use Rattle.overlap_law.proofs.ChangeWalk.{ComesNext, freed_holds, kept_by_steps, change_holds}
+use Rattle.sheep_node.proofs.SeenCourses.{AreSeen, moved_seen, gone_seen, course_seen, lined_seen}
+use Rattle.sheep_node.proofs.ChangeWalk.{ComesNext, freed_holds, kept_by_steps, change_holds}
 use Rattle.guest_driver.specs.InodeQueue.{InodeQueue}
 use Rattle.sheep_node.specs.SessionQueues.{session_among}
 use Rattle.sheep_world.specs.ClientAsks.{is_read_ask}

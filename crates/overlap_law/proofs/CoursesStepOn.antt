@@ -1,11 +1,8 @@
 -- What holds of where a request is holds behind each change of a step, if what drivers, commands and checks do keeps it, and it holds of
 -- the request as it begins, where the step begins with it.
-use Rattle.std.proofs.Common.{◌≡◌, ◌≢◌, ℕ, List, Some, None, sym, ap, subst, ◌∙◌, ⊎_elim}
+use Rattle.std.proofs.Common.{◌≡◌, ℕ, List, Some, None, sym, subst}
 use Rattle.std.specs.Ordering.{nat_cmp}
 use Rattle.std.specs.FinMap as tree
-use Rattle.std.proofs.lemmas.Bool.{cases_eq}
-use Rattle.proof_tools.proofs.FiniteMaps.{get-insert_cases, get-remove_other, get-remove_same}
-use Rattle.object_id.specs.declared.cause.Cause.TheVariants.{Halt}
 use Rattle.object_id.specs.declared.entry.Entry.{Entry}
 use Rattle.inode.specs.Layout.{Content}
 use Rattle.peer_proto.specs.declared.guest.DiskAsk.{DiskAsk}
@@ -14,7 +11,6 @@ use Rattle.peer_proto.specs.declared.guest.VdiAsk.TheVariants as disk_commands
 use Rattle.peer_proto.specs.declared.work.ObjWork.{ObjWork}
 use Rattle.gateway.specs.declared.message.Status.{Status}
 use Rattle.gateway.specs.Attempt.{Attempt}
-use Rattle.gateway.specs.Work.{zones_for}
 use Rattle.gateway.specs.State.{Work}
 use Rattle.guest_driver.specs.Driver.{Driver, begin_driver}
 use Rattle.disk_check.specs.Check.{Check, CheckStep, begin_check, check_on_done}
@@ -29,43 +25,29 @@ use Rattle.sheep_node.specs.declared.course.Request.{Request}
 use Rattle.sheep_node.specs.State.{Node}
 use Rattle.sheep_node.specs.StepState.{StepState, request_ended}
 use Rattle.sheep_node.specs.Step.{node_step}
-use Rattle.sheep_node.specs.Changes as changes
-use Rattle.sheep_node.specs.Changes.{Arrival, Change, EndsWork, Outcome, ToWork, ToEntry, ToReply, RequestSteps, DiskBegins, DiskGoesOn}
-use Rattle.sheep_node.specs.Changes.{CommandBegins, CommandGoesOn, CommandDecided, CheckBegins, CheckGoesOn, ObjectBegins, ObjectIsDone}
-use Rattle.sheep_node.specs.Changes.{EntryBegins, EntryDecided, WorkIsNext, AtOnce, InTurn, Again, AgainAlone}
+use Rattle.sheep_node.specs.Changes.{Arrival, Change, EndsWork, Outcome, RequestSteps, DiskBegins, DiskGoesOn, CommandBegins, CommandGoesOn}
+use Rattle.sheep_node.specs.Changes.{CommandDecided, CheckBegins, CheckGoesOn, ObjectBegins, ObjectIsDone, EntryBegins, EntryDecided}
 use Rattle.sheep_node.proofs.OneWorkParts.{Requests}
 use Rattle.sheep_node.proofs.ReceivedInputs.{received_keeps}
-use Rattle.sheep_node.proofs.RefusedCourses.{course_refused-keeps, request_refused-keeps}
 use Rattle.sheep_node.proofs.StepChain.{kept_by_chain, step_chain}
+use Rattle.overlap_law.proofs.RequestWalk.{IsWhereThere, put_there, ended_there, change_there}
 
 module _ (req : ℕ) (Q : Course → Type 0) where
   -- the request, where it is there, is so
   abbrev pub IsSoAmong : Requests → Type 0
-  IsSoAmong requests = (request : Request) → tree.get requests req ≡ Some request → Q request.course
+  IsSoAmong = IsWhereThere req (λ (request : Request). Q request.course)
 
   abbrev pub IsSoIn : StepState → Type 0
   IsSoIn so_far = IsSoAmong so_far.node.requests
 
   pub put_so : (requests : Requests) (other : ℕ) (request : Request) → (other ≡ req → Q request.course) → IsSoAmong requests
       → IsSoAmong (tree.insert requests other request)
-  put_so requests other request own has = λ at got. ⊎_elim
-      (λ (same : (req ≡ other) × (request ≡ at)). subst (λ (r : Request). Q r.course) same.1 (own (sym same.0)))
-      (λ (apart : (req ≢ other) × (tree.get requests req ≡ Some at)). has at apart.1)
-      (get-insert_cases requests other request req at got)
-
-  gone_so : (requests : Requests) (other : ℕ) → IsSoAmong requests → IsSoAmong (tree.remove requests other)
-  gone_so requests other has = λ at got. ⊎_elim
-      (λ (own : req ≡ other).
-      let none : tree.get (tree.remove requests other) req ≡ None = ap (tree.get (tree.remove requests other)) own
-      ∙ get-remove_same requests other in
-      absurd (cc (none, got)))
-      (λ (apart : req ≢ other). has at (sym (get-remove_other requests other req apart) ∙ got))
-      (cases_eq req other)
+  put_so requests other request own =
+      put_there req (λ (request : Request). Q request.course) requests other request (λ same. own (sym same))
 
   pub ended_so : (session other : ℕ) (reply : GuestRsp) (so_far : StepState) → IsSoIn so_far
       → IsSoIn (request_ended session other reply so_far)
-  unfolding request_ended
-  ended_so session other reply so_far has = gone_so so_far.node.requests other has
+  ended_so = ended_there req (λ (request : Request). Q request.course)
 
   was_so : (requests : Requests) (other session : ℕ) (course : Course) → IsSoAmong requests
       → tree.get requests other ≡ Some (record { session = session; course = course }) → other ≡ req → Q course
@@ -133,40 +115,11 @@ module _ (req : ℕ) (Q : Course → Type 0) where
         (λ same. (at_begin so_far other session (asks.Entry entry) arrival same).entries entry) has
     steps_so so_far session other next moved (EntryDecided entry wanted from read there waits) has = has
 
-    comes_so : (so_far : StepState) (session other : ℕ) (tried : Work) (lined : StepState)
-        → WorkIsNext input node so_far session other tried lined → IsSoIn so_far → IsSoIn lined
-    comes_so so_far session other tried lined (AtOnce work moved steps begins) has =
-        steps_so so_far session other (ToWork work) moved steps has
-    comes_so so_far session other tried lined (InTurn work later none is) has = has
-    comes_so so_far session other tried lined (Again work course from next there request) has = has
-    comes_so so_far session other tried lined (AgainAlone work from next there none) has = has
-
     pub arrivals_so : (so_far next : StepState) → Change input node so_far next → IsSoIn so_far → IsSoIn next
-    arrivals_so so_far next (changes.Marks other number work attempt status learns over) has = has
-    arrivals_so so_far next (changes.Fails session other number work attempt status course ends done why) has = has
-    arrivals_so so_far next (changes.Stops session other number work attempt status course bytes ends over) has = has
-    arrivals_so so_far next (changes.Refuses session other number work attempt status course cause ends done why) has =
-        course_refused-keeps IsSoIn ended_so (λ entry before now. now) session other cause course
-        (changes.without_ended_work session other work status so_far) has
-    arrivals_so so_far next (changes.Opens session other tried lined comes short) has = comes_so so_far session other tried lined comes has
-    arrivals_so so_far next (changes.Holds session other tried lined comes short touched) has =
-        comes_so so_far session other tried lined comes has
-    arrivals_so so_far next (changes.Denies session other tried lined request comes short untouched there own) has =
-        request_refused-keeps IsSoIn ended_so (λ entry before now. now) other
-        (Halt (changes.zones_of_members lined.node) (zones_for tried.work)) request (changes.without_denied_work session other tried lined)
-        (comes_so so_far session other tried lined comes has)
-    arrivals_so so_far next (changes.Strays other work gateway there none apart) has = has
-    arrivals_so so_far next (changes.Lines session other work moved steps waits) has =
-        steps_so so_far session other (ToWork work) moved steps has
-    arrivals_so so_far next (changes.Appends session other entry moved steps) has =
-        steps_so so_far session other (ToEntry entry) moved steps has
-    arrivals_so so_far next (changes.Replies session other reply moved steps) has =
-        ended_so session other reply moved (steps_so so_far session other (ToReply reply) moved steps has)
-    arrivals_so so_far next (changes.Arrives session other ask disk arrival on) has =
-        put_so so_far.node.requests other (record { session = session; course = Waiting ask })
-        (λ same. (at_begin so_far other session (asks.Disk ask) arrival same).waits ask) has
-    arrivals_so so_far next (changes.Rejects session other ask cause arrival) has = has
-    arrivals_so so_far next (changes.Recovers due) has = has
+    arrivals_so so_far next change has =
+        change_there req (λ (request : Request). Q request.course) so_far
+        (λ session other outcome moved steps. steps_so so_far session other outcome moved steps has)
+        (λ session other ask arrival same. (at_begin so_far other session (asks.Disk ask) arrival (sym same)).waits ask) has next change
 
   -- where it is known of the input that the request begins so
   module _ (input : Input) (node : Node) (parts : IsKeptByCourses input node)

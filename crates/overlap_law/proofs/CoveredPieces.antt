@@ -1,8 +1,7 @@
--- What a queue has of a read or write covers the objects of its pieces, as it begins and as it goes on; and what may run is in the queue.
-use Rattle.std.proofs.Common.{◌≡◌, arith, ℕ, zero, suc, ◌+◌, ◌-◌, ◌≤◌, ◌<◌, Bool, true, false, not, ◌||◌, cond, List, [], ◌∷◌, ◌++◌, length}
-use Rattle.std.proofs.Common.{map, All, Option, Some, None, refl, subst}
-use Rattle.std.specs.List.{find, list_any, range_with_len}
-use Rattle.std.specs.Option.{option_map_or}
+-- What a queue has of a read or write covers the objects of its pieces, as it begins and as it goes on.
+use Rattle.std.proofs.Common.{◌≡◌, arith, ℕ, zero, suc, ◌+◌, ◌-◌, ◌≤◌, ◌<◌, false, List, [], ◌∷◌, ◌++◌, length, map, All, Option, Some}
+use Rattle.std.proofs.Common.{None, subst}
+use Rattle.std.specs.List.{range_with_len}
 use Rattle.std.proofs.lemmas.List.Elements.{All-nil, All-cons, All-tail}
 use Rattle.std.proofs.lemmas.Option.{same_Some}
 use Rattle.object_id.specs.declared.cause.Cause.{Cause}
@@ -10,7 +9,7 @@ use Rattle.inode.specs.Layout.{Content}
 use Rattle.peer_proto.specs.declared.guest.DiskAsk.{DiskAsk}
 use Rattle.peer_proto.specs.declared.guest.DiskAsk.TheVariants as disk_asks
 use Rattle.gateway_queue.specs.declared.queue.Queued.{Queued}
-use Rattle.gateway_queue.specs.Queue.{has_request_number, is_queued, earlier, meet, may_run, Covers}
+use Rattle.gateway_queue.specs.Queue.{Covers}
 use Rattle.guest_driver.specs.declared.disk.Disk.{Disk}
 use Rattle.guest_driver.specs.Pieces.{Piece, offset_of, size_of, first_index, last_index, piece_in, pieces}
 use Rattle.guest_driver.specs.PieceWorks.{table_with_entry}
@@ -77,22 +76,3 @@ goes_on_keeps P inode bytes (Writes payload stage piece rest) step next all =
     subst (λ (s : DriverStep). All P (pieces_left s.driver)) (same_Some (write_done inode bytes payload piece rest stage) step next)
     (done_keeps P inode bytes payload piece rest stage all)
 goes_on_keeps P inode bytes drivers.Answered step next all = absurd (cc (next))
-
--- ---- what may run
-
--- what may run is in the queue
-found_any : {X : Type 0} (p : X → Bool) (xs : List X) (x : X) → find p xs ≡ Some x → list_any p xs ≡ true
-found_any p [] x is = absurd (cc (is))
-found_any p (y ∷ ys) x is = by_tie (p y) is (found_any p ys x)
-  where
-    by_tie : (b : Bool) → cond b (Some y) (find p ys) ≡ Some x → (find p ys ≡ Some x → list_any p ys ≡ true) → (b || list_any p ys) ≡ true
-    by_tie true is later = refl
-    by_tie false is later = later is
-
-pub run_is_queued : (req : ℕ) (queue : List Queued) → may_run req queue ≡ true → is_queued req queue ≡ true
-run_is_queued req queue may = by_found (find (has_request_number req) queue) refl may
-  where
-    by_found : (o : Option Queued) → find (has_request_number req) queue ≡ o
-        → option_map_or (λ mine. not (list_any (meet mine) (earlier req queue))) o false ≡ true → is_queued req queue ≡ true
-    by_found None none may = absurd (cc (may))
-    by_found (Some mine) there may = found_any (has_request_number req) queue mine there

@@ -76,7 +76,7 @@ use Rattle.overlap_law.proofs.GrantsOfCommands.{sound_along}
 use Rattle.overlap_law.proofs.ItemsGoOn.{same_bytes}
 use Rattle.overlap_law.proofs.KnownDisks.{FewAt, kind-of_object, vid-of_object}
 use Rattle.overlap_law.proofs.KnownReads.{entry_at}
-use Rattle.overlap_law.proofs.LogsInMoments.{log_by_changes}
+use Rattle.overlap_law.proofs.LogsOfMoments.{log_by_changes}
 use Rattle.overlap_law.proofs.NoRecoveredDue.{began-with_past}
 use Rattle.overlap_law.proofs.OpenTables.{entries_of_chain, whole_tables}
 use Rattle.overlap_law.proofs.PiecesMade.{FetchesAreAsked, fetches_so, pieces-in_run}

@@ -40,7 +40,7 @@ use Rattle.sheep_node.proofs.OneWorkParts.{Requests, Sessions}
 use Rattle.sheep_node.proofs.StepChain.{kept_by_chain}
 use Rattle.sheep_node.proofs.ReceivedInputs.{received_keeps}
 use Rattle.overlap_law.proofs.ClosedFirstStages.{begins_so}
-use Rattle.overlap_law.proofs.ChangeWalk.{freed_holds, kept_by_steps, change_holds}
+use Rattle.sheep_node.proofs.ChangeWalk.{freed_holds, kept_by_steps, change_holds}
 use Rattle.guest_driver.specs.InodeQueue.{InodeQueue}
 
 -- what is to hold of an open disk, and of what a command waits for

@@ -45,7 +45,7 @@ use Rattle.sheep_node.specs.SessionQueues.{session_among}
 use Rattle.overlap_law.specs.OpenedTables.{OpensNow, ReadsIt, WroteIt, ByWork, ByEntry}
 use Rattle.overlap_law.proofs.ClosedFirstStages.{HoldsAtFirst, begins_so, first_decided}
 use Rattle.overlap_law.proofs.DriverNames.{driver_begins-stays}
-use Rattle.overlap_law.proofs.ChangeWalk.{kept_by_steps, change_holds}
+use Rattle.sheep_node.proofs.ChangeWalk.{kept_by_steps, change_holds}
 use Rattle.guest_driver.specs.InodeQueue.{InodeQueue}
 use Rattle.sheep_node.proofs.OneWorkParts.{Requests}
 

@@ -41,15 +41,14 @@ use Rattle.vdi_directory.proofs.SoundEffects.{state_of-push}
 use Rattle.overlap_law.specs.Headline.{ledger_of}
 use Rattle.overlap_law.specs.HistoryGrowth.{added_at_cause, added_by_reply, HistoryGrows, NothingIsAdded, WritesBegin, RequestIsReplied}
 use Rattle.overlap_law.specs.HistoryGrowth.{EntryAdds, WritersAreLost}
-use Rattle.overlap_law.specs.MomentChanges as moments
-use Rattle.overlap_law.specs.MomentChanges.{MomentChange, RunsAreInRange, KeptByChanges}
+use Rattle.overlap_law.specs.MomentChanges.{RunsAreInRange, KeptByChanges}
 use Rattle.overlap_law.specs.Past.{MomentWithPast}
 use Rattle.overlap_law.specs.StayingBlocks.{DisksAreLive}
 use Rattle.overlap_law.proofs.ClosedReservations.{reserves_so}
 use Rattle.overlap_law.proofs.HistoryInMoments.{history_grows}
-use Rattle.overlap_law.proofs.LogsInMoments.{log_by_changes}
 use Rattle.overlap_law.proofs.DiskShapes.{Shapes, shape, shapes_after, shapes, shapes_so, among_shapes, behind_shapes, cause_plain}
 use Rattle.overlap_law.proofs.DiskShapes.{reply_plain, lost_plain}
+use Rattle.overlap_law.proofs.LogsOfMoments.{log_before}
 
 -- ---- what an entry makes of an id
 
@@ -243,20 +242,6 @@ abbrev pub AreThere : MomentWithPast → Type 0
 AreThere moment = (v : ℕ) → shapes moment.past.history v ≡ Some false → is_live_state (state_of (log_effects moment.world.log) v) ≡ true
 
 module _ (script : List Statement) where
-  -- the log before a change is that at which the event began
-  pub log_before : {start before after : MomentWithPast} → MomentChange script start before after → before.world.log ≡ start.world.log
-  log_before (moments.StepBegins stepping is by) = refl
-  log_before {start} (moments.StepGoesOn stepping so_far next is by within) = log_by_changes stepping.cause by start.world.log
-  log_before (moments.StepIsMade stepping is by) = refl
-  log_before (moments.LossIsUntold event made happened h) = refl
-  log_before (moments.DeliveryIsUnread event made happened h) = refl
-  log_before (moments.NodeIsLost event made happened h) = refl
-  log_before (moments.NodeLeaves event made happened h) = refl
-  log_before (moments.NodeIsReweighted event made happened h) = refl
-  log_before (moments.NodeJoins event made happened h) = refl
-  log_before (moments.NodeComesBack event made happened h) = refl
-  log_before (moments.PhaseEnds event made happened h) = refl
-
   module _ (start before after : MomentWithPast) (same : before.world.log ≡ start.world.log) (were : AreThere before) where
     abbrev IsThereBy : List HistEvent → Type 0
     IsThereBy history = (v : ℕ) → shapes history v ≡ Some false → is_live_state (state_of (log_effects after.world.log) v) ≡ true
@@ -292,7 +277,7 @@ module _ (script : List Statement) where
   kept_there range = record {
     opens = λ v is. absurd (cc (is));
     keeps = λ start before after began change were.
-        by_growth start before after (log_before change) were before.past.history after.past.history refl
+        by_growth start before after (log_before script change) were before.past.history after.past.history refl
         (history_grows script range start began change);
   }
 

@@ -28,7 +28,7 @@ use Rattle.overlap_law.proofs.GrantedEpochs.{spec_stays}
 use Rattle.overlap_law.proofs.KnownDisks.{IsKnownInode}
 use Rattle.overlap_law.proofs.KnownDiskSteps.{AreOnKnown, all_grow, effects_after}
 use Rattle.overlap_law.proofs.KnownDisksInRuns.{nodes_know}
-use Rattle.overlap_law.proofs.LogsInMoments.{log_by_changes}
+use Rattle.overlap_law.proofs.LogsOfMoments.{log_by_changes}
 use Rattle.overlap_law.proofs.WriteObjects.{known_open}
 use Rattle.overlap_law.proofs.ClosedWorlds.{world_after, world_along}
 

@@ -34,7 +34,7 @@ use Rattle.overlap_law.specs.Past.{MomentWithPast}
 use Rattle.overlap_law.specs.StayingBlocks.{DisksArePublished}
 use Rattle.overlap_law.proofs.DiskShapes.{Shapes, shape, shapes_after, shapes, shapes_so, among_shapes, behind_shapes, cause_plain}
 use Rattle.overlap_law.proofs.DiskShapes.{reply_plain, lost_plain}
-use Rattle.overlap_law.proofs.DisksByTheLog.{log_before}
+use Rattle.overlap_law.proofs.LogsOfMoments.{log_before}
 use Rattle.overlap_law.proofs.HistoryInMoments.{history_grows}
 use Rattle.overlap_law.proofs.PublishedInodes.{was_published, published-push}
 

@@ -30,7 +30,7 @@ use Rattle.overlap_law.proofs.GoneInRuns.{not_left, up_so, all_fenced}
 use Rattle.overlap_law.proofs.KnownSteps.{known_step}
 use Rattle.overlap_law.proofs.LeavesAndGrants.{leave_either}
 use Rattle.overlap_law.proofs.LeavesOfLog.{leaves_plain}
-use Rattle.overlap_law.proofs.LogsOfMoments.{IsOrGrows, log-by_changes, log_of_change, log_since}
+use Rattle.overlap_law.proofs.LogsOfMoments.{IsOrGrows, log_by_changes, log_of_change, log_since}
 use Rattle.overlap_law.proofs.OpeningTraffic.{me_so_far}
 use Rattle.overlap_law.proofs.RunsByChanges.{run-kept}
 
@@ -120,7 +120,7 @@ module _ (script : List Statement) (range : RunsAreInRange script) where
         attempts_kept (IsEarly after.world.log) (early_told after.world.log) script range start began change
         (λ stepping so_far next is by within.
         let behind = behind_so_far script range start began stepping so_far next is by within in
-        let same = ap epoch_of (log-by_changes stepping.cause start.world.log by) in
+        let same = ap epoch_of (log_by_changes stepping.cause by start.world.log) in
         begun_early stepping.host after.world.log stepping.n (epoch_of start.world.log) (fresh_of change stepping is) so_far next
         within.change (omega (arith, behind, same))
         (me_so_far script start.world stepping (known_step script range start.world began stepping is) next

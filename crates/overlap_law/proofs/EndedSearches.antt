@@ -5,10 +5,9 @@ use Rattle.std.proofs.Common.{Contains, Option, Some, None, refl, sym, ap, subst
 use Rattle.std.specs.Option.{option_map_or}
 use Rattle.std.specs.List.{list_any}
 use Rattle.std.proofs.lemmas.Bool.{and_parts, eq-eqb, eqb-true, or_left, or_right}
-use Rattle.std.proofs.lemmas.List.Elements.{Contains-append_cases}
 use Rattle.std.proofs.lemmas.List.Folds.{list_any-append}
 use Rattle.std.proofs.lemmas.Option.{same_Some}
-use Rattle.proof_tools.proofs.Lists.{Contains-nil, Contains-cons_cases, find-contains}
+use Rattle.proof_tools.proofs.Lists.{Contains-nil, find-contains}
 use Rattle.object_id.specs.declared.node.Epoch.{Epoch}
 use Rattle.object_id.specs.declared.node.NodeId.{NodeId}
 use Rattle.object_id.specs.declared.policy.Policy.{Policy}
@@ -37,6 +36,7 @@ use Rattle.overlap_law.proofs.FirstSearches.{WaitsFirst, is_on, unlisted_at}
 use Rattle.overlap_law.proofs.FirstSearchesInRuns.{IsWithinLevels}
 use Rattle.overlap_law.proofs.ListMessages.{AsksListsIn}
 use Rattle.overlap_law.proofs.RecoveryViews.{next-is_pending}
+use Rattle.overlap_law.proofs.SearchAnswers.{own_told}
 use Rattle.overlap_law.proofs.EndedLevels.{IsOnAt, SearchesCome, HasFailed, nothing_comes, searching_comes}
 
 module _ (T : Placing) (known : ℕ → Option Policy) (bound : ℕ) where
@@ -255,21 +255,7 @@ module _ (T : Placing) (known : ℕ → Option Policy) (bound : ℕ) where
             refl,
             refl,
             any_before,
-            ⊎_elim
-                (λ (kept : Contains one.answers answer). inl kept)
-                (λ (new : Contains (record { from = message.to; row = row } ∷ []) answer). ⊎_elim
-                (λ (same : record { from = message.to; row = row } ≡ answer). inr (record {
-                  message = message;
-                  there = there;
-                  number_so = own;
-                  level = level;
-                  asked = asked;
-                  told = is ∙ ap (λ (a : RowAnswer). Some (row_or_none a.row)) same;
-                  by = ap (λ (a : RowAnswer). a.from) (sym same);
-                }))
-                (λ (no : Contains [] answer). absurd (Contains-nil answer no))
-                (Contains-cons_cases (record { from = message.to; row = row }) [] answer new))
-                (Contains-append_cases one.answers (record { from = message.to; row = row } ∷ []) answer among),
+            own_told number said state message there own level one asked row answer is among,
           );
           all = all_told row unagain none policy (knows one.oid policy (live_known state.shown one.oid policy live));
         }

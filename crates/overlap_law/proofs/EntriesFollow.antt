@@ -18,7 +18,7 @@ use Rattle.overlap_law.specs.Past.{MomentWithPast, first_moment}
 use Rattle.overlap_law.specs.ToldReads.{AllElseMayFollow}
 use Rattle.overlap_law.proofs.DiskShapes.{Shapes, shapes_after, shapes, shapes_so, behind_shapes, among_shapes, cause_plain, reply_plain}
 use Rattle.overlap_law.proofs.DiskShapes.{lost_plain}
-use Rattle.overlap_law.proofs.DisksByTheLog.{log_before}
+use Rattle.overlap_law.proofs.LogsOfMoments.{log_before}
 use Rattle.overlap_law.proofs.DrawnClones.{shown}
 use Rattle.overlap_law.proofs.HistoryInMoments.{history_grows}
 use Rattle.overlap_law.proofs.EntriesFit.{made_follow, entry_shown, entry_may}

@@ -31,7 +31,7 @@ use Rattle.overlap_law.specs.Writers.{AttemptsHaveBegun}
 use Rattle.overlap_law.proofs.DatedEffects.{epoch_rises}
 use Rattle.overlap_law.proofs.EachAttemptKept.{begun-is, AllAttempts, attempts_kept}
 use Rattle.overlap_law.proofs.EpochsRise.{same_so_far}
-use Rattle.overlap_law.proofs.LogsOfMoments.{IsOrGrows, log-by_changes, log_of_change, log_since}
+use Rattle.overlap_law.proofs.LogsOfMoments.{IsOrGrows, log_by_changes, log_of_change, log_since}
 use Rattle.overlap_law.proofs.RunsByChanges.{run-kept}
 
 -- an attempt is of an epoch up to this one
@@ -118,7 +118,7 @@ module _ (script : List Statement) (range : RunsAreInRange script) where
         attempts_kept (IsUpTo most) (up_told most) script range start began change
         (λ stepping so_far next is by within.
         let behind = behind_so_far stepping so_far next is by within in
-        let same = ap epoch_of (log-by_changes stepping.cause start.world.log by) in
+        let same = ap epoch_of (log_by_changes stepping.cause by start.world.log) in
         begun_up stepping.host most so_far next within.change (omega (arith, behind, same, since)))
         (λ j attempt got. let before_it = begun j attempt got in omega (arith, before_it, grows))
 

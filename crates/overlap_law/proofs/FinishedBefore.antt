@@ -40,7 +40,7 @@ use Rattle.overlap_law.proofs.AnswersInMoments.{not_lost}
 use Rattle.overlap_law.proofs.KnownSteps.{known_step}
 use Rattle.overlap_law.proofs.ListedNodes.{finished_done}
 use Rattle.overlap_law.proofs.ListMessages.{AsksListsIn}
-use Rattle.overlap_law.proofs.LogsInMoments.{log_by_changes}
+use Rattle.overlap_law.proofs.LogsOfMoments.{log_by_changes}
 use Rattle.overlap_law.proofs.OutboxEnds.{outbox_received}
 use Rattle.overlap_law.proofs.RecoveredEntries.{IsOwnEnd, PutsOnlyItsEnd, puts_at_first, change_puts, puts_so_far}
 use Rattle.overlap_law.proofs.RecoveredInMoments.{node_of, IsToPut, finished_cases, finished_by_log, finished_by_outbox, plain_entry}

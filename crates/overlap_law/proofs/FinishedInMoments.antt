@@ -44,7 +44,8 @@ use Rattle.overlap_law.proofs.FinishedBefore.{LogsOnlyPut, put_logs, same_log, p
 use Rattle.overlap_law.proofs.FinishedBefore.{ends_now, begins_finished, made_finished, on_finished, step_goes, on_goes}
 use Rattle.overlap_law.proofs.KnownSteps.{together}
 use Rattle.overlap_law.proofs.ListMessages.{AsksListsIn}
-use Rattle.overlap_law.proofs.LogsInMoments.{log_grows, log_by_changes}
+use Rattle.overlap_law.proofs.LogsInMoments.{log_grows}
+use Rattle.overlap_law.proofs.LogsOfMoments.{log_by_changes}
 use Rattle.overlap_law.proofs.ReadInMoments.{HostsAreSound, epoch_within, sound_hosts, hosts_after_sound, kept_sound}
 use Rattle.overlap_law.proofs.RecoveredEntries.{IsOwnEnd, PutsOnlyItsEnd, stepped_puts, opening_only}
 use Rattle.overlap_law.proofs.RecoveredInMoments.{node_of, IsToPut, finished_cases, EndsNow, TheFinishedCame, FinishedBefore, RecoveriesGo}

@@ -58,7 +58,8 @@ use Rattle.overlap_law.proofs.NamedEntries.{opened_there, opened_up}
 use Rattle.overlap_law.proofs.NewAttempts.{IsOpened, WasAttempt, come_from}
 use Rattle.overlap_law.proofs.NoRecoveredDue.{began-with_past}
 use Rattle.overlap_law.proofs.PublishedIds.{snapshot_entry}
-use Rattle.overlap_law.proofs.PublishedInodes.{IsOfMembers, members_publish, IsPutNow}
+use Rattle.overlap_law.proofs.LogsOfMoments.{IsOfMembers}
+use Rattle.overlap_law.proofs.PublishedInodes.{members_publish, IsPutNow}
 use Rattle.overlap_law.proofs.RunsByChanges.{on_the_way}
 use Rattle.overlap_law.proofs.ShapedAttempts.{kept_shaped}
 use Rattle.overlap_law.proofs.SnapshotsTaken.{IsTaking, taking, none_entered}

@@ -1,7 +1,7 @@
 -- The attempts of a request that may still make something are under the grant, on each id that its session may write: over each change of a
 -- moment, and so in every run in range. So only the writer of an id has creates and writes open on it, with attempts under its grant.
-use Rattle.std.proofs.Common.{◌≡◌, inl, ⊎_elim, ℕ, ◌≤◌, Bool, true, false, cond, List, [], ◌∷◌, ◌++◌, Option, Some, None, refl, sym, ap}
-use Rattle.std.proofs.Common.{subst, ◌∙◌}
+use Rattle.std.proofs.Common.{◌≡◌, inl, ⊎_elim, ℕ, ◌≤◌, Bool, true, false, cond, List, [], ◌∷◌, ◌++◌, Option, Some, None, refl}
+use Rattle.std.proofs.Common.{sym, ap, subst, ◌∙◌}
 use Rattle.std.specs.FinMap as tree
 use Rattle.object_id.specs.declared.entry.Entry.{Entry}
 use Rattle.object_id.specs.declared.entry.Entry.TheVariants as entries
@@ -25,7 +25,8 @@ use Rattle.sheep_node.specs.WantedWorks.{IsWorkWanted, IsWantedAt}
 use Rattle.sheep_world.specs.Began.{Began}
 use Rattle.sheep_world.specs.MembershipChanges.{join_of, last_weight}
 use Rattle.sheep_world.specs.NodeCauses.{NodeCause, GuestAsks, RequestComes, ReplyComes, LossIsTold, EntryIsRead, EntryIsPut, RecoveryTicks}
-use Rattle.sheep_world.specs.NodeCauses.{WorkIsRetried, ClientAsks, IsCause, log_after_cause}
+use Rattle.sheep_world.specs.NodeCauses.{WorkIsRetried, IsCause, log_after_cause}
+use Rattle.sheep_world.specs.NodeCauses.{ClientAsks}
 use Rattle.sheep_world.specs.Step.{EventOutcome}
 use Rattle.sheep_world.specs.World.{Host, is_host_up}
 use Rattle.sheep_world.specs.RunsWithAsks.{Move}
@@ -40,7 +41,7 @@ use Rattle.overlap_law.proofs.DatedEffects.{last_epoch-push}
 use Rattle.overlap_law.proofs.DrivenInMoments.{RequestsHaveWorked, change_worked}
 use Rattle.overlap_law.proofs.FreshRequests.{none_for_new}
 use Rattle.overlap_law.proofs.GrantsAtPuts.{gives_not}
-use Rattle.overlap_law.proofs.LogsOfMoments.{log_of_change, log-by_changes}
+use Rattle.overlap_law.proofs.LogsOfMoments.{log_of_change, log_by_changes}
 use Rattle.overlap_law.proofs.MakingCourses.{WasMaking, HadMaking, each_had_making}
 use Rattle.overlap_law.proofs.MomentTrails.{event_trail}
 use Rattle.overlap_law.proofs.NewAttempts.{WasAttempt, IsOpened, come_from}
@@ -97,7 +98,7 @@ module _ (script : List Statement) (range : RunsAreInRange script) (start : Mome
   stepped_gives n host there up (ClientAsks req ask) so entry more = absurd (never_pushed start.world.log entry more)
 
   gives_none : {before after : MomentWithPast} → MomentChange script start before after → GivesNoneAtEntries before after
-  gives_none {before} {after} (moments.StepBegins stepping is by) = none_put before after (log-by_changes stepping.cause start.world.log by)
+  gives_none {before} {after} (moments.StepBegins stepping is by) = none_put before after (log_by_changes stepping.cause by start.world.log)
   gives_none {before} {after} (moments.StepGoesOn stepping so_far next is by within) = none_put before after refl
   gives_none (moments.StepIsMade stepping is by) = stepped_gives stepping.n stepping.host is.there is.up stepping.cause is.caused
   gives_none {before} {after} (moments.LossIsUntold event made happened h) =

@@ -11,21 +11,21 @@ use Rattle.sheep_node.specs.declared.input.Input.{Input}
 use Rattle.sheep_node.specs.declared.input.Input.TheVariants as inputs
 use Rattle.sheep_node.specs.CheckWrites.{check_write_on}
 use Rattle.sheep_node.specs.StepState.{StepState}
-use Rattle.sheep_world.specs.EventKinds.{outcome_of_step}
 use Rattle.sheep_world.specs.HistoryAdditions.{check_write_by}
 use Rattle.sheep_world.specs.NodeCauses.{NodeCause, GuestAsks, RequestComes, ReplyComes, LossIsTold, EntryIsRead, EntryIsPut, RecoveryTicks}
-use Rattle.sheep_world.specs.NodeCauses.{WorkIsRetried, ClientAsks, IsCause, event_of_cause, history_of_cause, input_of_cause}
+use Rattle.sheep_world.specs.NodeCauses.{WorkIsRetried, IsCause, history_of_cause, input_of_cause}
 use Rattle.sheep_world.specs.Step.{EventOutcome}
+use Rattle.sheep_world.specs.NodeCauses.{ClientAsks}
 use Rattle.sheep_world.specs.World.{Host, World, is_host_up, node_at}
 use Rattle.sheep_world.specs.RunsWithAsks.{Move}
 use Rattle.sheep_world.specs.Began.{MakesMove}
 use Rattle.overlap_law.specs.Headline.{ledger_of}
 use Rattle.overlap_law.specs.MomentChanges.{MomentChange, RunsAreInRange}
-use Rattle.overlap_law.specs.MomentChanges as moments
 use Rattle.overlap_law.specs.Past.{MomentWithPast, moment_after, past_after_event, run_with_past}
 use Rattle.overlap_law.specs.SoundCoded.{StripItemsAreCoded}
 use Rattle.overlap_law.specs.StepMoments.{SteppingNode, IsStepping, StepsByChanges, first_in_step, world_in_step, moment_in_step}
-use Rattle.overlap_law.proofs.LogsInMoments.{log_by_changes}
+use Rattle.overlap_law.proofs.EventsOfChanges.{by_change}
+use Rattle.overlap_law.proofs.LogsOfMoments.{log_by_changes}
 use Rattle.overlap_law.proofs.RunsWithOneMore.{run_with_one_more}
 use Rattle.overlap_law.proofs.SoundCodedRuns.{AllCoded, are_coded, asks_coded, came_coded, comes_harmless, split, told}
 use Rattle.overlap_law.proofs.SoundCodedRuns.{all_coded-in_run, coded-in_run}
@@ -84,17 +84,12 @@ module _ (script : List Statement) (range : RunsAreInRange script) (events : Lis
 
   pub coded_before : {before after : MomentWithPast} → MomentChange script start before after
       → StripItemsAreCoded (ledger_of before.past.history) (log_effects before.world.log)
-  coded_before (moments.StepBegins stepping is by) = at_start
-  coded_before (moments.StepGoesOn stepping so_far next is by within) = then_coded stepping is by so_far
-  coded_before (moments.StepIsMade stepping is by) = at_start
-  coded_before (moments.LossIsUntold event made happened h) = at_start
-  coded_before (moments.DeliveryIsUnread event made happened h) = at_start
-  coded_before (moments.NodeIsLost event made happened h) = at_start
-  coded_before (moments.NodeLeaves event made happened h) = at_start
-  coded_before (moments.NodeIsReweighted event made happened h) = at_start
-  coded_before (moments.NodeJoins event made happened h) = at_start
-  coded_before (moments.NodeComesBack event made happened h) = at_start
-  coded_before (moments.PhaseEnds event made happened h) = at_start
+  coded_before change =
+      by_change script start
+      (λ before after. StripItemsAreCoded (ledger_of before.past.history) (log_effects before.world.log))
+      (λ stepping is by. at_start)
+      (λ stepping is by so_far next within. then_coded stepping is by so_far)
+      (λ event made happened. at_start) change
 
   -- ---- and behind it
 
@@ -107,15 +102,8 @@ module _ (script : List Statement) (range : RunsAreInRange script) (events : Lis
 
   pub coded_after : {before after : MomentWithPast} → MomentChange script start before after
       → StripItemsAreCoded (ledger_of after.past.history) (log_effects after.world.log)
-  coded_after (moments.StepBegins stepping is by) = then_coded stepping is by (first_in_step stepping)
-  coded_after (moments.StepGoesOn stepping so_far next is by within) = then_coded stepping is by next
-  coded_after (moments.StepIsMade stepping is by) =
-      at_end (event_of_cause stepping.n stepping.cause) (outcome_of_step script stepping.n stepping.host stepping.cause start.world) is.made
-  coded_after (moments.LossIsUntold event made happened h) = at_end event made happened
-  coded_after (moments.DeliveryIsUnread event made happened h) = at_end event made happened
-  coded_after (moments.NodeIsLost event made happened h) = at_end event made happened
-  coded_after (moments.NodeLeaves event made happened h) = at_end event made happened
-  coded_after (moments.NodeIsReweighted event made happened h) = at_end event made happened
-  coded_after (moments.NodeJoins event made happened h) = at_end event made happened
-  coded_after (moments.NodeComesBack event made happened h) = at_end event made happened
-  coded_after (moments.PhaseEnds event made happened h) = at_end event made happened
+  coded_after change =
+      by_change script start
+      (λ before after. StripItemsAreCoded (ledger_of after.past.history) (log_effects after.world.log))
+      (λ stepping is by. then_coded stepping is by (first_in_step stepping))
+      (λ stepping is by so_far next within. then_coded stepping is by next) at_end change

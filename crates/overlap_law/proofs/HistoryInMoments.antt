@@ -29,7 +29,7 @@ use Rattle.object_id.specs.declared.entry.Entry.TheVariants as entries
 use Rattle.object_id.specs.declared.oid.Vid.{Vid}
 use Rattle.sheep_world.specs.MembershipChanges.{join_of, last_weight}
 use Rattle.sheep_world.specs.Granted.{granted_adds, decided_adds, entry_adds}
-use Rattle.overlap_law.proofs.LogsInMoments.{log_by_changes}
+use Rattle.overlap_law.proofs.LogsOfMoments.{log_by_changes}
 use Rattle.overlap_law.proofs.KnownSteps.{known_step}
 use Rattle.overlap_law.proofs.RepliesApart.{apart_so_far}
 use Rattle.sheep_world.specs.Began.{Began}

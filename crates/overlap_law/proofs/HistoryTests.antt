@@ -11,7 +11,7 @@ use Rattle.overlap_law.specs.NamedWorks.{AboveIsGood}
 use Rattle.overlap_law.specs.Overlap.{CallsFewer}
 use Rattle.overlap_law.specs.Past.{MomentWithPast, first_moment, next_moment, run_with_past}
 use Rattle.overlap_law.proofs.ChainTables.{above_later}
-use Rattle.overlap_law.proofs.DisksByTheLog.{log_before}
+use Rattle.overlap_law.proofs.LogsOfMoments.{log_before}
 use Rattle.overlap_law.proofs.EndTests.{was_good_id}
 use Rattle.overlap_law.proofs.GoodAbove.{above_good_on_the_way, available_above}
 use Rattle.overlap_law.proofs.KeptInRuns.{kept_at_events}

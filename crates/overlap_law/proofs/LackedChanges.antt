@@ -56,7 +56,8 @@ use Rattle.overlap_law.specs.Tables.{every_id, TablesAreMade, PublishedInodesAre
 use Rattle.overlap_law.proofs.EndTests.{was_good_id}
 use Rattle.overlap_law.proofs.GoodDisks.{good_below, stood_before}
 use Rattle.overlap_law.proofs.LackedNowhere.{MessagesCome, IsFine, RepliesCome, lacked_then, same_messages, sent_replies, lacked_in_step}
-use Rattle.overlap_law.proofs.LogsInMoments.{log_grows, log_by_changes}
+use Rattle.overlap_law.proofs.LogsInMoments.{log_grows}
+use Rattle.overlap_law.proofs.LogsOfMoments.{log_by_changes}
 use Rattle.overlap_law.proofs.ClosedToAsks.{made_alike}
 use Rattle.overlap_law.proofs.MessagesOfDisks.{same_for}
 use Rattle.overlap_law.proofs.NoRecoveredDue.{began-with_past}

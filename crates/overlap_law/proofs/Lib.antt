@@ -216,9 +216,7 @@ pub mod AskedMakers
 pub mod MakersInTraffic
 pub mod MakersOfScript
 pub mod CoveredPieces
-pub mod ChangeWalk
 pub mod RequestWalk
-pub mod SeenCourses
 pub mod CoveredCourses
 pub mod QueuesInMoments
 pub mod SessionsApart
@@ -866,3 +864,4 @@ pub mod PrintedReads
 pub mod PrintedChecks
 pub mod DrivenWorlds
 pub mod RunsKeepHeadline
+pub mod EndsInTraffic

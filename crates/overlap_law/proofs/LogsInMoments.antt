@@ -7,7 +7,6 @@ use Rattle.std.proofs.lemmas.Option.{same_Some}
 use Rattle.proof_tools.proofs.Booleans.{cond_either}
 use Rattle.proof_tools.proofs.FiniteMaps.{get-insert_same, get-insert_other, insert-insert}
 use Rattle.object_id.specs.declared.entry.Entry.{Entry}
-use Rattle.object_id.specs.declared.entry.Entry.TheVariants as entries
 use Rattle.epoch_log.specs.Epochs.{begins_epoch, epoch_of, members_in}
 use Rattle.epoch_log.proofs.EpochLemmas.{epoch_of-append, members_in-append}
 use Rattle.cluster_script.specs.declared.statement.Statement.{Statement}
@@ -19,9 +18,8 @@ use Rattle.sheep_node.proofs.StepResults.{step_reads}
 use Rattle.sheep_world.specs.World.{Host}
 use Rattle.sheep_world.specs.Step.{EventOutcome}
 use Rattle.sheep_world.specs.MembershipChanges.{lost_host, join_of, last_weight}
-use Rattle.sheep_world.specs.NodeCauses.{NodeCause, GuestAsks, RequestComes, ReplyComes, LossIsTold, EntryIsRead, EntryIsPut, RecoveryTicks}
-use Rattle.sheep_world.specs.NodeCauses.{WorkIsRetried, ClientAsks, event_of_cause, host_with_node, log_after_cause}
-use Rattle.sheep_world.specs.EventKinds.{log_after_return, outcome_of_step}
+use Rattle.sheep_world.specs.NodeCauses.{host_with_node}
+use Rattle.sheep_world.specs.EventKinds.{log_after_return}
 use Rattle.sheep_world.specs.HostChanges.{host_after_return, joined_host}
 use Rattle.sheep_world.specs.Began.{Began}
 use Rattle.sheep_world.proofs.BegunWorlds.{goes_on}
@@ -29,10 +27,12 @@ use Rattle.sheep_world.proofs.ControlLaws.{next_fits}
 use Rattle.sheep_world.proofs.NodesByTheLog.{by_the_log}
 use Rattle.overlap_law.specs.Reached.{Hosts}
 use Rattle.overlap_law.specs.Past.{MomentWithPast}
-use Rattle.overlap_law.specs.StepMoments.{StepsByChanges, first_in_step, last_in_step, moment_in_step}
+use Rattle.overlap_law.specs.StepMoments.{first_in_step, last_in_step, moment_in_step}
 use Rattle.overlap_law.specs.MomentChanges as moments
 use Rattle.overlap_law.specs.MomentChanges.{MomentChange, RunsAreInRange}
 use Rattle.overlap_law.proofs.KnownSteps.{together}
+use Rattle.overlap_law.proofs.EventsOfChanges.{by_change}
+use Rattle.overlap_law.proofs.LogsOfMoments.{log_by_changes, log_of_change}
 
 -- ---- the log
 
@@ -55,53 +55,13 @@ one_entry log log_after entry is =
     = cond_either (λ (es : List Entry). length es ≤ 1) (begins_epoch entry) (entry ∷ []) [] (omega arith) (omega arith) in
     record { rest = entry ∷ []; is = is; most = omega (arith, sum, few) }
 
-by_cause : (cause : NodeCause) (log : List Entry) → LogGrows log (log_after_cause cause log)
-by_cause (GuestAsks session req ask) log = same_log log log refl
-by_cause (RequestComes name to request) log = same_log log log refl
-by_cause (ReplyComes name from rsp) log = same_log log log refl
-by_cause (LossIsTold name packet) log = same_log log log refl
-by_cause (EntryIsRead entry) log = same_log log log refl
-by_cause (EntryIsPut entry) log = one_entry log (log ++ entry ∷ []) entry refl
-by_cause RecoveryTicks log = same_log log log refl
-by_cause WorkIsRetried log = same_log log log refl
-by_cause (ClientAsks req ask) log = same_log log log refl
-
-pub log_by_changes : (cause : NodeCause) → StepsByChanges cause → (log : List Entry) → log_after_cause cause log ≡ log
-log_by_changes (GuestAsks session req ask) by log = refl
-log_by_changes (RequestComes name to request) by log = absurd by
-log_by_changes (ReplyComes name from rsp) by log = refl
-log_by_changes (LossIsTold name packet) by log = refl
-log_by_changes (EntryIsRead entry) by log = refl
-log_by_changes (EntryIsPut entry) by log = absurd by
-log_by_changes RecoveryTicks by log = absurd by
-log_by_changes WorkIsRetried by log = refl
-log_by_changes (ClientAsks req ask) by log = refl
-
 pub log_grows : (script : List Statement) {start before after : MomentWithPast} → MomentChange script start before after
     → LogGrows before.world.log after.world.log
-log_grows script {start} (moments.StepBegins stepping is by) = by_cause stepping.cause start.world.log
-log_grows script {start} (moments.StepGoesOn stepping so_far next is by within) =
-    same_log (log_after_cause stepping.cause start.world.log) (log_after_cause stepping.cause start.world.log) refl
-log_grows script {start} (moments.StepIsMade stepping is by) = by_cause stepping.cause start.world.log
-log_grows script {start} {before} {after} (moments.LossIsUntold event made happened h) =
-    same_log before.world.log after.world.log (ap (λ (m : EventOutcome). m.world.log) (sym h.made_so))
-log_grows script {start} {before} {after} (moments.DeliveryIsUnread event made happened h) =
-    same_log before.world.log after.world.log (ap (λ (m : EventOutcome). m.world.log) (sym h.made_so))
-log_grows script {start} {before} {after} (moments.NodeIsLost event made happened h) =
-    same_log before.world.log after.world.log (ap (λ (m : EventOutcome). m.world.log) (sym h.made_so))
-log_grows script {start} {before} {after} (moments.NodeLeaves event made happened h) =
-    one_entry before.world.log after.world.log (entries.Leave (record { 0 = h.n })) (ap (λ (m : EventOutcome). m.world.log) (sym h.made_so))
-log_grows script {start} {before} {after} (moments.NodeIsReweighted event made happened h) =
-    one_entry before.world.log after.world.log (entries.Reweight (record { 0 = h.n }) h.vnodes)
-    (ap (λ (m : EventOutcome). m.world.log) (sym h.made_so))
-log_grows script {start} {before} {after} (moments.NodeJoins event made happened h) =
-    one_entry before.world.log after.world.log (join_of script h.n (vnodes_of script))
-    (ap (λ (m : EventOutcome). m.world.log) (sym h.made_so))
-log_grows script {start} {before} {after} (moments.NodeComesBack event made happened h) =
-    one_entry before.world.log after.world.log (join_of script h.n (last_weight before.world.log h.n))
-    (ap (λ (m : EventOutcome). m.world.log) (sym h.made_so))
-log_grows script {start} {before} {after} (moments.PhaseEnds event made happened h) =
-    same_log before.world.log after.world.log (ap (λ (m : EventOutcome). m.world.log) (sym h.made_so))
+log_grows script {start} {before} {after} change = ⊎_elim
+    (λ (same : after.world.log ≡ before.world.log). same_log before.world.log after.world.log same)
+    (λ (one : (entry : Entry) × (after.world.log ≡ before.world.log ++ entry ∷ [])).
+    one_entry before.world.log after.world.log one.0 one.1)
+    (log_of_change script change)
 
 -- the members of an epoch stay
 pub same_members : (log log_after : List Entry) → LogGrows log log_after → 1 ≤ length log → (epoch : ℕ) → epoch ≤ epoch_of log
@@ -119,21 +79,11 @@ epochs_grow log log_after grows =
 pub ends_or_same : (script : List Statement) {start before after : MomentWithPast} → Began script start.world
     → MomentChange script start before after
     → Began script after.world ⊎ (after.world.log ≡ before.world.log)
-ends_or_same script {start} began (moments.StepBegins stepping is by) = inr (log_by_changes stepping.cause by start.world.log)
-ends_or_same script {start} began (moments.StepGoesOn stepping so_far next is by within) = inr refl
-ends_or_same script {start} began (moments.StepIsMade stepping is by) =
-    inl (goes_on script (event_of_cause stepping.n stepping.cause) start.world
-    (outcome_of_step script stepping.n stepping.host stepping.cause start.world) began is.made)
-ends_or_same script {start} began (moments.LossIsUntold event made happened h) = inl (goes_on script event start.world made began happened)
-ends_or_same script {start} began (moments.DeliveryIsUnread event made happened h) =
-    inl (goes_on script event start.world made began happened)
-ends_or_same script {start} began (moments.NodeIsLost event made happened h) = inl (goes_on script event start.world made began happened)
-ends_or_same script {start} began (moments.NodeLeaves event made happened h) = inl (goes_on script event start.world made began happened)
-ends_or_same script {start} began (moments.NodeIsReweighted event made happened h) =
-    inl (goes_on script event start.world made began happened)
-ends_or_same script {start} began (moments.NodeJoins event made happened h) = inl (goes_on script event start.world made began happened)
-ends_or_same script {start} began (moments.NodeComesBack event made happened h) = inl (goes_on script event start.world made began happened)
-ends_or_same script {start} began (moments.PhaseEnds event made happened h) = inl (goes_on script event start.world made began happened)
+ends_or_same script {start} began change =
+    by_change script start (λ before after. Began script after.world ⊎ (after.world.log ≡ before.world.log))
+    (λ stepping is by. inr (log_by_changes stepping.cause by start.world.log))
+    (λ stepping is by so_far next within. inr refl)
+    (λ event made happened. inl (goes_on script event start.world made began happened)) change
 
 -- ---- who is up
 

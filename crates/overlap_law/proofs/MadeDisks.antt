@@ -45,7 +45,7 @@ use Rattle.overlap_law.proofs.PublishedInodes.{was_published}
 use Rattle.overlap_law.proofs.LogsOfMoments.{log_or_start}
 use Rattle.overlap_law.proofs.FinishedInMoments.{TermsHold, kept_terms}
 use Rattle.overlap_law.proofs.KnownTables.{parent_known}
-use Rattle.overlap_law.proofs.LogsInMoments.{log_by_changes}
+use Rattle.overlap_law.proofs.LogsOfMoments.{log_by_changes}
 use Rattle.overlap_law.proofs.LogsReservable.{LogIsReservable, kept_reservable}
 use Rattle.overlap_law.proofs.NewAttempts.{IsOpened, WasAttempt, come_from}
 use Rattle.overlap_law.proofs.NoRecoveredDue.{began-with_past}

@@ -38,7 +38,7 @@ use Rattle.overlap_law.proofs.AttemptMessages.{contains_at}
 use Rattle.overlap_law.proofs.KnownSteps.{IsKnownStep, known_step}
 use Rattle.overlap_law.proofs.LackedNowhere.{found_at, awaited_one, awake, heard_one, heard}
 use Rattle.overlap_law.proofs.LackRefusals.{EndedLacking, lacked_in_chain}
-use Rattle.overlap_law.proofs.LogsInMoments.{log_by_changes}
+use Rattle.overlap_law.proofs.LogsOfMoments.{log_by_changes}
 use Rattle.overlap_law.proofs.MessagesOfDisks.{StaysFor}
 use Rattle.overlap_law.proofs.NoRecoveredDue.{began-with_past}
 use Rattle.overlap_law.proofs.OpenStatuses.{WasMessage, IsNewMessage, known_so_far}

@@ -32,7 +32,7 @@ use Rattle.sheep_node.specs.Courses.{inode_open}
 use Rattle.sheep_node.specs.May.{May}
 use Rattle.sheep_node.specs.SessionQueues.{session_among, QueuesAreDiskRequests, CommandsAreAlone}
 use Rattle.sheep_node.specs.Changes.{Arrival, input_received, Leads}
-use Rattle.sheep_node.proofs.CourseWalk.{IsKeptByParts, none_so, so_in_chain}
+use Rattle.sheep_node.proofs.CourseWalk.{by_disk, IsKeptByParts, none_so, so_in_chain}
 use Rattle.sheep_node.proofs.OneWorkParts.{Requests, Sessions}
 use Rattle.sheep_node.proofs.SessionViews.{open_in, IsSeen}
 use Rattle.sheep_node.proofs.ValidSteps.{given}
@@ -175,24 +175,26 @@ module _ (K : ℕ → Type 0) where
         = ap (λ (state : StepState). (session_in session state).disk) (sym arrival.first) ∙ on in
         subst (λ (o : Option Disk). IfSome o (λ (disk : Disk). IsAskWithin disk.inode ask)) open_then brought
 
-    parts_keep_within : IsKeptByParts inode_open IsCourseWithin input node
+    parts_keep_within : IsKeptByParts (by_disk inode_open) (λ (req : ℕ). IsCourseWithin) input node
     parts_keep_within = record {
       arrives = λ so_far session req ask disk arrival on. asks_within so_far session req ask disk arrival on;
-      begins = λ disk ask is. begins_within disk ask is;
-      goes_on = λ disk bytes driver step is before.
+      begins = λ req disk queue ask runs is. begins_within disk ask is;
+      goes_on = λ req disk queue bytes driver step is before.
           let wanted = driver_goes_on-wanted disk.inode bytes driver step is in
           still_within disk.inode step.inode wanted.vid wanted.spec (Driving step.driver)
           (goes_on_left disk.inode bytes driver step is before);
-      beside = λ disk inode spec vid course is. still_within disk.inode inode vid spec course is;
-      commands = λ disk op. tt;
+      commands = λ req inode op. tt;
       checks = λ so_far session req inode arrival on. tt;
-      checked = λ disk bytes check step is before. tt;
+      checked = λ req inode bytes check step is before. tt;
       objects = λ so_far session req work arrival. subst (λ (input : Input). IsInputWithin input node) arrival.from asked;
-      entries = λ disk entry. tt;
+      entries = λ req inode entry. tt;
+      comes_beside = λ req disk queue one other course is. is;
+      ends_beside = λ req other disk queue apart course is. is;
+      drives_beside = λ req disk queue inode spec vid course is. still_within disk.inode inode vid spec course is;
     }
 
   pub none_within : AreWithin tree.empty tree.empty
-  none_within = none_so inode_open IsCourseWithin
+  none_within = none_so (by_disk inode_open) (λ (req : ℕ). IsCourseWithin)
 
   -- in the middle of a step
   pub within_in_chain : (input : Input) (node : Node) → May input node → QueuesAreDiskRequests node → CommandsAreAlone node
@@ -200,4 +202,4 @@ module _ (K : ℕ → Type 0) where
       → (so_far : StepState) → Leads input node (input_received input (at_first node)) so_far
       → AreWithin so_far.node.requests so_far.node.sessions
   within_in_chain input node may queued sole asked all so_far leads =
-      so_in_chain inode_open IsCourseWithin input node (parts_keep_within asked) may queued sole all so_far leads
+      so_in_chain (by_disk inode_open) (λ (req : ℕ). IsCourseWithin) input node (parts_keep_within asked) may queued sole all so_far leads

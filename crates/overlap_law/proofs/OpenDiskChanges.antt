@@ -35,7 +35,7 @@ use Rattle.overlap_law.proofs.AwaitedChanges.{Requests, AreAwaitedSoFar}
 use Rattle.overlap_law.proofs.AwaitedCommands.{is_command}
 use Rattle.overlap_law.proofs.AwaitedSteps.{entry_of_input, MeetsCommands, change_awaited}
 use Rattle.overlap_law.proofs.OpenCommands.{begins_open, goes_on_open, decided_open, left_open}
-use Rattle.overlap_law.proofs.ChangeWalk.{IsKeptByParts, kept_by_steps, next_holds, change_holds}
+use Rattle.sheep_node.proofs.ChangeWalk.{IsKeptByParts, kept_by_steps, next_holds, change_holds}
 use Rattle.guest_driver.specs.InodeQueue.{InodeQueue}
 use Rattle.sheep_node.specs.SessionQueues.{session_among}
 

@@ -29,7 +29,7 @@ use Rattle.overlap_law.specs.Tables.{IsOfChain}
 use Rattle.overlap_law.specs.WholeTables.{TablesAreWhole}
 use Rattle.overlap_law.proofs.ChainTables.{HasChainTable, at_index, above_later}
 use Rattle.overlap_law.proofs.GrantedEpochs.{spec_stays}
-use Rattle.overlap_law.proofs.LogsInMoments.{log_by_changes}
+use Rattle.overlap_law.proofs.LogsOfMoments.{log_by_changes}
 use Rattle.overlap_law.proofs.NoRecoveredDue.{began-with_past}
 use Rattle.overlap_law.proofs.StepsInRuns.{knows_tables}
 use Rattle.overlap_law.proofs.WholeInRuns.{nodes_whole}

@@ -48,7 +48,7 @@ use Rattle.overlap_law.proofs.AnswersInMoments.{not_lost}
 use Rattle.overlap_law.proofs.AwaitedCommands.{waits_at}
 use Rattle.overlap_law.proofs.CountedEntries.{same_entry}
 use Rattle.overlap_law.proofs.GrantedIds.{snapshot_found}
-use Rattle.overlap_law.proofs.LogsInMoments.{log_by_changes}
+use Rattle.overlap_law.proofs.LogsOfMoments.{log_by_changes}
 use Rattle.overlap_law.proofs.SnapshotChains.{snapshot_was}
 use Rattle.overlap_law.proofs.GuestsInMoments.{GuestsChange, GuestsStay, GuestsAreNone, IsGoingOn, IsBetween, between}
 use Rattle.overlap_law.proofs.LogsOfMoments.{log_of_change}

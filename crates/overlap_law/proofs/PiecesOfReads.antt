@@ -79,7 +79,7 @@ use Rattle.overlap_law.proofs.DoneWorks.{bytes_long}
 use Rattle.overlap_law.proofs.GoodDisks.{IsBelow, good_below}
 use Rattle.overlap_law.proofs.KnownDisks.{FewAt, kind-of_object, vid-of_object}
 use Rattle.overlap_law.proofs.KnownReads.{entry_at, hole_none}
-use Rattle.overlap_law.proofs.LogsInMoments.{log_by_changes}
+use Rattle.overlap_law.proofs.LogsOfMoments.{log_by_changes}
 use Rattle.overlap_law.proofs.MadeForDisks.{stands_alive}
 use Rattle.overlap_law.proofs.NoMissingObjects.{live_stands}
 use Rattle.overlap_law.proofs.NoRecoveredDue.{began-with_past}

@@ -51,7 +51,7 @@ use Rattle.overlap_law.proofs.GuestsInMoments.{IsGoingOn, IsBetween, between}
 use Rattle.overlap_law.proofs.KnownDisks.{vid-of_inode}
 use Rattle.overlap_law.proofs.KnownSteps.{known_step}
 use Rattle.overlap_law.proofs.LastEntriesInRuns.{had}
-use Rattle.overlap_law.proofs.LogsOfMoments.{log-by_changes, log_of_change}
+use Rattle.overlap_law.proofs.LogsOfMoments.{log_by_changes, log_of_change}
 use Rattle.overlap_law.proofs.MakingStages.{IsPublishingStage}
 use Rattle.overlap_law.proofs.NewAttempts.{IsOpened, WasAttempt, come_from}
 use Rattle.overlap_law.proofs.NoRecoveredDue.{began-with_past}
@@ -199,7 +199,7 @@ module _ (script : List Statement) (range : RunsAreInRange script) (events : Lis
 
         same_log : after.world.log ≡ start.world.log
         same_log =
-            ap (λ (m : MomentWithPast). m.world.log) g.after_so ∙ log-by_changes g.stepping.cause start.world.log g.by
+            ap (λ (m : MomentWithPast). m.world.log) g.after_so ∙ log_by_changes g.stepping.cause g.by start.world.log
 
         -- the request is refused
         refused : (cause : Cause) → Contains g.next.outputs.replies (w.was.req, replies.Refused cause) → Result

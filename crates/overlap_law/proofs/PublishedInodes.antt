@@ -11,33 +11,26 @@ use Rattle.object_id.specs.declared.entry.Entry.TheVariants as entries
 use Rattle.object_id.specs.declared.oid.Vid.{Vid}
 use Rattle.object_id.specs.Oid.{inode_number}
 use Rattle.cluster_script.specs.declared.statement.Statement.{Statement}
-use Rattle.cluster_script.specs.Settings.{vnodes_of}
 use Rattle.epoch_log.specs.Epochs.{epoch_of}
 use Rattle.vdi_directory.specs.declared.effect.Effect.{Effect}
 use Rattle.vdi_directory.specs.Decisions.{outcome, log_effects}
 use Rattle.vdi_directory.specs.States.{state_of, is_live_state}
 use Rattle.vdi_directory.proofs.StateLemmas.{log_effects-none, log_effects-push}
 use Rattle.sheep_world.specs.Began.{Began}
-use Rattle.sheep_world.specs.MembershipChanges.{join_of, last_weight}
-use Rattle.sheep_world.specs.NodeCauses.{NodeCause, GuestAsks, RequestComes, ReplyComes, LossIsTold, EntryIsRead, EntryIsPut, RecoveryTicks}
-use Rattle.sheep_world.specs.NodeCauses.{WorkIsRetried, ClientAsks, IsCause, log_after_cause}
-use Rattle.sheep_world.specs.Step.{EventOutcome}
-use Rattle.sheep_world.specs.World.{Host, World}
+use Rattle.sheep_world.specs.World.{Host}
 use Rattle.overlap_law.specs.Attempts.{AttemptRecord}
 use Rattle.overlap_law.specs.Drafts.{published_by}
 use Rattle.overlap_law.specs.Each.{EachUp}
 use Rattle.overlap_law.specs.Fates.{IsCreated}
 use Rattle.overlap_law.specs.Grants.{gives, publishes, published_in}
 use Rattle.overlap_law.specs.MomentChanges.{MomentChange, RunsAreInRange}
-use Rattle.overlap_law.specs.MomentChanges as moments
 use Rattle.overlap_law.specs.Past.{MomentWithPast}
 use Rattle.overlap_law.specs.Reached.{Hosts}
-use Rattle.overlap_law.specs.StepMoments.{StepsAtOnce}
 use Rattle.overlap_law.specs.Tables.{PublishedInodesAreMade}
 use Rattle.overlap_law.proofs.AnswersInMoments.{not_lost}
 use Rattle.overlap_law.proofs.CreatedStays.{created_stays, created-by}
 use Rattle.overlap_law.proofs.DatedEffects.{by_entries, last_epoch-push, epoch_rises}
-use Rattle.overlap_law.proofs.LogsInMoments.{log_by_changes}
+use Rattle.overlap_law.proofs.LogsOfMoments.{IsOfMembers, IsPutHere, gets_entry}
 use Rattle.overlap_law.proofs.PublishedIds.{published_by_entry, live_before}
 use Rattle.overlap_law.proofs.ReadInMoments.{HostsAreSound, epoch_within}
 
@@ -52,22 +45,7 @@ pub record IsPutNow (hosts : Hosts) (entry : Entry) : Type 0 where
   pub later : List Entry
   pub first : host.node.outbox ≡ entry ∷ later
 
--- an entry of the membership
-abbrev pub IsOfMembers : Entry → Type 0
-IsOfMembers (entries.Format members) = ⊥
-IsOfMembers (entries.Join node zone vnodes) = Unit {0}
-IsOfMembers (entries.Leave node) = Unit {0}
-IsOfMembers (entries.Reweight node vnodes) = Unit {0}
-IsOfMembers (entries.Recovered node epoch) = ⊥
-IsOfMembers (entries.Reserve by session name origin) = ⊥
-IsOfMembers (entries.Publish by vid) = ⊥
-IsOfMembers (entries.Clone by vid) = ⊥
-IsOfMembers (entries.Snapshot by old vid) = ⊥
-IsOfMembers (entries.Delete by session name tag) = ⊥
-IsOfMembers (entries.Lock by session name tag) = ⊥
-IsOfMembers (entries.Unlock by session vid) = ⊥
-
--- such an entry publishes nothing
+-- an entry of the membership publishes nothing
 pub members_publish : (entry : Entry) → IsOfMembers entry → published_by entry ≡ None
 members_publish (entries.Format members) is = absurd is
 members_publish (entries.Join node zone vnodes) is = refl
@@ -103,52 +81,32 @@ LogGets start before after = (after.world.log ≡ before.world.log)
     ⊎ ((entry : Entry) × (after.world.log ≡ before.world.log ++ entry ∷ [])
     × (IsOfMembers entry ⊎ ((before ≡ start) × IsPutNow before.world.hosts entry)))
 
-put_at_once : (script : List Statement) (world : World) (n : ℕ) (host : Host) → tree.get world.hosts n ≡ Some host → host.is_lost ≡ false
-    → (cause : NodeCause) → StepsAtOnce cause → IsCause script world n host cause
-    → (log_after_cause cause world.log ≡ world.log)
-    ⊎ ((entry : Entry) × (log_after_cause cause world.log ≡ world.log ++ entry ∷ [])
-    × (IsOfMembers entry ⊎ IsPutNow world.hosts entry))
-put_at_once script world n host there up (GuestAsks session req ask) by caused = inl refl
-put_at_once script world n host there up (RequestComes name to request) by caused = inl refl
-put_at_once script world n host there up (ReplyComes name from rsp) by caused = inl refl
-put_at_once script world n host there up (LossIsTold name packet) by caused = inl refl
-put_at_once script world n host there up (EntryIsRead entry) by caused = inl refl
-put_at_once script world n host there up (EntryIsPut entry) by (later, first) =
-    inr (entry, refl, inr (record { n = n; host = host; there = there; up = up; later = later; first = first }))
-put_at_once script world n host there up RecoveryTicks by caused = inl refl
-put_at_once script world n host there up WorkIsRetried by caused = inl refl
-put_at_once script world n host there up (ClientAsks req ask) by caused = inl refl
-
 pub log_gets : (script : List Statement) {start before after : MomentWithPast} → MomentChange script start before after
     → LogGets start before after
-log_gets script {start} (moments.StepBegins stepping is by) = inl (log_by_changes stepping.cause by start.world.log)
-log_gets script (moments.StepGoesOn stepping so_far next is by within) = inl refl
-log_gets script {start} (moments.StepIsMade stepping is by) =
-    ⊎_elim
-    (λ (same : log_after_cause stepping.cause start.world.log ≡ start.world.log). inl same)
-    (λ (more : (entry : Entry) × (log_after_cause stepping.cause start.world.log ≡ start.world.log ++ entry ∷ [])
-    × (IsOfMembers entry ⊎ IsPutNow start.world.hosts entry)).
+log_gets script {start} {before} {after} change = ⊎_elim
+    (λ (same : after.world.log ≡ before.world.log). inl same)
+    (λ (more : (entry : Entry) × (after.world.log ≡ before.world.log ++ entry ∷ [])
+    × (IsOfMembers entry ⊎ IsPutHere script start before after entry)).
     inr (
       more.0,
       more.1,
       ⊎_elim
           (λ (members : IsOfMembers more.0). inl members)
-          (λ (own : IsPutNow start.world.hosts more.0). inr (refl, own))
+          (λ (put : IsPutHere script start before after more.0).
+          inr (
+            put.first,
+            subst (λ (m : MomentWithPast). IsPutNow m.world.hosts more.0) (sym put.first) (record {
+              n = put.n;
+              host = put.host;
+              there = put.there;
+              up = not_lost put.host put.up;
+              later = put.so.0;
+              first = put.so.1;
+            }),
+          ))
           more.2,
     ))
-    (put_at_once script start.world stepping.n stepping.host is.there (not_lost stepping.host is.up) stepping.cause by is.caused)
-log_gets script (moments.LossIsUntold event made happened h) = inl (ap (λ (m : EventOutcome). m.world.log) (sym h.made_so))
-log_gets script (moments.DeliveryIsUnread event made happened h) = inl (ap (λ (m : EventOutcome). m.world.log) (sym h.made_so))
-log_gets script (moments.NodeIsLost event made happened h) = inl (ap (λ (m : EventOutcome). m.world.log) (sym h.made_so))
-log_gets script (moments.NodeLeaves event made happened h) =
-    inr (entries.Leave (record { 0 = h.n }), ap (λ (m : EventOutcome). m.world.log) (sym h.made_so), inl tt)
-log_gets script (moments.NodeIsReweighted event made happened h) =
-    inr (entries.Reweight (record { 0 = h.n }) h.vnodes, ap (λ (m : EventOutcome). m.world.log) (sym h.made_so), inl tt)
-log_gets script (moments.NodeJoins event made happened h) =
-    inr (join_of script h.n (vnodes_of script), ap (λ (m : EventOutcome). m.world.log) (sym h.made_so), inl tt)
-log_gets script {start} (moments.NodeComesBack event made happened h) =
-    inr (join_of script h.n (last_weight start.world.log h.n), ap (λ (m : EventOutcome). m.world.log) (sym h.made_so), inl tt)
-log_gets script (moments.PhaseEnds event made happened h) = inl (ap (λ (m : EventOutcome). m.world.log) (sym h.made_so))
+    (gets_entry script change)
 
 -- the inodes of the ids that outboxes publish were created
 abbrev pub OutboxesAreCreated : MomentWithPast → Type 0

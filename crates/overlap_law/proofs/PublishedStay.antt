@@ -63,7 +63,8 @@ use Rattle.overlap_law.proofs.NewAttempts.{IsOpened}
 use Rattle.overlap_law.proofs.NoRecoveredDue.{began-with_past}
 use Rattle.overlap_law.proofs.OpenDisksInRuns.{disks_fit-in_run}
 use Rattle.overlap_law.proofs.OpeningOverlap.{no_request}
-use Rattle.overlap_law.proofs.PublishedInodes.{IsOfMembers, members_give, IsPutNow, log_gets}
+use Rattle.overlap_law.proofs.LogsOfMoments.{IsOfMembers}
+use Rattle.overlap_law.proofs.PublishedInodes.{members_give, IsPutNow, log_gets}
 use Rattle.overlap_law.proofs.ShortTags.{knows_works}
 use Rattle.overlap_law.proofs.StagesFrom.{ComesNow, stage_from}
 use Rattle.overlap_law.proofs.WholeInRuns.{sound_world}

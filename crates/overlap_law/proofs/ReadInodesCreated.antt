@@ -38,7 +38,7 @@ use Rattle.overlap_law.proofs.ClaimsInRuns.{claims-in_run}
 use Rattle.overlap_law.proofs.ClosedSnapshots.{snapped-push, snaps-working, snapped-later}
 use Rattle.overlap_law.proofs.DatedEffects.{by_entries}
 use Rattle.overlap_law.proofs.DiskWalk.{IsAtStage}
-use Rattle.overlap_law.proofs.LogsInMoments.{log_by_changes}
+use Rattle.overlap_law.proofs.LogsOfMoments.{log_by_changes}
 use Rattle.overlap_law.proofs.NoRecoveredDue.{began-with_past}
 use Rattle.overlap_law.proofs.PublishedInodes.{was_published, published_stays, live_was}
 use Rattle.overlap_law.proofs.PublishedInRuns.{published-on_the_way}

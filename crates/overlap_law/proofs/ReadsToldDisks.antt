@@ -61,7 +61,7 @@ use Rattle.overlap_law.proofs.DrawnClones.{shown}
 use Rattle.overlap_law.proofs.EntriesFollow.{AreShown, kept_shown}
 use Rattle.overlap_law.proofs.HeldDisks.{held-in_run}
 use Rattle.overlap_law.proofs.HistoryInMoments.{history_so}
-use Rattle.overlap_law.proofs.LogsInMoments.{log_by_changes}
+use Rattle.overlap_law.proofs.LogsOfMoments.{log_by_changes}
 use Rattle.overlap_law.proofs.NoRecoveredDue.{began-with_past}
 use Rattle.overlap_law.proofs.OpenSnapshotsOfHistory.{snapped_shown}
 use Rattle.overlap_law.proofs.ReadInMoments.{HostsAreSound, kept_sound}

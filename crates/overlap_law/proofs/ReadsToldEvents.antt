@@ -55,7 +55,7 @@ use Rattle.overlap_law.proofs.EntriesFollow.{AreShown, kept_shown}
 use Rattle.overlap_law.proofs.HistoryInMoments.{by_cause, history_so, no_write, request_silent, tick_silent}
 use Rattle.overlap_law.proofs.ItemsStayOpen.{items_open}
 use Rattle.overlap_law.proofs.LegalRuns.{all_follows}
-use Rattle.overlap_law.proofs.LogsInMoments.{log_by_changes}
+use Rattle.overlap_law.proofs.LogsOfMoments.{log_by_changes}
 use Rattle.overlap_law.proofs.NoRecoveredDue.{began-with_past}
 use Rattle.overlap_law.proofs.PiecesRead.{stays_read}
 use Rattle.overlap_law.proofs.ReadsToldBack.{is_told, told_in_turn}

@@ -59,7 +59,7 @@ use Rattle.overlap_law.proofs.EntriesFollow.{AreShown, kept_shown}
 use Rattle.overlap_law.proofs.GuestsInMoments.{GuestsChange, GuestsStay, GuestsAreNone, IsGoingOn, IsBetween, between}
 use Rattle.overlap_law.proofs.HistoryInMoments.{IsTold, by_rules}
 use Rattle.overlap_law.proofs.KeptReads.{cause_keeps_reads, reply_keeps_reads}
-use Rattle.overlap_law.proofs.LogsInMoments.{log_by_changes}
+use Rattle.overlap_law.proofs.LogsOfMoments.{log_by_changes}
 use Rattle.overlap_law.proofs.OpenDisksOfHistory.{working_of_history}
 use Rattle.overlap_law.proofs.OpenSnapshotsOfHistory.{snapshots_of_history}
 use Rattle.overlap_law.proofs.RunsByChanges.{on_the_way}

@@ -11,7 +11,7 @@ use Rattle.overlap_law.specs.Overlap.{CallsFewer}
 use Rattle.overlap_law.specs.Past.{MomentWithPast, run_with_past}
 use Rattle.overlap_law.proofs.CarriedInodes.{HasInodes, fewer_inodes, inodes-in_run}
 use Rattle.overlap_law.proofs.CarriedTables.{CarriesTables, fewer_tables, good_id_at, tables-in_run}
-use Rattle.overlap_law.proofs.DisksByTheLog.{log_before}
+use Rattle.overlap_law.proofs.LogsOfMoments.{log_before}
 use Rattle.overlap_law.proofs.EntriesReadKept.{entries_kept}
 use Rattle.overlap_law.proofs.MadeTables.{tables_stay_made}
 use Rattle.overlap_law.proofs.MakingInRuns.{each_object}

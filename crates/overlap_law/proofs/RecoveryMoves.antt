@@ -41,7 +41,7 @@ use Rattle.overlap_law.proofs.AnswersInMoments.{not_lost}
 use Rattle.overlap_law.proofs.HostsInMoments.{none_there}
 use Rattle.overlap_law.proofs.KnownSteps.{together}
 use Rattle.overlap_law.proofs.ListsGoOn.{untouched}
-use Rattle.overlap_law.proofs.LogsInMoments.{log_by_changes}
+use Rattle.overlap_law.proofs.LogsOfMoments.{log_by_changes}
 use Rattle.overlap_law.proofs.NotedRows.{passed, listed_with, own_is, own_first, notes, notes_in_step}
 use Rattle.overlap_law.proofs.ReadInMoments.{HostsAreSound}
 use Rattle.overlap_law.proofs.SendsOfChanges.{in_order_so_far}

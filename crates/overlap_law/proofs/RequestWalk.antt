@@ -14,7 +14,7 @@ use Rattle.sheep_node.specs.Changes.{Arrival, Outcome, RequestSteps, Change}
 use Rattle.sheep_node.specs.State.{Node}
 use Rattle.sheep_node.specs.StepState.{StepState, request_ended}
 use Rattle.sheep_node.proofs.OneWorkParts.{Requests, Sessions}
-use Rattle.overlap_law.proofs.ChangeWalk.{kept_by_steps, change_holds}
+use Rattle.sheep_node.proofs.ChangeWalk.{kept_by_steps, change_holds}
 
 module _ (q : ℕ) (R : Request → Type 0) where
   abbrev pub IsWhereThere : Requests → Type 0
@@ -27,7 +27,7 @@ module _ (q : ℕ) (R : Request → Type 0) where
       (λ (other : (q ≢ req) × (tree.get requests q ≡ Some r)). is r other.1)
       (get-insert_cases requests req new q r got)
 
-  ended_there : (session req : ℕ) (reply : GuestRsp) (so_far : StepState) → IsWhereThere so_far.node.requests
+  pub ended_there : (session req : ℕ) (reply : GuestRsp) (so_far : StepState) → IsWhereThere so_far.node.requests
       → IsWhereThere (request_ended session req reply so_far).node.requests
   unfolding request_ended
   ended_there session req reply so_far is r got = ⊎_elim

@@ -201,7 +201,7 @@ module _ (number : ℕ) (said : Option PeerSay) (state : RecoveryState) where
   module _ (message : Message) (there : Contains state.recovery.unanswered message) (own : message.request.number ≡ number) where
     module _ (level : Epoch) (one : Search) (asked : message.request.ask ≡ asks.RecoverRead one.oid level) where
       -- the answer that this reply gave
-      own_told : (row : Option RowCopy) (answer : RowAnswer) → said ≡ Some (row_or_none row)
+      pub own_told : (row : Option RowCopy) (answer : RowAnswer) → said ≡ Some (row_or_none row)
           → Contains (one.answers ++ record { from = message.to; row = row } ∷ []) answer → Contains one.answers answer ⊎ Told one answer
       own_told row answer is among = ⊎_elim
           (λ (kept : Contains one.answers answer). inl kept)

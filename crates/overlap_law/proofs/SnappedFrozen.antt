@@ -22,7 +22,8 @@ use Rattle.overlap_law.specs.ToCome.{IsEntryToCome, SnapshotsStayFrozen, Snapped
 use Rattle.overlap_law.proofs.ClosedSnapshots.{snaps-working}
 use Rattle.overlap_law.proofs.CreatedInodes.{header_is}
 use Rattle.overlap_law.proofs.LogsReservable.{LogIsReservable, kept_reservable}
-use Rattle.overlap_law.proofs.PublishedInodes.{IsOfMembers, IsPutNow, log_gets}
+use Rattle.overlap_law.proofs.LogsOfMoments.{IsOfMembers}
+use Rattle.overlap_law.proofs.PublishedInodes.{IsPutNow, log_gets}
 use Rattle.overlap_law.proofs.RunsByChanges.{on_the_way}
 use Rattle.overlap_law.proofs.SnapshotChains.{snapshot_was}
 use Rattle.std.proofs.Common.{arith, ◌||◌}

@@ -9,9 +9,9 @@ use Rattle.guest_driver.specs.declared.disk.Disk.{Disk}
 use Rattle.sheep_node.specs.Changes as changes
 use Rattle.sheep_node.specs.declared.event.Event.{Event}
 use Rattle.sheep_node.specs.StepState.{StepState}
-use Rattle.sheep_world.specs.Began.{Began, MakesMove}
-use Rattle.sheep_world.specs.EventKinds.{outcome_of_step}
-use Rattle.sheep_world.specs.NodeCauses.{event_of_cause, host_with_node, progress_at_cause}
+use Rattle.sheep_world.specs.Began.{Began}
+use Rattle.sheep_world.specs.NodeCauses.{host_with_node, progress_at_cause}
+use Rattle.sheep_world.specs.Began.{MakesMove}
 use Rattle.sheep_world.specs.Step.{EventOutcome}
 use Rattle.sheep_world.specs.World.{Host}
 use Rattle.sheep_world.specs.RunsWithAsks.{Move}
@@ -28,6 +28,7 @@ use Rattle.overlap_law.proofs.CausedWorks.{by_changes}
 use Rattle.overlap_law.proofs.CoursesOfAsks.{IsPlacedIn, placed_as}
 use Rattle.overlap_law.proofs.CoursesOfScript.{asked_by, BeganOn, placed_found, requests_placed}
 use Rattle.overlap_law.proofs.EntryWorks.{known_disk}
+use Rattle.overlap_law.proofs.EventsOfChanges.{by_change}
 use Rattle.overlap_law.proofs.HistoryInMoments.{history_so}
 use Rattle.overlap_law.proofs.NoRecoveredDue.{began-with_past}
 use Rattle.overlap_law.proofs.PiecesUnderWay.{left_of_scripts}
@@ -106,19 +107,12 @@ module _ (script : List Statement) (range : RunsAreInRange script) (events : Lis
 
   pub written_after : {before after : MomentWithPast} → MomentChange script start before after
       → WritesHaveItems (ledger_of after.past.history) after.world.hosts
-  written_after (moments.StepBegins on is by) =
+  written_after change =
+      by_change script start (λ before after. WritesHaveItems (ledger_of after.past.history) after.world.hosts)
+      (λ on is by.
       step_written-then on is by (first_in_step on) changes.Still
-      (well_after script range start begun (moments.StepBegins on is by))
-  written_after (moments.StepGoesOn on so_far next is by within) =
+      (well_after script range start begun (moments.StepBegins on is by)))
+      (λ on is by so_far next within.
       step_written-then on is by next (changes.Then within.leads within.change)
-      (well_after script range start begun (moments.StepGoesOn on so_far next is by within))
-  written_after (moments.StepIsMade on is by) =
-      at_end (event_of_cause on.n on.cause) (outcome_of_step script on.n on.host on.cause start.world) is.made
-  written_after (moments.LossIsUntold event made happened h) = at_end event made happened
-  written_after (moments.DeliveryIsUnread event made happened h) = at_end event made happened
-  written_after (moments.NodeIsLost event made happened h) = at_end event made happened
-  written_after (moments.NodeLeaves event made happened h) = at_end event made happened
-  written_after (moments.NodeIsReweighted event made happened h) = at_end event made happened
-  written_after (moments.NodeJoins event made happened h) = at_end event made happened
-  written_after (moments.NodeComesBack event made happened h) = at_end event made happened
-  written_after (moments.PhaseEnds event made happened h) = at_end event made happened
+      (well_after script range start begun (moments.StepGoesOn on so_far next is by within)))
+      at_end change

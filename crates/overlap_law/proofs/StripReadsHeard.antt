@@ -49,7 +49,7 @@ use Rattle.overlap_law.proofs.GuestsInMoments.{GuestsChange, GuestsStay, GuestsA
 use Rattle.overlap_law.proofs.HeardPieces.{heard_piece}
 use Rattle.overlap_law.proofs.KnownSteps.{known_step}
 use Rattle.overlap_law.proofs.LogsGrow.{logs_grow}
-use Rattle.overlap_law.proofs.LogsInMoments.{log_by_changes}
+use Rattle.overlap_law.proofs.LogsOfMoments.{log_by_changes}
 use Rattle.overlap_law.proofs.MessagesInSteps.{BeginsNow, IsMessageOf, WasMessageOf, change_messages}
 use Rattle.overlap_law.proofs.NoRecoveredDue.{began-with_past}
 use Rattle.overlap_law.proofs.OpeningReads.{told_reply}

@@ -46,7 +46,7 @@ use Rattle.overlap_law.proofs.KnownDiskSteps.{AreOnKnown, IsKnownSoFar}
 use Rattle.overlap_law.proofs.TableWalk.{IsSoOpen, AreSoFar, TakesOver, open_so, opened_so, session_so, request_so, ended_so, freed_so}
 use Rattle.overlap_law.proofs.TableWalk.{sole_so}
 use Rattle.overlap_law.proofs.TableWalk.{driven_so, goes_so, commanded_so, command_begins-so, command_goes_on-so, command_decided-so}
-use Rattle.overlap_law.proofs.ChangeWalk.{kept_by_steps, change_holds}
+use Rattle.sheep_node.proofs.ChangeWalk.{kept_by_steps, change_holds}
 use Rattle.overlap_law.proofs.TableWalk.{AreSo as AreTablesSo, lined_so}
 
 -- where the reading of an inode ends, as its disk is opened, it is so of the inode with the table that was read

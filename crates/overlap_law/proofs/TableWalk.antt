@@ -51,7 +51,7 @@ use Rattle.sheep_node.proofs.ValidityChanges.{put_is, gone_is}
 use Rattle.overlap_law.specs.MadeTables.{inode_to_open, inode_of_course}
 use Rattle.overlap_law.proofs.DriverNames.{read_stays, write_stays}
 use Rattle.overlap_law.proofs.KnownDisks.{FewAt}
-use Rattle.overlap_law.proofs.ChangeWalk.{freed_holds}
+use Rattle.sheep_node.proofs.ChangeWalk.{freed_holds}
 use Rattle.guest_driver.specs.InodeQueue.{InodeQueue}
 use Rattle.sheep_node.specs.SessionQueues.{session_among}
 

@@ -36,7 +36,7 @@ use Rattle.overlap_law.proofs.AwaitedInMoments.{change_awaited, awaited_kept}
 use Rattle.overlap_law.proofs.EpochsOfAttempts.{change_begun}
 use Rattle.overlap_law.proofs.GoneInRuns.{at_end, at_push, all_fenced}
 use Rattle.overlap_law.proofs.LeavesOfLog.{leaves_own}
-use Rattle.overlap_law.proofs.LogsOfMoments.{log-by_changes, log_or_start}
+use Rattle.overlap_law.proofs.LogsOfMoments.{log_by_changes, log_or_start}
 use Rattle.overlap_law.proofs.NewAttempts.{WasAttempt, IsOpened, come_from}
 use Rattle.overlap_law.proofs.ReadInMoments.{hosts_after_sound}
 use Rattle.overlap_law.proofs.RunsByChanges.{on_the_way}
@@ -139,7 +139,7 @@ module _ (script : List Statement) (range : RunsAreInRange script) (start : Mome
   ends : {before after : MomentWithPast} → MomentChange script start before after → IsTied before
       → PacketsAreOfOpenWorks before.world.hosts before.world.wire before.past.attempts → EndAtEntries before after
   ends {before} {after} (moments.StepBegins stepping is by) tied awaited =
-      none_put before after (log-by_changes stepping.cause start.world.log by)
+      none_put before after (log_by_changes stepping.cause by start.world.log)
   ends {before} {after} (moments.StepGoesOn stepping so_far next is by within) tied awaited = none_put before after refl
   ends (moments.StepIsMade stepping is by) tied awaited =
       stepped_ends awaited stepping.n stepping.host is.there is.up stepping.cause is.caused
@@ -213,7 +213,7 @@ module _ (script : List Statement) (range : RunsAreInRange script) (start : Mome
 
     -- by then the log is as it was
     opened_log : (attempt : AttemptRecord) → IsOpened script start after attempt → after.world.log ≡ start.world.log
-    opened_log attempt o = ap (λ (m : MomentWithPast). m.world.log) o.moment_so ∙ log-by_changes o.stepping.cause start.world.log o.by
+    opened_log attempt o = ap (λ (m : MomentWithPast). m.world.log) o.moment_so ∙ log_by_changes o.stepping.cause o.by start.world.log
 
     pub begins_before : (attempt : AttemptRecord) → after.past.attempts ≡ before.past.attempts ++ attempt ∷ []
         → IsUnderTheGrant before.world.log attempt (vid_of (object_of attempt))

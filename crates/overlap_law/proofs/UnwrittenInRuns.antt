@@ -24,10 +24,9 @@ use Rattle.sheep_node.specs.May.{is_disk_course}
 use Rattle.sheep_node.specs.SessionQueues.{session_among}
 use Rattle.sheep_node.specs.StepState.{StepState}
 use Rattle.sheep_node.specs.Changes as changes
-use Rattle.sheep_world.specs.Began.{Began, MakesMove}
-use Rattle.sheep_world.specs.EventKinds.{outcome_of_step}
-use Rattle.sheep_world.specs.NodeCauses.{event_of_cause}
+use Rattle.sheep_world.specs.Began.{Began}
 use Rattle.sheep_world.specs.Step.{EventOutcome}
+use Rattle.sheep_world.specs.Began.{MakesMove}
 use Rattle.sheep_world.specs.World.{Host}
 use Rattle.sheep_world.specs.RunsWithAsks.{Move}
 use Rattle.overlap_law.specs.AloneItems.{IsOwnItem}
@@ -59,6 +58,7 @@ use Rattle.overlap_law.proofs.UnwrittenItems.{open_there}
 use Rattle.overlap_law.proofs.UnwrittenMeets.{WritesAt, none_at, same_session}
 use Rattle.overlap_law.proofs.UnwrittenReplies.{asks_so}
 use Rattle.overlap_law.proofs.UnwrittenSteps.{own_block, writes_here}
+use Rattle.overlap_law.proofs.EventsOfChanges.{by_change}
 use Rattle.overlap_law.proofs.PlacedOfScript.{placed_of_script}
 
 -- a driver isn't a write's
@@ -216,20 +216,12 @@ module _ (script : List Statement) (range : RunsAreInRange script) (events : Lis
 
   pub none_meet : {moment : MomentWithPast} → MomentTrail script start moment → NoneMeet moment
   none_meet Still = at_end script range events start ran
-  none_meet (Then trail (moments.StepBegins on is by)) =
-      in_step on is by (first_in_step on) changes.Still (Then trail (moments.StepBegins on is by))
-  none_meet (Then trail (moments.StepGoesOn on so_far next is by within)) =
-      in_step on is by next (changes.Then within.leads within.change) (Then trail (moments.StepGoesOn on so_far next is by within))
-  none_meet (Then trail (moments.StepIsMade on is by)) =
-      ended (event_of_cause on.n on.cause) (outcome_of_step script on.n on.host on.cause start.world) is.made
-  none_meet (Then trail (moments.LossIsUntold event made happened h)) = ended event made happened
-  none_meet (Then trail (moments.DeliveryIsUnread event made happened h)) = ended event made happened
-  none_meet (Then trail (moments.NodeIsLost event made happened h)) = ended event made happened
-  none_meet (Then trail (moments.NodeLeaves event made happened h)) = ended event made happened
-  none_meet (Then trail (moments.NodeIsReweighted event made happened h)) = ended event made happened
-  none_meet (Then trail (moments.NodeJoins event made happened h)) = ended event made happened
-  none_meet (Then trail (moments.NodeComesBack event made happened h)) = ended event made happened
-  none_meet (Then trail (moments.PhaseEnds event made happened h)) = ended event made happened
+  none_meet (Then trail change) =
+      by_change script start (λ before after. MomentTrail script start before → NoneMeet after)
+      (λ on is by trail. in_step on is by (first_in_step on) changes.Still (Then trail (moments.StepBegins on is by)))
+      (λ on is by so_far next within trail.
+      in_step on is by next (changes.Then within.leads within.change) (Then trail (moments.StepGoesOn on so_far next is by within)))
+      (λ event made happened trail. ended event made happened) change trail
 
   -- so of reads
   pub reads_unwritten-on_the_way : {moment : MomentWithPast} → MomentTrail script start moment

@@ -39,7 +39,8 @@ use Rattle.overlap_law.proofs.GrantsAtPuts.{PutsFor, puts_for}
 use Rattle.overlap_law.proofs.KeptIds.{lock-writer}
 use Rattle.overlap_law.proofs.NoRecoveredDue.{began-with_past}
 use Rattle.overlap_law.proofs.PublishedIds.{gives-snaps}
-use Rattle.overlap_law.proofs.PublishedInodes.{IsOfMembers, members_give, IsPutNow, log_gets}
+use Rattle.overlap_law.proofs.LogsOfMoments.{IsOfMembers}
+use Rattle.overlap_law.proofs.PublishedInodes.{members_give, IsPutNow, log_gets}
 use Rattle.overlap_law.proofs.ReadInMoments.{HostsAreSound, kept_sound}
 use Rattle.overlap_law.proofs.RunsByChanges.{on_the_way}
 use Rattle.overlap_law.proofs.WholeInRuns.{sound_world}

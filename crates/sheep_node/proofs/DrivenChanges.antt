@@ -1,7 +1,6 @@
 -- Every change leaves each read and write on the disk that its session has open.
 use Rattle.std.proofs.Common.{◌≡◌, ℕ, All, Option, Some, None, refl, sym, subst}
 use Rattle.std.specs.Prelude.{false, IsTrue}
-use Rattle.std.specs.FinMap as tree
 use Rattle.std.proofs.lemmas.List.Elements.{All-nil}
 use Rattle.object_id.specs.declared.cause.Cause.{Cause}
 use Rattle.object_id.specs.declared.entry.VdiSpec.{VdiSpec}
@@ -27,9 +26,8 @@ use Rattle.sheep_node.specs.Step.{node_step}
 use Rattle.sheep_node.specs.May.{May}
 use Rattle.sheep_node.specs.SessionQueues.{QueuesAreDiskRequests, CommandsAreAlone}
 use Rattle.sheep_node.specs.DrivenDisks.{IsCourseOn, AreOnDisks, RequestsAreOnDisks}
-use Rattle.sheep_node.specs.Changes as changes
 use Rattle.sheep_node.specs.Changes.{Arrival, input_received, Leads}
-use Rattle.sheep_node.proofs.CourseWalk.{IsKeptByParts, none_so, so_in_chain}
+use Rattle.sheep_node.proofs.CourseWalk.{by_disk, IsKeptByParts, none_so, so_in_chain}
 use Rattle.sheep_node.proofs.WantedSteps.{driver_begins-wanted, driver_goes_on-wanted}
 use Rattle.sheep_node.proofs.StepChain.{step_chain}
 
@@ -76,28 +74,30 @@ module _ {input : Input} {node : Node} (may : May input node) where
       let asked = subst (λ (input : Input). May input node) arrival.from may in
       asked.condition.asked
 
-  parts_keep_on : IsKeptByParts inode_open IsCourseOn input node
+  parts_keep_on : IsKeptByParts (by_disk inode_open) (λ (req : ℕ). IsCourseOn) input node
   parts_keep_on = record {
     arrives = λ so_far session req ask disk arrival on. asks_blocks so_far session req ask None arrival;
-    begins = λ disk ask is. begins_on disk ask is;
-    goes_on = λ disk bytes driver step is before.
+    begins = λ req disk queue ask runs is. begins_on disk ask is;
+    goes_on = λ req disk queue bytes driver step is before.
         stays-on disk.inode step.inode bytes driver step.driver step.act before (driver_goes_on-wanted disk.inode bytes driver step is).spec is;
-    beside = λ disk inode spec vid course is. still_on disk.inode inode spec course is;
-    commands = λ disk op. tt;
+    commands = λ req inode op. tt;
     checks = λ so_far session req inode arrival on. tt;
-    checked = λ disk bytes check step is before. tt;
+    checked = λ req inode bytes check step is before. tt;
     objects = λ so_far session req asked arrival. tt;
-    entries = λ disk entry. tt;
+    entries = λ req inode entry. tt;
+    comes_beside = λ req disk queue one other course is. is;
+    ends_beside = λ req other disk queue apart course is. is;
+    drives_beside = λ req disk queue inode spec vid course is. still_on disk.inode inode spec course is;
   }
 
 pub on_disks_at_opening : (me : NodeId) (tries : ℕ) → RequestsAreOnDisks (initial_node me tries)
-on_disks_at_opening me tries = none_so inode_open IsCourseOn
+on_disks_at_opening me tries = none_so (by_disk inode_open) (λ (req : ℕ). IsCourseOn)
 
 -- and in the middle of a step
 pub on_disks_in_chain : (input : Input) (node : Node) → May input node → QueuesAreDiskRequests node → CommandsAreAlone node
     → RequestsAreOnDisks node → (so_far : StepState) → Leads input node (input_received input (at_first node)) so_far → RequestsAreOnDisks so_far.node
 on_disks_in_chain input node may queued sole all so_far leads =
-    so_in_chain inode_open IsCourseOn input node (parts_keep_on may) may queued sole all so_far leads
+    so_in_chain (by_disk inode_open) (λ (req : ℕ). IsCourseOn) input node (parts_keep_on may) may queued sole all so_far leads
 
 pub stay_on_disks : (input : Input) (node : Node) → May input node → QueuesAreDiskRequests node → CommandsAreAlone node → RequestsAreOnDisks node
     → RequestsAreOnDisks (node_step input node).node

@@ -23,6 +23,8 @@ pub mod SessionViews
 pub mod WantedSteps
 pub mod WantedParts
 pub mod WantedChanges
+pub mod SeenCourses
+pub mod ChangeWalk
 pub mod CourseWalk
 pub mod DrivenChanges
 pub mod TurnChanges

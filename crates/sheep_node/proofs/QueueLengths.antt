@@ -1,23 +1,22 @@
 -- A session never has more reads and writes without reply than it may have at once.
-use Rattle.std.proofs.Common.{◌≡◌, ◌≢◌, ℕ, suc, ◌+◌, ◌-◌, ◌≤◌, nat_le, not, Bool, true, false, cond, List, [], ◌∷◌, ◌++◌, length, Option, Some, None, is_none, unwrap_or, refl, ap, sym, subst, ◌∙◌, arith, ⊎_elim}
+use Rattle.std.proofs.Common.{◌≡◌, ◌≢◌, ℕ, suc, ◌+◌, ◌-◌, ◌≤◌, nat_le, not, Bool, true, false, cond, List, [], ◌∷◌, ◌++◌, length, Option}
+use Rattle.std.proofs.Common.{Some, None, is_none, unwrap_or, refl, ap, sym, subst, ◌∙◌, arith, ⊎_elim}
 use Rattle.std.specs.Ordering.{nat_cmp}
 use Rattle.std.specs.FinMap as tree
 use Rattle.std.proofs.lemmas.Bool.{and_parts, cases_eq, leb-true}
 use Rattle.std.proofs.lemmas.List.{length-append}
 use Rattle.proof_tools.proofs.FiniteMaps.{get-insert_other, get-insert_same}
 use Rattle.object_id.specs.declared.cause.Cause.{Cause}
-use Rattle.object_id.specs.declared.cause.Cause.TheVariants.{Halt}
 use Rattle.object_id.specs.declared.node.NodeId.{NodeId}
 use Rattle.peer_proto.specs.declared.guest.DiskAsk.{DiskAsk}
 use Rattle.peer_proto.specs.declared.guest.GuestRsp.{GuestRsp}
 use Rattle.gateway.specs.declared.message.Status.{Status}
-use Rattle.gateway.specs.Work.{zones_for}
 use Rattle.gateway.specs.State.{Work}
 use Rattle.gateway_queue.specs.declared.queue.Queued.{Queued}
 use Rattle.gateway_queue.specs.Queue.{has_request_number, queue_without}
 use Rattle.guest_driver.specs.declared.disk.Disk.{Disk}
 use Rattle.guest_driver.specs.Driver.{DriverStep, begin_driver}
-use Rattle.guest_driver.specs.InodeQueue.{queue_with_open, queue_with_waiting, queue_after_end}
+use Rattle.guest_driver.specs.InodeQueue.{InodeQueue}
 use Rattle.vdi_ops.specs.Op.{OpStep, disk_change}
 use Rattle.sheep_node.specs.declared.ask.Ask.TheVariants as asks
 use Rattle.sheep_node.specs.declared.input.Input.{Input}
@@ -31,11 +30,12 @@ use Rattle.sheep_node.specs.Courses.{after_driver_step, disk_after, after_comman
 use Rattle.sheep_node.specs.Guests.{queued_as}
 use Rattle.sheep_node.specs.Step.{node_step}
 use Rattle.sheep_node.specs.May.{May}
-use Rattle.sheep_node.specs.SessionQueues.{HaveShortQueues, QueuesAreShort}
-use Rattle.sheep_node.specs.Changes as changes
-use Rattle.sheep_node.specs.Changes.{Outcome, ToWork, ToEntry, ToReply, Arrival, RequestSteps, DiskBegins, DiskGoesOn, CommandBegins, CommandGoesOn, CommandDecided, WorkIsNext, AtOnce, InTurn, Again, AgainAlone, input_received, Change, CheckBegins, CheckGoesOn, ObjectBegins, ObjectIsDone, EntryBegins, EntryDecided}
-use Rattle.sheep_node.proofs.RefusedCourses.{course_refused-keeps, request_refused-keeps}
-use Rattle.sheep_node.proofs.OneWorkParts.{Sessions}
+use Rattle.sheep_node.specs.SessionQueues.{session_among, HaveShortQueues, QueuesAreShort}
+use Rattle.sheep_node.specs.Changes.{without_ended_work, Outcome, Arrival, RequestSteps, DiskBegins, DiskGoesOn, CommandBegins}
+use Rattle.sheep_node.specs.Changes.{CommandGoesOn, CommandDecided, input_received, Change, CheckBegins, CheckGoesOn, ObjectBegins}
+use Rattle.sheep_node.specs.Changes.{ObjectIsDone, EntryBegins, EntryDecided}
+use Rattle.sheep_node.proofs.ChangeWalk.{freed_holds, kept_by_steps, change_holds}
+use Rattle.sheep_node.proofs.OneWorkParts.{Requests, Sessions}
 use Rattle.sheep_node.proofs.ReachedSteps.{QueuesStayShort}
 use Rattle.sheep_node.proofs.StepChain.{kept_by_chain, step_chain}
 use Rattle.disk_check.specs.Check.{begin_check}
@@ -80,10 +80,18 @@ same_short : (session : ℕ) (after : Session) (so_far : StepState) → after.qu
 same_short session after so_far same all =
     session_short so_far.node.sessions session after (subst (λ (queue : List Queued). length queue ≤ REQUESTS_AT_ONCE) (sym same) (all session)) all
 
+abbrev AreShort : Requests → Sessions → Type 0
+AreShort requests sessions = HaveShortQueues sessions
+
+-- the line of works may change
+lined_short : (requests : Requests) (sessions : Sessions) (number : ℕ) (queue : InodeQueue) → AreShort requests sessions
+    → AreShort requests (tree.insert sessions number (record (session_among number sessions) { inode_queue = queue }))
+lined_short requests sessions number queue all =
+    session_short sessions number (record (session_among number sessions) { inode_queue = queue }) (all number) all
+
 freed_short : (session req : ℕ) (work : Work) (status : Status) (so_far : StepState) → QueuesAreShortIn so_far
-    → QueuesAreShortIn (changes.without_ended_work session req work status so_far)
-freed_short session req work status so_far all =
-    same_short session (record (session_in session so_far) { inode_queue = queue_after_end (session_in session so_far).inode_queue work.work }) so_far refl all
+    → QueuesAreShortIn (without_ended_work session req work status so_far)
+freed_short = freed_holds AreShort lined_short
 
 driven_short : (session req : ℕ) (disk : Disk) (step : DriverStep) (so_far : StepState) → QueuesAreShortIn so_far
     → QueuesAreShortIn (after_driver_step session req disk step so_far)
@@ -105,31 +113,22 @@ module _ {input : Input} {node : Node} where
       → QueuesAreShortIn so_far → QueuesAreShortIn moved
   steps_short so_far session req next moved (DiskBegins ask disk there on may) all = driven_short session req disk (begin_driver disk ask) so_far all
   steps_short so_far session req next moved (DiskGoesOn number work attempt status bytes driver disk step ends on is) all =
-      driven_short session req disk step (changes.without_ended_work session req work status so_far) (freed_short session req work status so_far all)
+      driven_short session req disk step (without_ended_work session req work status so_far)
+      (freed_short session req work status so_far all)
   steps_short so_far session req next moved (CommandBegins ask step arrival is) all = command_short session req step so_far all
   steps_short so_far session req next moved (CommandGoesOn number work attempt status bytes op step ends is) all =
-      command_short session req step (changes.without_ended_work session req work status so_far) (freed_short session req work status so_far all)
+      command_short session req step (without_ended_work session req work status so_far) (freed_short session req work status so_far all)
   steps_short so_far session req next moved (CommandDecided entry op step from read there waits is) all = command_short session req step so_far all
   steps_short so_far session req next moved (CheckBegins inode arrival on) all =
       sole_short session req (Checking (begin_check inode).check) so_far all
   steps_short so_far session req next moved (CheckGoesOn number work attempt status bytes check step ends is) all =
-      sole_short session req (Checking step.check) (changes.without_ended_work session req work status so_far)
+      sole_short session req (Checking step.check) (without_ended_work session req work status so_far)
       (freed_short session req work status so_far all)
   steps_short so_far session req next moved (ObjectBegins asked arrival) all = sole_short session req (DoingWork asked) so_far all
   steps_short so_far session req next moved (ObjectIsDone number work attempt status bytes asked ends) all =
       freed_short session req work status so_far all
   steps_short so_far session req next moved (EntryBegins entry arrival) all = sole_short session req (AwaitingDecision entry) so_far all
   steps_short so_far session req next moved (EntryDecided entry wanted from read there waits) all = all
-
-  comes_short : (so_far : StepState) (session req : ℕ) (asked : Work) (lined : StepState) → WorkIsNext input node so_far session req asked lined
-      → QueuesAreShortIn so_far → QueuesAreShortIn lined
-  comes_short so_far session req asked lined (AtOnce work moved steps begins) all =
-      same_short session (record (session_in session moved) { inode_queue = queue_with_open (session_in session moved).inode_queue req work }) moved refl
-      (steps_short so_far session req (ToWork work) moved steps all)
-  comes_short so_far session req asked lined (InTurn work later none is) all =
-      same_short session (record (session_in session so_far) { inode_queue = record { current = Some req; waiting = later } }) so_far refl all
-  comes_short so_far session req asked lined (Again work course from next there request) all = all
-  comes_short so_far session req asked lined (AgainAlone work from next there none) all = all
 
   -- a read or write that may come finds room
   room_for : May input node → (so_far : StepState) (session req : ℕ) (ask : DiskAsk) (refusal : Option Cause)
@@ -144,32 +143,16 @@ module _ {input : Input} {node : Node} where
       subst (λ (start : StepState). length (session_in session start).queue + 1 ≤ REQUESTS_AT_ONCE) (sym arrival.first) there
 
   change_keeps_short : (so_far next : StepState) → Change input node so_far next → May input node → QueuesAreShortIn so_far → QueuesAreShortIn next
-  change_keeps_short so_far next (changes.Marks req number work attempt status learns over) may all = all
-  change_keeps_short so_far next (changes.Fails session req number work attempt status course ends done why) may all = all
-  change_keeps_short so_far next (changes.Stops session req number work attempt status course bytes ends over) may all =
-      freed_short session req work status so_far all
-  change_keeps_short so_far next (changes.Refuses session req number work attempt status course cause ends done why) may all =
-      course_refused-keeps QueuesAreShortIn ended_short (λ entry before now. now) session req cause course (changes.without_ended_work session req work status so_far) (freed_short session req work status so_far all)
-  change_keeps_short so_far next (changes.Opens session req asked lined comes short) may all = comes_short so_far session req asked lined comes all
-  change_keeps_short so_far next (changes.Holds session req asked lined comes short touched) may all = comes_short so_far session req asked lined comes all
-  change_keeps_short so_far next (changes.Denies session req asked lined request comes short untouched there own) may all =
-      request_refused-keeps QueuesAreShortIn ended_short (λ entry before now. now) req (Halt (changes.zones_of_members lined.node) (zones_for asked.work)) request (changes.without_denied_work session req asked lined)
-      (same_short session (record (session_in session lined) { inode_queue = queue_after_end (session_in session lined).inode_queue asked.work }) lined refl
-      (comes_short so_far session req asked lined comes all))
-  change_keeps_short so_far next (changes.Strays req work gateway there none apart) may all = all
-  change_keeps_short so_far next (changes.Lines session req work moved steps waits) may all =
-      same_short session (record (session_in session moved) { inode_queue = queue_with_waiting (session_in session moved).inode_queue req work }) moved refl
-      (steps_short so_far session req (ToWork work) moved steps all)
-  change_keeps_short so_far next (changes.Appends session req entry moved steps) may all = steps_short so_far session req (ToEntry entry) moved steps all
-  change_keeps_short so_far next (changes.Replies session req reply moved steps) may all =
-      ended_short session req reply moved (steps_short so_far session req (ToReply reply) moved steps all)
-  change_keeps_short so_far next (changes.Arrives session req ask disk arrival on) may all =
+  change_keeps_short so_far next change may all =
+      change_holds AreShort lined_short so_far
+      (kept_by_steps AreShort lined_short so_far
+      (λ session req outcome moved steps. steps_short so_far session req outcome moved steps all) ended_short
+      (λ session req ask disk arrival on.
       let queue = (session_in session so_far).queue in
       let one = queued_as disk.inode.spec.shift req ask in
       session_short so_far.node.sessions session (record (session_in session so_far) { queue = queue ++ one ∷ [] })
-      (subst (λ (n : ℕ). n ≤ REQUESTS_AT_ONCE) (sym (length-append queue (one ∷ []))) (room_for may so_far session req ask None arrival)) all
-  change_keeps_short so_far next (changes.Rejects session req ask cause arrival) may all = all
-  change_keeps_short so_far next (changes.Recovers due) may all = all
+      (subst (λ (n : ℕ). n ≤ REQUESTS_AT_ONCE) (sym (length-append queue (one ∷ [])))
+      (room_for may so_far session req ask None arrival)) all)) all next change
 
 none_short : HaveShortQueues tree.empty
 none_short number =

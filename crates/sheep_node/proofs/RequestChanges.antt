@@ -5,11 +5,9 @@ use Rattle.std.specs.FinMap as tree
 use Rattle.std.proofs.lemmas.Bool.{cases_eq}
 use Rattle.proof_tools.proofs.FiniteMaps.{get-insert_cases, get-remove_other, get-remove_same}
 use Rattle.peer_proto.specs.declared.guest.GuestRsp.{GuestRsp}
-use Rattle.object_id.specs.declared.cause.Cause.TheVariants.{Halt}
 use Rattle.object_id.specs.declared.entry.Entry.{Entry}
-use Rattle.gateway.specs.Work.{zones_for}
-use Rattle.gateway.specs.State.{Work}
 use Rattle.guest_driver.specs.Driver as drivers
+use Rattle.guest_driver.specs.InodeQueue.{InodeQueue}
 use Rattle.vdi_ops.specs.Op as ops
 use Rattle.sheep_node.specs.declared.ask.Ask.{Ask}
 use Rattle.sheep_node.specs.declared.ask.Ask.TheVariants as asks
@@ -21,11 +19,13 @@ use Rattle.sheep_node.specs.State.{Node}
 use Rattle.sheep_node.specs.StepState.{StepState, at_first, request_ended}
 use Rattle.sheep_node.specs.Courses.{after_command_step}
 use Rattle.sheep_node.specs.LogReading.{on_back}
+use Rattle.sheep_node.specs.SessionQueues.{session_among}
 use Rattle.sheep_node.specs.Step.{node_step}
-use Rattle.sheep_node.specs.Changes as changes
-use Rattle.sheep_node.specs.Changes.{Outcome, ToWork, ToEntry, ToReply, RequestSteps, DiskBegins, DiskGoesOn, CommandBegins, CommandGoesOn, CommandDecided, WorkIsNext, AtOnce, InTurn, Again, AgainAlone, input_received, Change, CheckBegins, CheckGoesOn, ObjectBegins, ObjectIsDone, EntryBegins, EntryDecided}
-use Rattle.sheep_node.proofs.RefusedCourses.{course_refused-keeps, request_refused-keeps}
-use Rattle.sheep_node.proofs.OneWorkParts.{Requests}
+use Rattle.sheep_node.specs.Changes.{without_ended_work, Outcome, RequestSteps, DiskBegins, DiskGoesOn, CommandBegins, CommandGoesOn}
+use Rattle.sheep_node.specs.Changes.{CommandDecided, input_received, Change, CheckBegins, CheckGoesOn, ObjectBegins, ObjectIsDone}
+use Rattle.sheep_node.specs.Changes.{EntryBegins, EntryDecided}
+use Rattle.sheep_node.proofs.ChangeWalk.{kept_by_steps, change_holds}
+use Rattle.sheep_node.proofs.OneWorkParts.{Requests, Sessions}
 use Rattle.sheep_node.proofs.StepChain.{kept_by_chain, step_chain}
 use Rattle.disk_check.specs.Check.{begin_check}
 use Rattle.peer_proto.specs.declared.guest.VdiAsk.TheVariants as disk_commands
@@ -53,6 +53,14 @@ module _ (P : ℕ → Type 0) where
       (λ (other : q ≢ req). all q at (sym (get-remove_other requests req q other) ∙ got))
       (cases_eq q req)
 
+  abbrev AreIn : Requests → Sessions → Type 0
+  AreIn requests sessions = AllAre P requests
+
+  -- the line of works may change
+  lined_are : (requests : Requests) (sessions : Sessions) (number : ℕ) (queue : InodeQueue) → AreIn requests sessions
+      → AreIn requests (tree.insert sessions number (record (session_among number sessions) { inode_queue = queue }))
+  lined_are requests sessions number queue all = all
+
   command_are : (session req : ℕ) (step : ops.OpStep) (so_far : StepState) → P req → In so_far → In (after_command_step session req step so_far)
   command_are session req step so_far so all = put_are so_far.node.requests req (record { session = session; course = Commanding step.op }) so all
 
@@ -74,7 +82,8 @@ module _ (P : ℕ → Type 0) where
     steps_are so_far session req next moved (CommandBegins ask step arrival is) all =
         command_are session req step so_far (asked req session (asks.Vdi ask) arrival.from) all
     steps_are so_far session req next moved (CommandGoesOn number work attempt status bytes op step ends is) all =
-        command_are session req step (changes.without_ended_work session req work status so_far) (all req (record { session = session; course = Commanding op }) ends.ends.request) all
+        command_are session req step (without_ended_work session req work status so_far)
+        (all req (record { session = session; course = Commanding op }) ends.ends.request) all
     steps_are so_far session req next moved (CommandDecided entry op step from read there waits is) all =
         command_are session req step so_far (all req (record { session = session; course = Commanding op }) there) all
     steps_are so_far session req next moved (CheckBegins inode arrival on) all =
@@ -92,32 +101,14 @@ module _ (P : ℕ → Type 0) where
         (asked req session (asks.Entry entry) arrival.from) all
     steps_are so_far session req next moved (EntryDecided entry wanted from read there waits) all = all
 
-    comes_are : (so_far : StepState) (session req : ℕ) (tried : Work) (lined : StepState) → WorkIsNext input node so_far session req tried lined → In so_far → In lined
-    comes_are so_far session req tried lined (AtOnce work moved steps begins) all = steps_are so_far session req (ToWork work) moved steps all
-    comes_are so_far session req tried lined (InTurn work later none is) all = all
-    comes_are so_far session req tried lined (Again work course from next there request) all = all
-    comes_are so_far session req tried lined (AgainAlone work from next there none) all = all
-
     pub change_keeps_requests : (so_far next : StepState) → Change input node so_far next → In so_far → In next
-    unfolding request_ended
-    change_keeps_requests so_far next (changes.Marks req number work attempt status learns over) all = all
-    change_keeps_requests so_far next (changes.Fails session req number work attempt status course ends done why) all = all
-    change_keeps_requests so_far next (changes.Stops session req number work attempt status course bytes ends over) all = all
-    change_keeps_requests so_far next (changes.Refuses session req number work attempt status course cause ends done why) all =
-        course_refused-keeps In ended_are (λ entry before now. now) session req cause course (changes.without_ended_work session req work status so_far) all
-    change_keeps_requests so_far next (changes.Opens session req tried lined comes short) all = comes_are so_far session req tried lined comes all
-    change_keeps_requests so_far next (changes.Holds session req tried lined comes short touched) all = comes_are so_far session req tried lined comes all
-    change_keeps_requests so_far next (changes.Denies session req tried lined request comes short untouched there own) all =
-        request_refused-keeps In ended_are (λ entry before now. now) req (Halt (changes.zones_of_members lined.node) (zones_for tried.work)) request (changes.without_denied_work session req tried lined) (comes_are so_far session req tried lined comes all)
-    change_keeps_requests so_far next (changes.Strays req work gateway there none apart) all = all
-    change_keeps_requests so_far next (changes.Lines session req work moved steps waits) all = steps_are so_far session req (ToWork work) moved steps all
-    change_keeps_requests so_far next (changes.Appends session req entry moved steps) all = steps_are so_far session req (ToEntry entry) moved steps all
-    change_keeps_requests so_far next (changes.Replies session req reply moved steps) all =
-        gone_are moved.node.requests req (steps_are so_far session req (ToReply reply) moved steps all)
-    change_keeps_requests so_far next (changes.Arrives session req ask disk arrival on) all =
-        put_are so_far.node.requests req (record { session = session; course = Waiting ask }) (asked req session (asks.Disk ask) arrival.from) all
-    change_keeps_requests so_far next (changes.Rejects session req ask cause arrival) all = all
-    change_keeps_requests so_far next (changes.Recovers due) all = all
+    change_keeps_requests so_far next change all =
+        change_holds AreIn lined_are so_far
+        (kept_by_steps AreIn lined_are so_far (λ session req outcome moved steps. steps_are so_far session req outcome moved steps all)
+        ended_are
+        (λ session req ask disk arrival on.
+        put_are so_far.node.requests req (record { session = session; course = Waiting ask })
+        (asked req session (asks.Disk ask) arrival.from) all)) all next change
 
     pub requests_stay : AllAre P node.requests → AllAre P (node_step input node).node.requests
     requests_stay all = kept_by_chain In change_keeps_requests (step_chain input node) (received_requests input node all)

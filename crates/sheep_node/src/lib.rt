@@ -15,6 +15,8 @@
 //! (`specs/SessionQueues.antt`), no more than there may be at once, its line is open as its works are (`specs/OpenLines.antt`), and what
 //! the node has at work is sound (`specs/SoundWorks.antt`, in a sense of valid as `specs/Validity.antt` has it), so all that it sends can
 //! be spelled. A step is of so few changes that it sends 1,000 messages at most.
+//! What holds of where each request is, by the disk and the queue of its session, goes by one walk over the changes
+//! (`proofs/CourseWalk.antt`), and that by one of whatever holds of requests and sessions (`proofs/ChangeWalk.antt`).
 //! The changes leave a node's peer and its recovery alone: that the recovery may make each step (`specs/RecoveryRange.antt`)
 //! follows from what the input makes of them.
 //!
