@@ -1,18 +1,22 @@
 -- The next event of a schedule, found by its place in the enabled list, and the schedule behind it.
-use Rattle.std.proofs.Common.{◌≡◌, ℕ, ◌+◌, ◌<◌, ◌≤◌, Bool, true, false, not, List, [], ◌∷◌, ◌++◌, length, Option, Some, None, unwrap_or, refl, sym, ap, subst, ◌∙◌, arith}
+use Rattle.std.proofs.Common.{◌≡◌, ℕ, ◌+◌, ◌<◌, ◌≤◌, Bool, true, false, not, List, [], ◌∷◌, ◌++◌, length, Option, Some, None, is_some, unwrap_or, refl, sym, ap, subst, ◌∙◌, arith}
 use Rattle.std.specs.Option.{option_map}
 use Rattle.std.proofs.lemmas.Option.{same_Some, none-some}
 use Rattle.cluster_script.specs.declared.statement.Statement.{Statement}
 use Rattle.cluster_script.specs.Settings.{limit_of}
 use Rattle.sheep_node.specs.declared.event.Event.{Event}
 use Rattle.sheep_node.specs.declared.event.Event.TheVariants.{Phase}
+use Rattle.sheep_world.specs.declared.fault.ApplyFault.{ApplyFault}
+use Rattle.sheep_world.specs.declared.fault.ApplyFault.TheVariants as faults
 use Rattle.sheep_world.specs.World.{World}
 use Rattle.sheep_world.specs.Conditions.{may_end_phase}
-use Rattle.sheep_world.specs.Enabled.{enabled_events, enabled_count, enabled_at}
+use Rattle.sheep_world.specs.Enabled.{enabled_events, enabled_count, enabled_at, is_enabled}
 use Rattle.sheep_world.specs.Step.{EventOutcome, step}
 use Rattle.sheep_world.specs.Run.{Moment, Run, moment_with_made, next, is_whole}
+use Rattle.sheep_world.proofs.EnabledLaws.{is_some-step}
 use Rattle.sheep_world.proofs.EnabledParts.{enabled_count-length, enabled_at-slice_get}
 use Rattle.schedule.specs.Schedule.{Draft, Choice, next_choice, choice_at, choice, world_after, made_so, draft_after_event, empty_draft}
+use Rattle.schedule.proofs.ChoiceLaws.{choice-may}
 use Rattle.schedule.proofs.WholeLaws.{left, fewer_left}
 use Rattle.schedule.proofs.SeededRuns.{IsFront, front-first, front-on}
 
@@ -23,6 +27,12 @@ not-true false h = refl
 pub not-false : (b : Bool) → not b ≡ false → b ≡ true
 not-false true h = refl
 not-false false h = absurd (cc)
+
+-- where an event is refused that may happen, memory is wanting
+pub wants-memory : {P : Type 0} (fault : ApplyFault) (enabled : Bool) → enabled ≡ true → (fault ≡ faults.NotEnabled → enabled ≡ false)
+    → (fault ≡ faults.NoMemory → P) → P
+wants-memory faults.NotEnabled enabled on refused spent = let off = refused refl in absurd (cc (on, off))
+wants-memory faults.NoMemory enabled on refused spent = spent refl
 
 -- a place that is drawn for every list of so many events is drawn for the enabled ones
 pub choice-placed : (statements : List Statement) (draft : Draft) (limit count : ℕ) (place : Option ℕ) (rng : ℕ)
@@ -46,6 +56,14 @@ choice-found statements draft place rng found placed is =
     (sym (is ∙ enabled_at-slice_get statements draft.world place))
 
 module _ (statements : List Statement) where
+  -- what is chosen may happen, unless every phase is ended
+  pub chosen-enabled : (draft : Draft) (event : Event) (rng taken : ℕ) → may_end_phase statements draft.world ≡ true
+      → choice statements draft ≡ record { event = event; rng = rng; taken = taken } → is_enabled statements draft.world event ≡ true
+  chosen-enabled draft event rng taken may chosen =
+      let made = choice-may statements draft may in
+      sym (is_some-step statements draft.world event)
+      ∙ ap is_some (subst (λ (one : Choice). step statements one.event draft.world ≡ Some made.0) chosen made.1)
+
   -- the draft behind the next event, which was made
   draft-next : (draft : Draft) (event : Event) (rng taken : ℕ) (kept : Run) (after : Moment)
       → choice statements draft ≡ record { event = event; rng = rng; taken = taken }

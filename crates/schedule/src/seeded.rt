@@ -1,8 +1,9 @@
 //! The schedule that a seed gives, made.
 
-ghost use Rattle.std.specs.Prelude.{◌≡◌, false, Some, IfOk, OnOk};
+ghost use Rattle.std.specs.Prelude.{◌≡◌, ◌<◌, ◌≤◌, ◌^◌, true, false, Some, IfOk, IfErr, OnOk, OnErr};
 ghost use Rattle.sheep_world.specs.Run.{IsKept, is_whole};
 ghost use Rattle.sheep_world.specs.Step.{step};
+ghost use Rattle.sheep_world.specs.Enabled.{enabled_count};
 ghost use Rattle.schedule.specs.Schedule.{choice, draft_in, schedule_of};
 
 use crate::choice::next_place;
@@ -26,8 +27,10 @@ fn next_choice(
     taken: u32,
 ) -> Result<(Event, u32), NoMemory>
     requires { world.now.spent ≡ false }
-    ensures { IfOk result (λ next. choice script.now (record { world = world.now.world; rng = rng.old; taken = taken })
+    ensures choice { IfOk result (λ next. choice script.now (record { world = world.now.world; rng = rng.old; taken = taken })
         ≡ record { event = next.0; rng = rng.new; taken = next.1 }) }
+    ensures err { IfErr result (λ error. 2 ^ 64 ≤ enabled_count script.now world.now.world) }
+    ensures unchanged { OnErr result (rng.new ≡ rng.old) }
 {
     let count = world.enabled_count(script)?;
     match next_place(rng, count, taken, script.limit()) {
@@ -66,11 +69,14 @@ impl Schedule {
         }
     }
 
-    /// The next event of a world: it may happen, unless every phase is ended. Out of memory nothing more is said of the schedule.
+    /// The next event of a world: it may happen, unless every phase is ended. Takes no memory: want of it is told only where more events
+    /// may happen than a count has room for, and the schedule stays then.
     pub fn next_event(&mut self, script: &Script, world: &World) -> Result<Event, NoMemory>
         requires { world.now.spent ≡ false }
-        ensures { IfOk result (λ event. choice script.now (draft_in world.now.world self.old)
+        ensures choice { IfOk result (λ event. choice script.now (draft_in world.now.world self.old)
             ≡ record { event = event; rng = self.new.rng; taken = self.new.taken }) }
+        ensures err { IfErr result (λ error. 2 ^ 64 ≤ enabled_count script.now world.now.world) }
+        ensures unchanged { OnErr result (self.new ≡ self.old) }
     {
         let (event, taken) = next_choice(script, world, &mut self.rng, self.taken)?;
         self.taken = taken;
@@ -79,7 +85,7 @@ impl Schedule {
 }
 
 /// Makes the next event of a schedule in which so many events but Phase were taken; with what the event adds to the history. Out of
-/// memory nothing more is said of the generator.
+/// memory the world is spent, unless more events may happen than a count has room for; nothing more is said of the generator.
 pub fn step_seeded(
     script: &Script,
     world: &mut World,
@@ -94,6 +100,7 @@ pub fn step_seeded(
     ensures made { IfOk result (λ made.
         step script.now made.0 world.old.world ≡ Some (record { world = world.new.world; grown = made.1 })) }
     ensures live { OnOk result (world.new.spent ≡ false) }
+    ensures spent { OnErr result (enabled_count script.now world.old.world < 2 ^ 64 → world.new.spent ≡ true) }
 {
     let (event, _taken) = next_choice(script, world, rng, taken)?;
     match world.apply(script, event) {

@@ -1,6 +1,6 @@
 -- The two orders in which runs are made and told: that of a seed, and that of a trace. What is told stands beside a run as it is kept, of
 -- which the laws of schedules and replays speak.
-use Rattle.std.proofs.Common.{◌≡◌, ℕ, ◌+◌, ◌<◌, false, true, List, [], ◌∷◌, ◌++◌, Some, None, is_some, refl, sym, ap, subst, ◌∙◌}
+use Rattle.std.proofs.Common.{◌≡◌, ℕ, ◌+◌, ◌<◌, false, true, List, [], ◌∷◌, ◌++◌, Some, None, refl, sym, ap, subst, ◌∙◌}
 use Rattle.std.specs.Option.{option_map}
 use Rattle.cluster_script.specs.declared.statement.Statement.{Statement}
 use Rattle.disk_history.specs.declared.event.HistEvent.{HistEvent}
@@ -10,12 +10,10 @@ use Rattle.sheep_world.specs.Enabled.{is_enabled}
 use Rattle.sheep_world.specs.Opening.{initial_world}
 use Rattle.sheep_world.specs.Run.{Run, moment_with_made, is_whole}
 use Rattle.sheep_world.specs.Step.{step}
-use Rattle.sheep_world.proofs.EnabledLaws.{is_some-step}
-use Rattle.schedule.specs.Schedule.{Choice, Schedule, draft_in, choice, schedule_of}
-use Rattle.schedule.proofs.ChoiceLaws.{choice-may}
+use Rattle.schedule.specs.Schedule.{Schedule, draft_in, choice, schedule_of}
 use Rattle.schedule.proofs.WholeLaws.{left}
 use Rattle.schedule.proofs.SeededRuns.{IsFront, front-whole}
-use Rattle.schedule.proofs.NextEvent.{front-opening, front-grown, less-next}
+use Rattle.schedule.proofs.NextEvent.{chosen-enabled, front-opening, front-grown, less-next}
 use Rattle.std.specs.Prelude.{Result, Err, IsErrAnd}
 use Rattle.trace_text.specs.declared.fault.BadEvent.{BadEvent}
 use Rattle.trace_text.specs.declared.fault.TraceFault.{TraceFault}
@@ -82,9 +80,7 @@ module _ (statements : List Statement) where
       → choice statements (draft_in told.world.world schedule) ≡ record { event = event; rng = rng; taken = taken }
       → is_enabled statements told.world.world event ≡ true
   seeded-enabled told schedule event rng taken may chosen =
-      let made = choice-may statements (draft_in told.world.world schedule) may in
-      sym (is_some-step statements told.world.world event)
-      ∙ ap is_some (subst (λ (one : Choice). step statements one.event told.world.world ≡ Some made.0) chosen made.1)
+      chosen-enabled statements (draft_in told.world.world schedule) event rng taken may chosen
 
   -- where every phase is ended, the events are the schedule
   pub seeded-last : (seed : ℕ) (told : ToldRun) (schedule : Schedule) → IsSeeded seed told schedule

@@ -18,14 +18,14 @@ pub loop-schedule-smaller : goal.loop-schedule-smaller
 loop-schedule-smaller c =
     less-next c.args.script.now (draft_in c.loop-schedule.world.world c.loop-schedule.schedule) c.in_ok-event.event c.next_event.new.self.rng
     c.next_event.new.self.taken c.loop-schedule.run (record { world = c.go_on.new.world.world; history = c.go_on.new.self.history })
-    (not-false _ (sym c.loop-schedule-test.ensures)) c.in_ok-event.ensures c.in-Ok.ensures.made
+    (not-false _ (sym c.loop-schedule-test.ensures)) c.in_ok-event.ensures.choice c.in-Ok.ensures.made
 
 pub loop-schedule-preserved : goal.loop-schedule-preserved
 loop-schedule-preserved c = (
   c.in-Ok.ensures.live,
   front-grown c.args.script.now c.args.seed (draft_in c.loop-schedule.world.world c.loop-schedule.schedule) c.in_ok-event.event
       c.next_event.new.self.rng c.next_event.new.self.taken c.loop-schedule.run c.go_on.new.self c.go_on.new.world.world c.loop-schedule.invariant.1
-      (not-false _ (sym c.loop-schedule-test.ensures)) c.in_ok-event.ensures c.in-Ok.ensures.events c.in-Ok.ensures.made,
+      (not-false _ (sym c.loop-schedule-test.ensures)) c.in_ok-event.ensures.choice c.in-Ok.ensures.events c.in-Ok.ensures.made,
 )
 
 pub returns-clause-events : goal.returns-clause-events

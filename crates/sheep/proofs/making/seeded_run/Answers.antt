@@ -23,18 +23,18 @@ go_on-requires-clause-told c = c.loop-alloc.invariant.tells
 pub go_on-requires-clause-enabled : goal.go_on-requires-clause-enabled
 go_on-requires-clause-enabled c =
     seeded-enabled c.args.script.now c.loop-alloc.told c.loop-alloc.schedule c.in_ok-event.event c.next_event.new.self.rng
-    c.next_event.new.self.taken (not-false _ (sym c.loop-alloc-test.ensures)) c.in_ok-event.ensures
+    c.next_event.new.self.taken (not-false _ (sym c.loop-alloc-test.ensures)) c.in_ok-event.ensures.choice
 
 pub loop-alloc-smaller : goal.loop-alloc-smaller
 loop-alloc-smaller c =
     seeded-less c.args.script.now c.args.seed c.loop-alloc.told c.go_on.new.self c.loop-alloc.schedule c.next_event.new.self c.in_ok-event.event
-    c.in_ok-go_on.ensures.made.0 c.loop-alloc.invariant (not-false _ (sym c.loop-alloc-test.ensures)) c.in_ok-event.ensures
+    c.in_ok-go_on.ensures.made.0 c.loop-alloc.invariant (not-false _ (sym c.loop-alloc-test.ensures)) c.in_ok-event.ensures.choice
     c.in_ok-go_on.ensures.made.1
 
 pub loop-alloc-preserved : goal.loop-alloc-preserved
 loop-alloc-preserved c =
     seeded-next c.args.script.now c.args.seed c.loop-alloc.told c.go_on.new.self c.loop-alloc.schedule c.next_event.new.self c.in_ok-event.event
-    c.in_ok-go_on.ensures.made.0 c.loop-alloc.invariant (not-false _ (sym c.loop-alloc-test.ensures)) c.in_ok-event.ensures
+    c.in_ok-go_on.ensures.made.0 c.loop-alloc.invariant (not-false _ (sym c.loop-alloc-test.ensures)) c.in_ok-event.ensures.choice
     c.in_ok-go_on.ensures.told c.in_ok-go_on.ensures.events c.in_ok-go_on.ensures.made.1
 
 pub finish-requires : goal.finish-requires
