@@ -84,10 +84,10 @@ module _ (script : List Statement) (range : RunsAreInRange script) (moves : List
     sound : HasSound script range moves start ran replies.n replies.host replies.there replies.up req replies.check opened disk replies.on
     sound = has_sound script range moves start ran replies.n replies.host replies.there replies.up req replies.check opened disk replies.on
 
-    abbrev block : ℕ
+    abbrev pub block : ℕ
     block = index * blocks_per_object opened.inode.spec + unit
 
-    abbrev HasValueBehind : List HistEvent → Type 0
+    abbrev pub HasValueBehind : List HistEvent → Type 0
     HasValueBehind grown =
         (given : List ℕ) × HasOneValue (ledger_of (start.past.history ++ grown)) opened.inode.vid block req given
 
@@ -239,7 +239,7 @@ module _ (script : List Statement) (range : RunsAreInRange script) (moves : List
         (subst Replied (sym h.made_so) replies.among))
     by_kind (PhaseEnd h) = silent (subst Replied (sym h.made_so) replies.among)
 
-    value_made : HasValueBehind made.grown
+    pub value_made : HasValueBehind made.grown
     value_made = by_kind (goes_by_kind script event start.world made happened)
 
   -- ---- behind the event

@@ -848,6 +848,7 @@ pub mod CheckDoneTold
 pub mod ReweightedMembers
 pub mod UnchangedMembers
 pub mod CheckDoneInRuns
+pub mod CheckDoneReplies
 pub mod RefusedCommandStages
 pub mod RefusedCommandSteps
 pub mod RefusedCommandPuts

@@ -4,7 +4,10 @@ use Rattle.std.proofs.Common.{◌≡◌, ℕ, false, Contains, Option, Some, Non
 use Rattle.cluster_script.specs.declared.statement.Statement.{Statement}
 use Rattle.disk_check.specs.declared.act.CheckAct.{CheckAct}
 use Rattle.disk_check.specs.declared.act.CheckAct.TheVariants as check_acts
-use Rattle.disk_check.specs.Check.{begin_check}
+use Rattle.disk_check.specs.Check.{Check, CheckStep, begin_check, check_on_done}
+use Rattle.gateway.specs.declared.message.Status.{Status}
+use Rattle.gateway.specs.Attempt.{Attempt}
+use Rattle.gateway.specs.State.{Work}
 use Rattle.guest_driver.specs.declared.disk.Disk.{Disk}
 use Rattle.inode.specs.Layout.{Content}
 use Rattle.object_id.specs.declared.node.NodeId.{NodeId}
@@ -21,7 +24,8 @@ use Rattle.sheep_node.specs.declared.course.Course.{Course}
 use Rattle.sheep_node.specs.declared.course.Course.TheVariants.{Waiting, Driving, Commanding, Checking, DoingWork, AwaitingDecision}
 use Rattle.sheep_node.specs.declared.event.Event.{Event}
 use Rattle.sheep_node.specs.declared.input.Input.TheVariants as inputs
-use Rattle.sheep_node.specs.Changes.{HasRequest, Outcome, ToReply, outcome_of_check, Arrival, RequestSteps, DiskBegins, DiskGoesOn}
+use Rattle.sheep_node.specs.Changes.{HasRequest, Outcome, ToReply, outcome_of_check, Arrival, EndsWork, RequestSteps}
+use Rattle.sheep_node.specs.Changes.{DiskBegins, DiskGoesOn}
 use Rattle.sheep_node.specs.Changes.{CommandBegins, CommandGoesOn, CommandDecided, CheckBegins, CheckGoesOn, ObjectBegins, ObjectIsDone}
 use Rattle.sheep_node.specs.Changes.{EntryBegins, EntryDecided}
 use Rattle.sheep_node.specs.Courses.{inode_open}
@@ -76,12 +80,12 @@ module _ (script : List Statement) (range : RunsAreInRange script) (events : Lis
     found_so vid began (check_acts.Reply found) rsp replies =
         let same : answers.Checked found ≡ rsp = cc (replies) in record { disk = vid; began = began; found = found; told = sym same }
 
-    abbrev Placed : Course → Type 0
+    abbrev pub Placed : Course → Type 0
     Placed course =
         IsPlacedAs (asked_by script) (BeganOn script (progress_at_cause stepping.cause start.world)) req
         (session_at session so_far.node).disk course
 
-    placed : (course : Course) → HasRequest session req course so_far → Placed course
+    pub placed : (course : Course) → HasRequest session req course so_far → Placed course
     placed course there =
         placed_by_ask (asked_by script) (BeganOn script (progress_at_cause stepping.cause start.world)) req
         (asks.Vdi disk_commands.Check) asks_so
@@ -116,7 +120,7 @@ module _ (script : List Statement) (range : RunsAreInRange script) (events : Lis
         by_kind (asks.Entry entry) known = sym known.1 ∙ asks_so
 
     -- as it begins its session has a disk open
-    begins_on : (inode : Content)
+    pub begins_on : (inode : Content)
         → Arrival (input_of_cause stepping.cause) stepping.host.node so_far session req (asks.Vdi disk_commands.Check) None
         → inode_open (session_in session so_far).disk ≡ Some inode
         → disk_of script req (world_at_cause start.world stepping.cause) ≡ Some inode.vid
@@ -130,37 +134,55 @@ module _ (script : List Statement) (range : RunsAreInRange script) (events : Lis
         ∙ ap (λ (d : Option Disk). id_of_disk d) (sym same)
         ∙ id_of_inode (session_in session so_far).disk inode on
 
+    -- a step that it takes to a reply begins it, or goes on with it
+    module _ (T : GuestRsp → Type 0)
+        (begins : (inode : Content)
+        → Arrival (input_of_cause stepping.cause) stepping.host.node so_far session req (asks.Vdi disk_commands.Check) None
+        → inode_open (session_in session so_far).disk ≡ Some inode → (rsp : GuestRsp)
+        → outcome_of_check (begin_check inode).act ≡ ToReply rsp → T rsp)
+        (goes_on : (number : ℕ) (work : Work) (attempt : Attempt) (status : Status) (bytes : List ℕ) (check : Check) (step : CheckStep)
+        → EndsWork (input_of_cause stepping.cause) stepping.host.node so_far session req number work attempt status (Checking check) bytes
+        → check_on_done bytes check ≡ Some step → (rsp : GuestRsp) → outcome_of_check step.act ≡ ToReply rsp → T rsp) where
+      pub check_answers : (next : Outcome) (moved : StepState)
+          → RequestSteps (input_of_cause stepping.cause) stepping.host.node so_far session req next moved → (rsp : GuestRsp)
+          → next ≡ ToReply rsp → T rsp
+      check_answers next moved (DiskBegins own disk there on runs) rsp replies =
+          let (on_disk, began, of) = placed (Waiting own) there in absurd (no_disk_ask own of.0)
+      check_answers next moved (DiskGoesOn number work attempt status bytes driver disk step ends on done) rsp replies =
+          let (on_disk, began, of) = placed (Driving driver) ends.ends.request in absurd (no_disk_ask of.ask of.of)
+      check_answers next moved (CommandBegins own step arrival begun) rsp replies =
+          let both = brought (asks.Vdi own) arrival.from in
+          let same : own ≡ disk_commands.Check = cc (both) in
+          absurd (none_begins so_far.node.me session (inode_open (session_in session so_far).disk) step
+          (subst (λ (a : VdiAsk). begin_command so_far.node.me session a (inode_open (session_in session so_far).disk) ≡ Some step) same
+          begun))
+      check_answers next moved (CommandGoesOn number work attempt status bytes op step ends done) rsp replies =
+          absurd (none_commanding op ends.ends.request)
+      check_answers next moved (CommandDecided entry op step from read there waits done) rsp replies = absurd (none_commanding op there)
+      check_answers next moved (CheckBegins inode arrival on) rsp replies = begins inode arrival on rsp replies
+      check_answers next moved (CheckGoesOn number work attempt status bytes check step ends done) rsp replies =
+          goes_on number work attempt status bytes check step ends done rsp replies
+      check_answers next moved (ObjectBegins object arrival) rsp replies =
+          let both = brought (asks.Object object) arrival.from in absurd (cc (both))
+      check_answers next moved (ObjectIsDone number work attempt status bytes object ends) rsp replies =
+          let (on_disk, began, of) = placed (DoingWork object) ends.ends.request in absurd of
+      check_answers next moved (EntryBegins entry arrival) rsp replies =
+          let both = brought (asks.Entry entry) arrival.from in absurd (cc (both))
+      check_answers next moved (EntryDecided entry wanted from read there waits) rsp replies =
+          let (on_disk, began, of) = placed (AwaitingDecision wanted) there in absurd of
+
     -- what a step that it takes replies
     answers_so : (next : Outcome) (moved : StepState)
         → RequestSteps (input_of_cause stepping.cause) stepping.host.node so_far session req next moved → (rsp : GuestRsp)
         → next ≡ ToReply rsp → Tells rsp
-    answers_so next moved (DiskBegins own disk there on runs) rsp replies =
-        let (on_disk, began, of) = placed (Waiting own) there in absurd (no_disk_ask own of.0)
-    answers_so next moved (DiskGoesOn number work attempt status bytes driver disk step ends on done) rsp replies =
-        let (on_disk, began, of) = placed (Driving driver) ends.ends.request in absurd (no_disk_ask of.ask of.of)
-    answers_so next moved (CommandBegins own step arrival begun) rsp replies =
-        let both = brought (asks.Vdi own) arrival.from in
-        let same : own ≡ disk_commands.Check = cc (both) in
-        absurd (none_begins so_far.node.me session (inode_open (session_in session so_far).disk) step
-        (subst (λ (a : VdiAsk). begin_command so_far.node.me session a (inode_open (session_in session so_far).disk) ≡ Some step) same
-        begun))
-    answers_so next moved (CommandGoesOn number work attempt status bytes op step ends done) rsp replies =
-        absurd (none_commanding op ends.ends.request)
-    answers_so next moved (CommandDecided entry op step from read there waits done) rsp replies = absurd (none_commanding op there)
-    answers_so next moved (CheckBegins inode arrival on) rsp replies =
-        found_so inode.vid (begins_on inode arrival on) (begin_check inode).act rsp replies
-    answers_so next moved (CheckGoesOn number work attempt status bytes check step ends done) rsp replies =
+    answers_so next moved steps rsp replies =
+        check_answers Tells
+        (λ inode arrival on rsp replies. found_so inode.vid (begins_on inode arrival on) (begin_check inode).act rsp replies)
+        (λ number work attempt status bytes check step ends done rsp replies.
         let (on_disk, began, of) = placed (Checking check) ends.ends.request in
         found_so of.on.disk.inode.vid
-        (began_on script range events start run stepping is by so_far leads req on_disk began ∙ of.on.same) step.act rsp replies
-    answers_so next moved (ObjectBegins object arrival) rsp replies =
-        let both = brought (asks.Object object) arrival.from in absurd (cc (both))
-    answers_so next moved (ObjectIsDone number work attempt status bytes object ends) rsp replies =
-        let (on_disk, began, of) = placed (DoingWork object) ends.ends.request in absurd of
-    answers_so next moved (EntryBegins entry arrival) rsp replies =
-        let both = brought (asks.Entry entry) arrival.from in absurd (cc (both))
-    answers_so next moved (EntryDecided entry wanted from read there waits) rsp replies =
-        let (on_disk, began, of) = placed (AwaitingDecision wanted) there in absurd of
+        (began_on script range events start run stepping is by so_far leads req on_disk began ∙ of.on.same) step.act rsp replies) next moved
+        steps rsp replies
 
 -- a reply tells what was found, unless it refuses
 abbrev IsFound : List Statement → World → ℕ → GuestRsp → Type 0

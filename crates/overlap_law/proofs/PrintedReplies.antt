@@ -129,7 +129,7 @@ module _ (script : List Statement) (Tells : World → ℕ → GuestRsp → Type 
         none_tell (world_without_reply script event start.world) made.world.outputs.replies
         (sym (ap (λ (m : EventOutcome). m.world.outputs.replies) same) ∙ none)
 
-    kind_tells : (event : Event) (made : EventOutcome) → MakesMove script event start.world made
+    pub kind_tells : (event : Event) (made : EventOutcome) → MakesMove script event start.world made
         → EventKind script event start.world made → TellAllBy (world_without_reply script event start.world) made.world.outputs.replies
     kind_tells event made happened (NodeStep h) =
         let stepped : EventOutcome = outcome_of_step script h.n h.host h.cause start.world in

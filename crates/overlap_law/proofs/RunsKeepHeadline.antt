@@ -14,11 +14,11 @@ use Rattle.overlap_law.specs.FewLossesInRuns.{changes_nodes}
 use Rattle.overlap_law.specs.Headline.{Headline}
 use Rattle.overlap_law.specs.HeadlineOfRuns.{RunKeepsHeadline}
 use Rattle.overlap_law.specs.MomentChanges.{RunsAreInRange}
-use Rattle.overlap_law.specs.Past.{MomentWithPast, run_with_past, without_past, moment_after}
+use Rattle.overlap_law.specs.Past.{MomentWithPast, run_with_past, without_past}
 use Rattle.overlap_law.proofs.CarriedTables.{tables-in_run}
-use Rattle.overlap_law.proofs.CheckDoneInRuns.{checked_value}
+use Rattle.overlap_law.proofs.CheckDoneReplies.{leaves_value}
 use Rattle.overlap_law.proofs.FewLossesInRuns.{whole_legal}
-use Rattle.overlap_law.proofs.GoingOn.{event_makes, next_by}
+use Rattle.overlap_law.proofs.GoingOn.{event_makes}
 use Rattle.overlap_law.proofs.HeadlineInRuns.{headline_holds}
 use Rattle.overlap_law.proofs.MakingInRuns.{creates_first-in_run}
 use Rattle.overlap_law.proofs.NothingLacked.{missing-in_run}
@@ -60,9 +60,8 @@ run_keeps_headline script range events last run = by_past (run_with_past script 
               (map Happens is.earlier) before event made is.led
               (event_makes script event made before.world before refl is.made_so);
           checked = λ before event made is.
-              let goes = event_makes script event made before.world before refl is.made_so in
-              checked_value script range (map Happens is.earlier) before is.led goes.move (moment_after script event before made)
-              (next_by script event before made goes);
+              leaves_value script range (map Happens is.earlier) before is.led event made
+              (event_makes script event made before.world before refl is.made_so);
           few_losses = λ few.
               subst (λ (history : List HistEvent). IsLegal history) (history_so moment there)
               (whole_legal script range (map Happens events) moment led few);

@@ -8,11 +8,11 @@ use Rattle.disk_history.specs.Legal.{IsLegal}
 use Rattle.sheep_node.specs.declared.event.Event.{Event}
 use Rattle.sheep_world.specs.RunsWithAsks.{Happens}
 use Rattle.sheep_world.specs.Step.{EventOutcome, step}
-use Rattle.overlap_law.specs.CheckDone.{ChecksLeaveOneValue}
+use Rattle.overlap_law.specs.CheckDone.{EachCheckLeavesOneValue}
 use Rattle.overlap_law.specs.FewLossesInRuns.{LossesAreFewInRun, changes_nodes}
 use Rattle.overlap_law.specs.Headline.{KeepsHeadline}
 use Rattle.overlap_law.specs.NoObjects.{NoObjectIsMissing}
-use Rattle.overlap_law.specs.Past.{MomentWithPast, run_with_past, moment_after}
+use Rattle.overlap_law.specs.Past.{MomentWithPast, run_with_past}
 
 -- these events are cut at one of them, which makes this behind those before it
 pub record IsMadeBehind (script : List Statement) (events : List Event) (before : MomentWithPast) (event : Event) (made : EventOutcome)
@@ -39,6 +39,6 @@ pub record RunKeepsHeadline (script : List Statement) (events : List Event) (his
   pub missing : (before : MomentWithPast) (event : Event) (made : EventOutcome) → IsMadeBehind script events before event made
       → NoObjectIsMissing script before made
   pub checked : (before : MomentWithPast) (event : Event) (made : EventOutcome) → IsMadeBehind script events before event made
-      → ChecksLeaveOneValue before (moment_after script event before made)
+      → EachCheckLeavesOneValue script event before.world before.past.history made
   pub few_losses : LossesAreFewInRun script (map Happens events) → IsLegal history
   pub unchanged_members : list_any changes_nodes events ≡ false → IsLegal history

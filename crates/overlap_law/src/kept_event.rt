@@ -10,7 +10,7 @@ ghost use Rattle.sheep_world.specs.Step.{step};
 ghost use Rattle.overlap_law.specs.Past.{MomentWithPast, run_with_past, moment_after};
 ghost use Rattle.overlap_law.specs.MomentChanges.{RunsAreInRange};
 ghost use Rattle.overlap_law.specs.Headline.{KeepsHeadline};
-ghost use Rattle.overlap_law.specs.CheckDone.{ChecksLeaveOneValue};
+ghost use Rattle.overlap_law.specs.CheckDone.{EachCheckLeavesOneValue};
 ghost use Rattle.overlap_law.specs.Facts.{MeetsFacts};
 ghost use Rattle.overlap_law.specs.FewLossesInRuns.{LossesAreFewInRun, changes_nodes};
 ghost use Rattle.overlap_law.specs.KeptBeside.{HoldsBesideOverlap};
@@ -49,7 +49,7 @@ pub fn keeps_overlap(
         → NoObjectIsMissing script.now moment (record { world = world.new.world; grown = grown })) }
     ensures checked { IfOk result (λ grown. (moves : List Move) (moment : MomentWithPast) → RunsAreInRange script.now
         → run_with_past script.now moves ≡ Some moment → moment.world ≡ world.old.world
-        → ChecksLeaveOneValue moment (moment_after script.now event moment (record { world = world.new.world; grown = grown }))) }
+        → EachCheckLeavesOneValue script.now event moment.world moment.past.history (record { world = world.new.world; grown = grown })) }
     // The whole invariant holds, and the six facts, which it gives.
     ensures overlap { OnOk result ((moves : List Move) (moment : MomentWithPast) → RunsAreInRange script.now
         → run_with_past script.now moves ≡ Some moment → moment.world ≡ world.new.world → OverlapOf script.now moment) }

@@ -10,10 +10,11 @@
 //!
 //! All of this is proved of every run in range: the headline and the whole invariant (`headline.rt`), in the headline that refused
 //! commands change nothing (`refused_commands.rt`), the facts (`facts.rt`), that no object is missing (`objects.rt`), and that each block
-//! which a check has gone over has one value (`checked.rt`). What else holds of the parts of a moment, and what the words mean, is said by the laws of the other
-//! files of `src/`; docs/overlap.md names the law behind each conjunct of the invariant. A run is a list of moves, of events and of a
-//! client's reads: what a law says of the end of every event, or of the way of one, it says of such a read too. What the client is told is
-//! no part of the history, and that what a read is told has what is owed is said of the reads of sessions alone.
+//! which a check has gone over has one value (`checked.rt`). What else holds of the parts of a moment, and what the words mean, is said
+//! by the laws of the other files of `src/`; docs/overlap.md names the law behind each conjunct of the invariant. A run is a list of
+//! moves, of events and of a client's reads: what a law says of the end of every event, or of the way of one, it says of such a read too.
+//! What the client is told is no part of the history, and that what a read is told has what is owed is said of the reads of sessions
+//! alone.
 //!
 //! An event is taken apart into small changes of a moment (`specs/StepMoments.antt`, `specs/MomentChanges.antt`), each of one kind by what
 //! it makes of the wire and the attempts (`specs/Traffic.antt`). What each of them keeps holds of every run in range: that the wire and
@@ -101,8 +102,10 @@ pub use bytes::rows_have_what_they_owe_as_entries_are_read;
 pub use bytes::served_rows_have_what_they_owe;
 pub use bytes::what_a_node_passed_by_is_doomed;
 pub use bytes::what_reads_are_told_is_of_attempts;
+pub use checked::each_check_leaves_one_value;
 pub use checked::what_is_checked_is_one_value;
 pub use checked::what_is_checked_stays_one_value;
+pub use checked::what_is_checked_was_under_way;
 pub use checks_read::what_checks_read_may_be_read;
 pub use copies::nothing_is_written_beside_pieces;
 pub use copies::what_is_copied_of_strips_was_read;

@@ -18,8 +18,8 @@ ghost use Rattle.overlap_law.specs.DrivenEvents.{driven_events};
 ghost use Rattle.overlap_law.specs.MomentChanges.{RunsAreInRange};
 ghost use Rattle.overlap_law.specs.Past.{MomentWithPast, next_moment, run_with_past, without_past};
 
-/// A run of events is one in which a client asks for nothing. A run with asks goes on with each move that may be made; and in a run in range
-/// a client's read leaves the past as it is.
+/// A run of events is one in which a client asks for nothing. A run with asks goes on with each move that may be made; and in a run in
+/// range a client's read leaves the past as it is.
 pub fn a_run_with_asks_has_its_past()
     ensures events { (script : List Statement) (events : List Event)
         → option_map without_past (run_with_past script (map Happens events)) ≡ run script events }

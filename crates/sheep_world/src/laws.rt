@@ -277,8 +277,8 @@ pub fn asks_stand_between_the_events_of_a_run()
         → next_move statements (Asks node ask) moment ≡ Some after → after.history ≡ moment.history }
 {}
 
-/// A client's read is made in a run exactly where `World::ask` takes it, and makes what that makes; it adds nothing to the history. A client
-/// reads only objects that it names by their ids, and may read each of these so.
+/// A client's read is made in a run exactly where `World::ask` takes it, and makes what that makes; it adds nothing to the history. A
+/// client reads only objects that it names by their ids, and may read each of these so.
 pub fn a_clients_read_is_made_as_asked()
     ensures made { (statements : List Statement) (world : World) (node : NodeId) (ask : Ask) → IsScript statements
         → Began statements world → may_client_ask node.0 world ≡ true → may_be_asked ask node.0 world ≡ true → is_read_ask ask ≡ true

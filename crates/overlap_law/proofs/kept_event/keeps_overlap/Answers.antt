@@ -1,9 +1,8 @@
 use Rattle.std.proofs.lemmas.Result.{IfOk-weaker}
-use Rattle.overlap_law.specs.Past.{moment_after}
 use Rattle.overlap_law.proofs.CarriedTables.{tables-in_run}
-use Rattle.overlap_law.proofs.CheckDoneInRuns.{checked_value}
+use Rattle.overlap_law.proofs.CheckDoneReplies.{leaves_value}
 use Rattle.overlap_law.proofs.FewLossesInRuns.{whole_legal}
-use Rattle.overlap_law.proofs.GoingOn.{event_makes, next_by}
+use Rattle.overlap_law.proofs.GoingOn.{event_makes}
 use Rattle.overlap_law.proofs.HeadlineInRuns.{headline_holds}
 use Rattle.overlap_law.proofs.KeptByMoves.{beside_overlap}
 use Rattle.overlap_law.proofs.KeptFacts.{facts_kept}
@@ -36,10 +35,8 @@ pub returns-clause-checked : goal.returns-clause-checked
 returns-clause-checked c =
     IfOk-weaker c.apply.result _ _
     (λ grown made moves moment range is at.
-    let makes = event_makes c.args.script.now c.args.event (record { world = c.apply.new.self.world; grown = grown }) _ moment at made in
-    checked_value c.args.script.now range moves moment is makes.move
-    (moment_after c.args.script.now c.args.event moment (record { world = c.apply.new.self.world; grown = grown }))
-    (next_by c.args.script.now c.args.event moment (record { world = c.apply.new.self.world; grown = grown }) makes))
+    leaves_value c.args.script.now range moves moment is c.args.event (record { world = c.apply.new.self.world; grown = grown })
+    (event_makes c.args.script.now c.args.event (record { world = c.apply.new.self.world; grown = grown }) _ moment at made))
     c.apply.ensures.made
 
 pub returns-clause-overlap : goal.returns-clause-overlap
