@@ -55,7 +55,7 @@ use Rattle.overlap_law.proofs.RunsWithOneMore.{run_with_next}
 -- ---- lists
 
 -- what passes no test of a list is left out of it
-none_passes : (p : ℕ → Bool) (xs : List ℕ) → ((x : ℕ) → Contains xs x → p x ≡ false) → filter p xs ≡ []
+pub none_passes : (p : ℕ → Bool) (xs : List ℕ) → ((x : ℕ) → Contains xs x → p x ≡ false) → filter p xs ≡ []
 none_passes p [] none = refl
 none_passes p (x ∷ xs) none =
     ap (λ (b : Bool). cond b (x ∷ filter p xs) (filter p xs)) (none x (Contains-head x xs))
@@ -68,7 +68,8 @@ none_given f (x ∷ xs) none =
     let later = none_given f xs (λ y there. none y (Contains-cons x xs y there)) in
     λ i. cons_option (here i) (later i)
 
-among_itself : (oid : ℕ) (oids : List ℕ) → Contains oids oid → is_object_among oid oids ≡ true
+-- an object of a list is among it
+pub among_itself : (oid : ℕ) (oids : List ℕ) → Contains oids oid → is_object_among oid oids ≡ true
 among_itself oid oids there = by_test (is_object_among oid oids) refl
   where
     by_test : (b : Bool) → is_object_among oid oids ≡ b → is_object_among oid oids ≡ true

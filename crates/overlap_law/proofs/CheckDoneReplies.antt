@@ -60,7 +60,7 @@ use Rattle.overlap_law.specs.HistoryGrowth.{world_at_cause}
 use Rattle.overlap_law.specs.MomentChanges.{RunsAreInRange}
 use Rattle.overlap_law.specs.Past.{MomentWithPast, moment_after, next_moment, run_with_past, without_past}
 use Rattle.overlap_law.specs.PastWords.{is_refusal}
-use Rattle.overlap_law.specs.PrintedReads.{world_without_reply}
+use Rattle.overlap_law.specs.DoneOnDisks.{world_without_reply}
 use Rattle.overlap_law.specs.StepMoments.{SteppingNode, IsStepping, StepsByChanges, LeadsInStep, first_in_step}
 use Rattle.overlap_law.specs.ToldReads.{IsDiskOf}
 use Rattle.overlap_law.specs.WrittenBlocks.{blocks_per_object}
@@ -76,8 +76,8 @@ use Rattle.overlap_law.proofs.InsideDisks.{known_here}
 use Rattle.overlap_law.proofs.ItemsOfReplies.{is_check_at}
 use Rattle.overlap_law.proofs.NoRecoveredDue.{began-with_past}
 use Rattle.overlap_law.proofs.OpenDisksOfHistory.{working_of_history}
-use Rattle.overlap_law.proofs.PrintedChecks.{begins_on, check_answers, placed}
-use Rattle.overlap_law.proofs.PrintedReplies.{kind_tells}
+use Rattle.overlap_law.proofs.CheckRepliesInFull.{begins_on, check_answers, placed}
+use Rattle.overlap_law.proofs.RepliesInRuns.{kind_tells}
 use Rattle.overlap_law.proofs.ReadsToldDisks.{began_on}
 use Rattle.overlap_law.proofs.RequestsInSteps.{KnownIn, change_known, received_none, received_replies}
 use Rattle.overlap_law.proofs.RunLemmas.{past-follows}

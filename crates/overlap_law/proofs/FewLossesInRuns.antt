@@ -1,11 +1,9 @@
 -- Where few losses hold at each moment of a run, every object was available at every moment; so no read is left out of the history.
-use Rattle.std.proofs.Common.{◌≡◌, ℕ, ◌==◌, Bool, true, false, not, ◌&&◌, cond, List, [], ◌∷◌, ◌++◌, filter, Contains, Option, Some, None}
+use Rattle.std.proofs.Common.{◌≡◌, ℕ, Bool, true, false, not, ◌&&◌, List, [], ◌∷◌, ◌++◌, filter, Contains, Option, Some, None}
 use Rattle.std.proofs.Common.{refl, sym, ap, subst, ◌∙◌}
-use Rattle.std.specs.List.{list_any}
 use Rattle.std.specs.Option.{option_map, option_and_then}
-use Rattle.std.proofs.lemmas.Bool.{and_from, eq-eqb}
+use Rattle.std.proofs.lemmas.Bool.{and_from}
 use Rattle.std.proofs.lemmas.Option.{same_Some}
-use Rattle.proof_tools.proofs.Lists.{Contains-head, Contains-cons, list_any-none}
 use Rattle.object_id.specs.declared.node.NodeId.{NodeId}
 use Rattle.object_id.specs.declared.entry.Entry.{Entry}
 use Rattle.epoch_log.specs.Appending.{IsLog}
@@ -29,30 +27,11 @@ use Rattle.overlap_law.specs.Holders.{unavailable_in}
 use Rattle.overlap_law.specs.MomentChanges.{RunsAreInRange}
 use Rattle.overlap_law.specs.Past.{MomentWithPast, first_moment, moment_after, past_after_event, run_on, run_with_past}
 use Rattle.overlap_law.specs.PastWords.{counts, unavailable_at}
+use Rattle.overlap_law.proofs.AskedPast.{among_itself, none_passes}
 use Rattle.overlap_law.proofs.FewLosses.{available_by_few}
 use Rattle.overlap_law.proofs.NoRecoveredDue.{began-with_past}
 use Rattle.overlap_law.proofs.RunLemmas.{nothing-left_out}
 use Rattle.overlap_law.proofs.HeadlineInRuns.{headline_holds}
-
--- ---- lists
-
--- what passes no test of a list is left out of it
-none_left : (p : ℕ → Bool) (xs : List ℕ) → ((x : ℕ) → Contains xs x → p x ≡ false) → filter p xs ≡ []
-none_left p [] none = refl
-none_left p (x ∷ xs) none =
-    ap (λ (b : Bool). cond b (x ∷ filter p xs) (filter p xs)) (none x (Contains-head x xs))
-    ∙ none_left p xs (λ y there. none y (Contains-cons x xs y there))
-
--- an object of a list is among it
-is_among : (oid : ℕ) (oids : List ℕ) → Contains oids oid → is_object_among oid oids ≡ true
-is_among oid oids there = by_test (list_any (λ (other : ℕ). other == oid) oids) refl
-  where
-    by_test : (b : Bool) → list_any (λ (other : ℕ). other == oid) oids ≡ b → list_any (λ (other : ℕ). other == oid) oids ≡ true
-    by_test true is = is
-    by_test false none =
-        let off : (oid == oid) ≡ false = list_any-none (λ (other : ℕ). other == oid) oids oid none there in
-        let same : (oid == oid) ≡ true = eq-eqb oid oid refl in
-        absurd (cc (off, same))
 
 -- ---- one moment
 
@@ -66,13 +45,13 @@ module _ (by : NodeId → ℕ → Bool) (log : List Entry) (attempts : List Atte
       by_dead false alive =
           let live : is_live_object log attempts oid ≡ true
           = and_from (is_object_among oid (born_objects attempts)) (not (is_dead_by_log log oid))
-          (is_among oid (born_objects attempts) born) (ap not alive) in
+          (among_itself oid (born_objects attempts) born) (ap not alive) in
           let available = available_by_few by log attempts oid is_log (few oid live) in
           λ i. not (alive i) && not (available i)
 
   none_unavailable : unavailable_in by log attempts ≡ []
   unfolding unavailable_in
-  none_unavailable = none_left (lacks_holders by log attempts) (born_objects attempts) none_lacks
+  none_unavailable = none_passes (lacks_holders by log attempts) (born_objects attempts) none_lacks
 
 -- ---- one move
 

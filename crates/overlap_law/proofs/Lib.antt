@@ -860,9 +860,9 @@ pub mod RefusedCommandAtPuts
 pub mod RefusedCommandsInRuns
 pub mod RefusedCommandsPut
 pub mod RefusedCommandsHold
-pub mod PrintedReplies
-pub mod PrintedReads
-pub mod PrintedChecks
+pub mod RepliesInRuns
+pub mod RepliesInFull
+pub mod CheckRepliesInFull
 pub mod DrivenWorlds
 pub mod RunsKeepHeadline
 pub mod EndsInTraffic

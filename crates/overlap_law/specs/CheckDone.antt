@@ -29,7 +29,7 @@ use Rattle.overlap_law.specs.Checks.{HasBlock, IsCheckOn}
 use Rattle.overlap_law.specs.Headline.{ledger_of}
 use Rattle.overlap_law.specs.Past.{MomentWithPast}
 use Rattle.overlap_law.specs.PastWords.{is_refusal}
-use Rattle.overlap_law.specs.PrintedReads.{world_without_reply}
+use Rattle.overlap_law.specs.DoneOnDisks.{world_without_reply}
 use Rattle.overlap_law.specs.WrittenBlocks.{blocks_per_object}
 
 -- the last write of a block of a disk is a request's, with these bytes, and was acknowledged; the request has ended. So the block isn't

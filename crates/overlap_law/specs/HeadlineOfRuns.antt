@@ -27,8 +27,9 @@ pub record IsMadeBehind (script : List Statement) (events : List Event) (before 
 -- clone is its last acknowledged write or a later unacknowledged one, where the reads of disks are left out that weren't available at some
 -- moment up to there, and torn blocks may be read as anything, of which a gateway died within a coded write; and refused requests change
 -- nothing, peer requests of another epoch among them. So it was at each moment that the run came by. No reply in it says that an object is
--- missing, of a disk that was available; and each check that was replied to, and not refused, left its blocks one value each. Where few
--- losses held at each moment, as where no node was lost, left or joined, the whole history is legal, and no read is left out.
+-- missing, of a disk that was available; and each check that was replied to, and not refused, left each block of its disk's own objects
+-- with one value. Where few losses held at each moment, as where no node was lost, left or joined, the whole history is legal, and no read
+-- is left out.
 pub record RunKeepsHeadline (script : List Statement) (events : List Event) (history : List HistEvent) : Type 0 where
   pub last : MomentWithPast
   pub led : run_with_past script (map Happens events) ≡ Some last

@@ -99,5 +99,5 @@ pub mod GoodInodes
 pub mod FewLossesInRuns
 pub mod CheckDone
 pub mod RefusedCommands
-pub mod PrintedReads
+pub mod DoneOnDisks
 pub mod DrivenEvents

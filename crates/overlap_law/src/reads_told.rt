@@ -47,7 +47,7 @@ ghost use Rattle.sheep_world.specs.Run.{Moment};
 ghost use Rattle.sheep_world.specs.RunsWithAsks.{Move, run_with_asks};
 ghost use Rattle.sheep_world.specs.Step.{EventOutcome};
 ghost use Rattle.overlap_law.specs.PastWords.{is_refusal};
-ghost use Rattle.overlap_law.specs.PrintedReads.{IsCheckedOnDisk, IsDoneOnDisk, world_without_reply};
+ghost use Rattle.overlap_law.specs.DoneOnDisks.{IsCheckedOnDisk, IsDoneOnDisk, world_without_reply};
 ghost use Rattle.overlap_law.specs.StandingReads.{asked_in};
 
 /// In each run in range a reply to a read or write of a disk that isn't a refusal tells all that was asked, of the disk that the session of

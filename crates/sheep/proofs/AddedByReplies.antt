@@ -34,7 +34,7 @@ use Rattle.dog_report.specs.Fates.{Answered}
 use Rattle.dog_report.specs.Counts.{is_ok, is_refused}
 use Rattle.message_wire.specs.declared.name.MessageName.{MessageName}
 use Rattle.message_wire.specs.Message.{without_replies}
-use Rattle.overlap_law.specs.PrintedReads.{world_without_reply}
+use Rattle.overlap_law.specs.DoneOnDisks.{world_without_reply}
 use Rattle.sheep.specs.PrintedReplies.{IsGiven, check_write_at, world_asked, disk_begun_on, has_written, reply_added, HasPart}
 use Rattle.sheep.proofs.ReplyLists.{flat_map-part, part-between, part-contains}
 use Rattle.sheep_node.proofs.StepReplies.{put-silent, back-silent}

@@ -18,10 +18,10 @@ use Rattle.sheep_world.specs.RunsWithAsks.{Happens}
 use Rattle.sheep_world.proofs.ClientLaws.{run-events}
 use Rattle.overlap_law.specs.MomentChanges.{RunsAreInRange}
 use Rattle.overlap_law.specs.PastWords.{is_refusal}
-use Rattle.overlap_law.specs.PrintedReads.{IsCheckedOnDisk, IsDoneOnDisk}
+use Rattle.overlap_law.specs.DoneOnDisks.{IsCheckedOnDisk, IsDoneOnDisk}
 use Rattle.overlap_law.specs.StandingReads.{asked_in}
-use Rattle.overlap_law.proofs.PrintedChecks.{checked_on_disk}
-use Rattle.overlap_law.proofs.PrintedReads.{done_on_disk}
+use Rattle.overlap_law.proofs.CheckRepliesInFull.{checked_on_disk}
+use Rattle.overlap_law.proofs.RepliesInFull.{done_on_disk}
 use Rattle.dog_report.specs.Fates.{Answered}
 use Rattle.dog_report.specs.Counts.{is_ok}
 use Rattle.sheep.specs.PrintedReads.{IsReadDone, IsWriteDone, IsCheckDone, DoneAreOnOpenDisks}

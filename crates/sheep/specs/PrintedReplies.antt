@@ -10,7 +10,7 @@ use Rattle.sheep_world.specs.World.{World}
 use Rattle.sheep_world.specs.Step.{EventOutcome, step}
 use Rattle.sheep_world.specs.HistoryAdditions.{check_write_by, disk_of, has_begun_check_write, reply_grown}
 use Rattle.sheep_world.specs.Run.{Moment, run}
-use Rattle.overlap_law.specs.PrintedReads.{world_without_reply}
+use Rattle.overlap_law.specs.DoneOnDisks.{world_without_reply}
 use Rattle.dog_report.specs.Fates.{ReportLine, Answered, Told}
 use Rattle.dog_report.specs.Report.{report_of}
 

@@ -43,7 +43,7 @@ use Rattle.overlap_law.specs.HistoryGrowth.{world_at_cause}
 use Rattle.overlap_law.specs.MomentChanges.{MomentTrail, RunsAreInRange}
 use Rattle.overlap_law.specs.Past.{MomentWithPast, run_with_past}
 use Rattle.overlap_law.specs.PastWords.{is_refusal}
-use Rattle.overlap_law.specs.PrintedReads.{world_without_reply, IsCheckedOnDisk}
+use Rattle.overlap_law.specs.DoneOnDisks.{world_without_reply, IsCheckedOnDisk}
 use Rattle.overlap_law.specs.RequestsOfScript.{IsStageOfAsk}
 use Rattle.overlap_law.specs.StandingReads.{asked_in}
 use Rattle.overlap_law.specs.StepMoments.{SteppingNode, IsStepping, StepsByChanges, LeadsInStep, IsWithinStep, first_in_step}
@@ -51,7 +51,7 @@ use Rattle.overlap_law.specs.StepMoments.{moment_in_step}
 use Rattle.overlap_law.proofs.CoursesOfAsks.{IsPlacedAs, IsBroughtBy, id_of_disk, placed_by_ask}
 use Rattle.overlap_law.proofs.CoursesOfScript.{BeganOn, asked_by, brings}
 use Rattle.overlap_law.proofs.DisksOfWriters.{stage_none}
-use Rattle.overlap_law.proofs.PrintedReplies.{each_reply_tells}
+use Rattle.overlap_law.proofs.RepliesInRuns.{each_reply_tells}
 use Rattle.overlap_law.proofs.ReadsToldDisks.{began_on, placed_at}
 
 -- no command begins for a check

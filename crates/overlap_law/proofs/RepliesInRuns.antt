@@ -31,7 +31,7 @@ use Rattle.sheep_world.proofs.ClientReads.{goes_by_kind}
 use Rattle.overlap_law.specs.HistoryGrowth.{world_at_cause}
 use Rattle.overlap_law.specs.MomentChanges.{MomentTrail}
 use Rattle.overlap_law.specs.Past.{MomentWithPast, run_with_past, without_past}
-use Rattle.overlap_law.specs.PrintedReads.{world_without_reply}
+use Rattle.overlap_law.specs.DoneOnDisks.{world_without_reply}
 use Rattle.overlap_law.specs.StepMoments.{SteppingNode, IsStepping, StepsByChanges, LeadsInStep, IsWithinStep, first_in_step, last_in_step}
 use Rattle.overlap_law.specs.StepMoments.{moment_in_step}
 use Rattle.overlap_law.proofs.GoingOn.{goes_as}
