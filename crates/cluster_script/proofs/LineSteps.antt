@@ -1,6 +1,6 @@
 -- Reading line by line, as a loop does, whichever way a line is read.
-use Rattle.std.proofs.Common.{◌≡◌, ℕ, ◌+◌, ◌≤◌, ◌==◌, Bool, List, [], ◌∷◌, length, refl, sym, ap, subst, ◌∙◌, arith, inl, inr, Option, Some, None, Result, Ok, Err}
-use Rattle.std.specs.Prelude.{MatchResult, is_ok}
+use Rattle.std.proofs.Common.{◌≡◌, ℕ, ◌+◌, ◌≤◌, ◌<◌, ◌==◌, Bool, List, [], ◌∷◌, length, refl, sym, ap, subst, ◌∙◌, arith, inl, inr, Option, Some, None, Result, Ok, Err}
+use Rattle.std.specs.Prelude.{MatchResult, is_ok, IfErr, IsOk}
 use Rattle.std.specs.Str.{IsUtf8, is_utf8}
 use Rattle.std.specs.List.{before_first, after_first, position_or_len}
 use Rattle.std.proofs.lemmas.Bool.{cases_lt, false_from_ne_true}
@@ -22,6 +22,11 @@ is_feed byte = byte == 10
 length_added : (before : List Statement) (s : Option Statement) → length (with_statement before s) ≤ length before + 1
 length_added before None = omega arith
 length_added before (Some s) = omega (arith, length-append before (s ∷ []))
+
+-- what was read
+value_read : (read : Result (Option Statement) LineCause) → IsOk read → (s : Option Statement) × (read ≡ Ok s)
+value_read (Ok s) is_read = (s, refl)
+value_read (Err cause) is_read = absurd (cc is_read)
 
 module _ (reader : StatementReader) where
   -- an empty line says nothing
@@ -77,12 +82,37 @@ module _ (reader : StatementReader) where
       let first = first_line text in
       ap (script_of reader before number) first.1 ∙ script_stops before number (before_first is_feed text) first.0 cause bad
 
+  -- a bad line has the number of the first line, or a later one
+  bad_line_is_counted : (least : ℕ) (before : List Statement) (number : ℕ) (lines : List (List ℕ)) → least ≤ number
+      → IfErr (script_of reader before number lines) (λ bad. least ≤ bad.0)
+  bad_line_is_counted least before number [] from = rw (no_line before number) tt
+  bad_line_is_counted least before number (line ∷ lines) from =
+      by_read (line_at reader before line) refl (λ s. bad_line_is_counted least (with_statement before s) (number + 1) lines (omega (arith, from)))
+    where
+      by_read : (read : Result (Option Statement) LineCause) → line_at reader before line ≡ read
+          → ((s : Option Statement) → IfErr (script_of reader (with_statement before s) (number + 1) lines) (λ bad. least ≤ bad.0))
+          → IfErr (script_of reader before number (line ∷ lines)) (λ bad. least ≤ bad.0)
+      by_read (Ok s) is later = rw (script_takes before number line lines s is) (later s)
+      by_read (Err cause) is later = rw (script_stops before number line lines cause is) from
+
+  -- where a text's first line is read, a bad line stands behind it
+  pub bad_line_is_later : (before : List Statement) (number : ℕ) (text : List ℕ) → 1 ≤ number
+      → IsOk (line_at reader before (before_first is_feed text)) → IfErr (script_of reader before number (lines_of text)) (λ bad. 1 < bad.0)
+  bad_line_is_later before number text from is_read =
+      let s = value_read (line_at reader before (before_first is_feed text)) is_read in
+      rw (script_goes_on before number text s.0 s.1)
+      (bad_line_is_counted 2 (with_statement before s.0) (number + 1) (lines_of (after_first is_feed text)) (omega (arith, from)))
+
   -- what a line that was taken leaves to read
   pub script_after : (before after : List Statement) (number : ℕ) (text : List ℕ)
       → IsLineTaken before after (line_at reader before (before_first is_feed text))
       → (script_of reader before number (lines_of text) ≡ script_of reader after (number + 1) (lines_of (after_first is_feed text))) × (length after ≤ length before + 1)
   script_after before after number text taken =
       (rw taken.2 (script_goes_on before number text taken.0 taken.1), rw taken.2 (length_added before taken.0))
+
+-- memory was wanting for a line that is read
+pub wanting_for : (error : ReadError) (read : Result (Option Statement) LineCause) → error ≡ errors.NoMemory → FailsLine error read → IsOk read
+wanting_for error read same fails = subst (λ (e : ReadError). FailsLine e read) same fails
 
 -- a cause that stopped the reading of a line
 pub stopped_by : (error : ReadError) (cause : LineCause) (read : Result (Option Statement) LineCause) → error ≡ errors.Cause cause → FailsLine error read → read ≡ Err cause

@@ -1,5 +1,5 @@
 -- How a reader answers: a value, or the cause of the first bad word.
-use Rattle.std.specs.Prelude.{◌≡◌, Result, Ok, Err}
+use Rattle.std.specs.Prelude.{◌≡◌, Result, Ok, Err, IsOk}
 use Rattle.cluster_script.specs.declared.fault.LineCause.{LineCause}
 use Rattle.cluster_script.specs.declared.fault.ReadError.{ReadError}
 use Rattle.cluster_script.specs.declared.fault.ReadError.TheVariants as errors
@@ -15,9 +15,9 @@ abbrev pub GivesLine : {X Y : Type 0} → (X → Y) → Result X LineCause → R
 GivesLine view (Ok x) read = read ≡ Ok (view x)
 GivesLine view (Err cause) read = read ≡ Err cause
 
--- want of memory says nothing of what reading gives
+-- memory can be wanting only for what is read
 abbrev pub FailsLine : {Y : Type 0} → ReadError → Result Y LineCause → Type 0
-FailsLine errors.NoMemory read = Unit {0}
+FailsLine errors.NoMemory read = IsOk read
 FailsLine (errors.Cause cause) read = read ≡ Err cause
 
 -- the same for a function that takes memory

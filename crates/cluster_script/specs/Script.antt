@@ -1,6 +1,6 @@
 -- What a script is: each line in turn, after the statements of the lines before it.
 use Rattle.std.specs.Prelude.{◌≡◌, ℕ, ◌+◌, ◌&&◌, not, List, [], ◌∷◌, ◌++◌, bytes_eq, codes, Option, Some, None, Result, Ok, Err}
-use Rattle.std.specs.Prelude.{if◌then◌else◌}
+use Rattle.std.specs.Prelude.{◌<◌, IfErr, if◌then◌else◌}
 use Rattle.std.specs.Str.{is_utf8}
 use Rattle.cluster_script.specs.declared.statement.Statement.{Statement}
 use Rattle.cluster_script.specs.declared.statement.Statement.TheVariants.{Cluster, Vnodes, Tries, Limit}
@@ -84,8 +84,9 @@ script_of reader before number (line ∷ lines) = elim (line_at reader before li
 abbrev pub script_in : List ℕ → Result (List Statement) (ℕ × LineCause)
 script_in text = script_of statement_at [] 1 (lines_of text)
 
--- the answer to a text: what it spells, or its first bad line and the cause; want of memory says nothing
+-- the answer to a text: what it spells, or its first bad line and the cause; memory can be wanting for what it spells, or for the lines
+-- before its first bad one
 abbrev pub AnswersText : Result (List Statement) ScriptFault → Result (List Statement) (ℕ × LineCause) → Type 0
 AnswersText (Ok statements) read = read ≡ Ok statements
 AnswersText (Err (faults.BadLine line cause)) read = read ≡ Err (line, cause)
-AnswersText (Err faults.NoMemory) read = Unit {0}
+AnswersText (Err faults.NoMemory) read = IfErr read (λ bad. 1 < bad.0)

@@ -193,7 +193,8 @@ impl Script {
     }
 }
 
-/// Reads a text. A script is answered as its statements; else the answer is the first bad line, from 1, and its cause.
+/// Reads a text. A script is answered as its statements; else the answer is the first bad line, from 1, and its cause. Memory is taken
+/// for a line only once all of it is read, so a text whose first line is bad is never answered by want of memory.
 pub fn parse(alloc: Global, text: &[u8]) -> Result<Script, ScriptFault>
     requires { length text.now ≤ INPUT_BYTES_MAX }
     ensures exact { AnswersText result (script_in text.now) }

@@ -7,6 +7,7 @@ use Rattle.cluster_script.proofs.script.parse.Given as goal
 abbrev pub invariant-loop-rest : goal.invariant-loop-rest
 invariant-loop-rest l = record {
   exact : script_of statement_at l.draft l.number (lines_of l.rest) ≡ script_in l.text;
+  first : 1 ≤ l.number;
   numbered : l.number + length l.rest ≤ length l.text + 1;
   count : length l.draft + length l.rest ≤ length l.text;
 }
