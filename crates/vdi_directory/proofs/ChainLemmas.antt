@@ -1,5 +1,5 @@
 -- Parent chains with one effect more, and whether they have an id.
-use Rattle.std.proofs.Common.{◌≡◌, ℕ, ◌==◌, ◌||◌, Bool, true, false, cond, List, [], ◌∷◌, ◌++◌, map, Option, Some, None, refl, ap, ◌∙◌}
+use Rattle.std.proofs.Common.{◌≡◌, ℕ, ◌==◌, ◌||◌, Bool, true, false, cond, List, [], ◌∷◌, ◌++◌, map, Option, Some, None, refl, ap, ◌∙◌, ◌≢◌}
 use Rattle.std.specs.List.{list_any}
 use Rattle.std.proofs.lemmas.List.Sums.{fold-append}
 use Rattle.object_id.specs.declared.oid.Vid.{Vid}
@@ -45,6 +45,11 @@ module _ (before : List Effect) (elder vid : ℕ) where
   pub is_above-push : (effect : Effect) → is_above (before ++ effect ∷ []) elder vid ≡ above_after (is_above before) effect elder vid
   unfolding is_above
   is_above-push effect = ap (has elder) (chain_of-push before effect vid) ∙ after-above effect
+
+-- a chain that has an id isn't empty
+pub chain_has_one : (ids : List ℕ) (id : ℕ) (later chain : List ℕ) → ids ++ id ∷ later ≡ chain → chain ≢ []
+chain_has_one [] id later chain joined none = absurd (cc (joined ∙ none))
+chain_has_one (first ∷ ids) id later chain joined none = absurd (cc (joined ∙ none))
 
 -- an id as a number
 abbrev pub number_of : Vid → ℕ

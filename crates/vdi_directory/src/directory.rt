@@ -1,11 +1,12 @@
-ghost use Rattle.std.specs.Prelude.{◌≡◌, ◌↔◌, ℕ, ◌∷◌, ◌++◌, ◌&&◌, not, List, [], map, IfOk, IfSome, IsTrue, OnOk, OnErr, slice_get};
+ghost use Rattle.std.specs.Prelude.{◌≡◌, ◌↔◌, ℕ, ◌∷◌, ◌++◌, ◌&&◌, not, ◌≢◌, List, [], map, IfOk, IfSome, IsTrue, OnOk, OnErr, slice_get};
 ghost use Rattle.std.specs.Option.{option_copied, option_map};
 ghost use Rattle.object_id.specs.Spec.{IsSpec};
 ghost use Rattle.object_id.specs.declared.oid.Vid.{Vid as TheVid};
 ghost use Rattle.epoch_log.specs.Appending.{IsReservable};
 ghost use Rattle.vdi_directory.specs.declared.header.Header.{Header as TheHeader};
 ghost use Rattle.vdi_directory.specs.Effects.{header_of, live_of};
-ghost use Rattle.vdi_directory.specs.Decisions.{log_effects, decision_after, disk_found};
+ghost use Rattle.vdi_directory.specs.Decisions.{log_effects, decision_after, disk_found, outcome as the_outcome};
+ghost use Rattle.vdi_directory.specs.declared.effect.Effect.TheVariants as effects;
 ghost use Rattle.vdi_directory.specs.States.{state_of};
 ghost use Rattle.vdi_directory.specs.Known.{IsHeaderOf};
 ghost use Rattle.vdi_directory.specs.References.{parent_of as the_parent, has_vid, IdsDiffer};
@@ -101,12 +102,14 @@ impl Directory {
 
     /// The ids that the next entry makes dead, each once: what `dead` says of them after the read, and not before. Nothing is read, so
     /// a node can ask this first, and then let the rows of these ids alone go. Takes memory for these ids and for the names in the
-    /// entry, and costs the logarithm of the known ids for each, and for each reservation that a leave frees.
+    /// entry, and none for an entry that changes nothing; costs the logarithm of the known ids for each, and for each reservation that
+    /// a leave frees.
     pub fn dead_by(&self, entry: &Entry, locks: &Locks) -> Result<Vec<Vid>, NoMemory>
         requires { AreLocks (log_effects self.now) locks.now }
         ensures dead { IfOk result (λ dead. (vid : ℕ) → has_vid vid dead.items
             ≡ (is_dead (log_effects (self.now ++ entry.now ∷ [])) vid && not (is_dead (log_effects self.now) vid))) }
         ensures once { IfOk result (λ dead. IdsDiffer dead.items) }
+        ensures memory { OnErr result ((the_outcome (log_effects self.now) entry.now).effect ≢ effects.Nothing) }
     {
         let outcome = self.outcome(entry, locks)?;
         self.state.dead_by(self.alloc, &outcome.effect)
@@ -161,7 +164,8 @@ impl Directory {
     /// The ids above one: its parent, its parent's parent and so on. Takes memory for them alone, and costs the logarithm of the known
     /// ids for each.
     pub fn chain(&self, vid: Vid) -> Result<Vec<Vid>, NoMemory>
-        ensures { IfOk result (λ chain. map (λ (id : TheVid). id.0) chain.items ≡ chain_of (log_effects self.now) vid.0) }
+        ensures chain { IfOk result (λ chain. map (λ (id : TheVid). id.0) chain.items ≡ chain_of (log_effects self.now) vid.0) }
+        ensures memory { OnErr result (chain_of (log_effects self.now) vid.0 ≢ []) }
     {
         let mut chain = Vec::new(self.alloc);
         let mut next = self.parent(vid);

@@ -1,4 +1,4 @@
-ghost use Rattle.std.specs.Prelude.{◌≡◌, ◌≤◌, ◌<◌, ℕ, ◌==◌, [], IfOk, OnOk, OnErr, IsSome, vec_len, vec_capacity, if◌then◌else◌};
+ghost use Rattle.std.specs.Prelude.{◌≡◌, ◌≢◌, ◌≤◌, ◌<◌, ℕ, ◌==◌, [], IfOk, OnOk, OnErr, IsSome, vec_len, vec_capacity, if◌then◌else◌};
 ghost use Rattle.std.specs.List.Sorted.{IsNonDecreasing, IsStrictlyIncreasing};
 ghost use Rattle.vdi_directory.specs.declared.effect.Effect.TheVariants as effects;
 ghost use Rattle.vdi_directory.specs.Vids.{AreRanges};
@@ -184,7 +184,8 @@ impl DirectoryState {
     /// The ids that an effect would make dead. Nothing changes.
     pub fn dead_by(&self, alloc: Global, effect: &Effect) -> Result<Vec<Vid>, NoMemory>
         requires { CanMake effect.now self.now }
-        ensures { IfOk result (λ dead. IsDeadList (lost_by effect.now self.now.reservations.items) self.now dead.items) }
+        ensures dead { IfOk result (λ dead. IsDeadList (lost_by effect.now self.now.reservations.items) self.now dead.items) }
+        ensures memory { OnErr result (effect.now ≢ effects.Nothing) }
     {
         match effect {
             Effect::Deleted { vid, .. } => self.dead_without(alloc, *vid),

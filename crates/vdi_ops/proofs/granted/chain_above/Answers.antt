@@ -6,4 +6,4 @@ use Rattle.vdi_ops.proofs.granted.chain_above.Goals as goal
 
 pub returns-clause-ids : goal.returns-clause-ids
 returns-clause-ids c =
-    subst (All IsVid) (sym (ap id_numbers c.from_vec.ensures ∙ c.in_ok-chain.ensures)) (chain_ids c.args.directory.now c.args.vid.0)
+    subst (All IsVid) (sym (ap id_numbers c.from_vec.ensures ∙ c.in_ok-chain.ensures.chain)) (chain_ids c.args.directory.now c.args.vid.0)

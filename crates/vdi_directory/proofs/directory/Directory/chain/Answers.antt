@@ -33,8 +33,8 @@ loop-next-preserved c =
     ∙ ap (λ (next : Option Vid). map number_of c.loop-next.chain.items ++ chain_from chains next) (sym c.in-Some.is)
     ∙ c.loop-next.invariant
 
-pub returns : goal.returns
-returns c =
+pub returns-clause-chain : goal.returns-clause-chain
+returns-clause-chain c =
     let chains : ℕ → List ℕ = chain_of (log_effects c.args.self.now) in
     sym (append-nil (map number_of c.loop-next.chain.items))
     ∙ ap (λ (next : Option Vid). map number_of c.loop-next.chain.items ++ chain_from chains next) (sym c.in_default.is)

@@ -27,7 +27,7 @@ returns-clause-dead c =
     IfOk-weaker c.dead_by.result _ _
     (λ dead list vid. dead-by entries c.args.entry.now c.self.inside.state state vid dead.items
     (subst (λ (o : Outcome). IsDeadList (lost_by o.effect c.self.inside.state.reservations.items) c.self.inside.state dead.items) c.in_ok-outcome.ensures.ok list))
-    c.dead_by.ensures
+    c.dead_by.ensures.dead
 
 pub returns-clause-once : goal.returns-clause-once
-returns-clause-once c = IfOk-weaker c.dead_by.result _ _ (λ dead list. list.are.once) c.dead_by.ensures
+returns-clause-once c = IfOk-weaker c.dead_by.result _ _ (λ dead list. list.are.once) c.dead_by.ensures.dead
