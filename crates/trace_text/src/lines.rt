@@ -30,23 +30,25 @@ impl<'a> Lines<'a> {
         Lines { rest: text }
     }
 
-    /// The next line, without its LF. The last one may lack it.
-    pub fn next(&mut self) -> Option<&'a [u8]>
-        ensures { MatchOption result ((self.old ≡ []) × (self.new ≡ [])) (λ line. self.old ≡ line.now ∷ self.new) }
+    /// The next line, without its LF, and the lines behind it. The last one may lack it.
+    pub fn split_first(&self) -> Option<(&'a [u8], Lines<'a>)>
+        ensures { MatchOption result (self.now ≡ []) (λ split. self.now ≡ split.0.now ∷ split.1) }
     {
         if self.rest.is_empty() {
             return None;
         }
         match split_once(self.rest, b'\n') {
-            Some((line, rest)) => {
-                self.rest = rest;
-                Some(line)
-            }
-            None => {
-                let line = self.rest;
-                self.rest = &[];
-                Some(line)
-            }
+            Some((line, rest)) => Some((line, Lines { rest })),
+            None => Some((self.rest, Lines { rest: &[] })),
         }
+    }
+
+    /// The next line, without its LF. The last one may lack it.
+    pub fn next(&mut self) -> Option<&'a [u8]>
+        ensures { MatchOption result ((self.old ≡ []) × (self.new ≡ [])) (λ line. self.old ≡ line.now ∷ self.new) }
+    {
+        let (line, rest) = self.split_first()?;
+        *self = rest;
+        Some(line)
     }
 }

@@ -1,6 +1,6 @@
 //! A trace, replayed.
 
-ghost use Rattle.std.specs.Prelude.{◌≡◌, ℕ, ◌+◌, ◌≤◌, [], Some, None, Err, true, false, length, IfOk, IfErr, IfSome, IfNone, MatchOption};
+ghost use Rattle.std.specs.Prelude.{◌≡◌, ℕ, ◌+◌, ◌≤◌, [], Some, None, Err, true, false, length, IfOk, IfErr, IfSome, IfNone, OnErr, MatchOption};
 ghost use Rattle.object_id.specs.declared.limits.TheConstants.{INPUT_BYTES_MAX};
 ghost use Rattle.sheep_world.specs.Run.{is_whole, IsKept, IsWholeRun};
 ghost use Rattle.trace_text.specs.declared.fault.TraceFault.TheVariants as faults;
@@ -65,7 +65,8 @@ impl<'a> TraceReplay<'a> {
     }
 
     /// Takes the next line, and gives its event, which may happen in this world; none where no line is left and every phase is ended. A
-    /// line that isn't an event, or isn't one that may happen, is bad, and so is the end where a phase isn't ended. Takes no memory.
+    /// line that isn't an event, or isn't one that may happen, is bad, and so is the end where a phase isn't ended. Only an event that is
+    /// given is taken: at the end, and at what is bad, the replay stays. Takes no memory.
     pub fn next_event(&mut self, script: &Script, world: &World) -> Result<Option<Event>, BadEvent>
         requires { world.now.spent ≡ false }
         ensures next { IfOk result (λ next. MatchOption next
@@ -73,9 +74,11 @@ impl<'a> TraceReplay<'a> {
             (λ event. Takes script.now world.now.world self.old event self.new)) }
         ensures bad { IfErr result (λ bad. (bad.place ≡ self.old.taken + 1)
             × StopsIn script.now world.now.world self.old.rest) }
+        ensures ended { IfOk result (λ next. IfNone next (self.new ≡ self.old)) }
+        ensures unchanged { OnErr result (self.new ≡ self.old) }
     {
         let place = self.taken + 1;
-        let Some(line) = self.rest.next() else {
+        let Some((line, rest)) = self.rest.split_first() else {
             if world.ended(script) {
                 return Ok(None);
             }
@@ -83,6 +86,7 @@ impl<'a> TraceReplay<'a> {
         };
         match enabled_event(script, world, line) {
             Some(event) => {
+                self.rest = rest;
                 self.taken = place;
                 Ok(Some(event))
             }

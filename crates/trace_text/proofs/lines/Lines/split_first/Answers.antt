@@ -1,6 +1,6 @@
 use Rattle.std.proofs.Common.{◌∙◌, sym}
 use Rattle.trace_text.proofs.LineLaws.{first-line, only-line}
-use Rattle.trace_text.proofs.lines.Lines.next.Goals as goal
+use Rattle.trace_text.proofs.lines.Lines.split_first.Goals as goal
 
 pub returns-in-Some : goal.returns-in-Some
 returns-in-Some c =
